@@ -1,0 +1,6 @@
+pub mod PoolLaws
+pub mod FreeLaws
+pub mod AddressLaws
+pub mod PoolStart
+mod Kept
+mod Starts
