@@ -10,5 +10,7 @@
 
 mod pool;
 mod start;
+#[cfg(test)]
+mod tests;
 
 pub use pool::ChunkPool;
