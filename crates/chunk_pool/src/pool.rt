@@ -87,6 +87,7 @@ impl ChunkPool {
             .unwrap_or(self.chunks.len() as u32);
         let chunk = &mut self.chunks[id as usize];
         chunk[0] = next;
+        // `new` reserved room for every number, so this takes no memory and does not fail.
         let _ = self.free.push(id);
     }
 

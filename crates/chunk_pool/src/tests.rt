@@ -31,7 +31,10 @@ fn gives_back_in_another_order(rt: HostRuntime) -> Result<(), Fail> {
     assert_eq!(rt; pool.take(), Some(0));
     assert_eq!(rt; pool.take(), Some(2));
     assert_eq!(rt; pool.free(), 1);
-    assert_eq!(rt; pool.payload(1), [41, 0, 0, 0, 0, 0, 0, 0, 0, 0, 0, 55].as_slice());
+    assert_eq!(rt;
+        pool.payload(1),
+        [41, 0, 0, 0, 0, 0, 0, 0, 0, 0, 0, 55].as_slice()
+    );
     Ok(())
 }
 
@@ -78,9 +81,17 @@ fn finds_chunks_by_address(rt: HostRuntime) -> Result<(), Fail> {
         (0xffff_ffff, None),
     ];
     addresses(&rt, rt.alloc(), 3, 80, 0x8000_00a0, &three)?;
-    let most = [(0x803f_ffbf, Some(65_534)), (0x803f_ffff, Some(65_535)), (0x8040_0000, None)];
+    let most = [
+        (0x803f_ffbf, Some(65_534)),
+        (0x803f_ffff, Some(65_535)),
+        (0x8040_0000, None),
+    ];
     addresses(&rt, rt.alloc(), 65_536, 64, 0x803f_ffc0, &most)?;
-    let largest = [(0x8000_ffff, Some(0)), (0x83ff_ffff, Some(1_023)), (0x8400_0000, None)];
+    let largest = [
+        (0x8000_ffff, Some(0)),
+        (0x83ff_ffff, Some(1_023)),
+        (0x8400_0000, None),
+    ];
     addresses(&rt, rt.alloc(), 1_024, 65_536, 0x83ff_0000, &largest)?;
     Ok(())
 }
