@@ -1,5 +1,5 @@
-ghost use Rattle.std.specs.Prelude.{◌≡◌, ◌≢◌, ℕ, ◌+◌, ◌-◌, ◌*◌, ◌/◌, ◌%◌, ◌<◌, ◌≤◌, ◌⊎◌, ◌↔◌, [], ◌∷◌, length, IsNone, IfSome, IfNone, IfOk};
-ghost use Rattle.chunk_pool.specs.Pool.{Pool, chunk_of, word_of, payload_of, with_word, KeepsOthers, KeepsOtherWords, KeepsPayloads, IsPartitioned, first_or, first_free, after_take, after_give, IsFree, IsHeld, IsPool, start_pool, bytes_of, place_of, HasAddress, chunk_at};
+ghost use Rattle.std.specs.Prelude.{◌≡◌, ℕ, ◌+◌, ◌-◌, ◌*◌, ◌/◌, ◌%◌, ◌<◌, ◌≤◌, ◌⊎◌, ◌↔◌, [], ◌∷◌, length, IsNone, IfSome, IfNone, IfOk};
+ghost use Rattle.chunk_pool.specs.Pool.{Pool, word_of, payload_of, with_word, KeepsOthers, KeepsOtherWords, KeepsPayloads, IsPartitioned, first_or, first_free, after_take, after_give, IsFree, IsHeld, IsPool, start_pool, bytes_of, place_of, HasAddress, chunk_at};
 
 use crate::start::{first_chunks, free_numbers};
 use std::alloc::{AllocError, Global};

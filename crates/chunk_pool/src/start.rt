@@ -1,5 +1,5 @@
 // The vectors that a new pool starts with.
-ghost use Rattle.std.specs.Prelude.{◌≡◌, ◌+◌, ◌-◌, ◌^◌, ◌<◌, ◌≤◌, ◌∷◌, map, reverse, replicate, length, vec_capacity, IfOk};
+ghost use Rattle.std.specs.Prelude.{◌≡◌, ◌+◌, ◌^◌, ◌<◌, ◌≤◌, map, reverse, vec_capacity, IfOk};
 ghost use Rattle.std.specs.List.{range_with_len};
 ghost use Rattle.chunk_pool.specs.Pool.{start_chunk};
 
@@ -12,7 +12,8 @@ pub(crate) fn first_chunks(
     words: u32,
 ) -> Result<Vec<Vec<u32>>, AllocError>
     requires { 1 ≤ words }
-    ensures { IfOk result (λ chunks. map (λ chunk. chunk.items) chunks.items ≡ map (start_chunk words) (range_with_len 0 count)) }
+    ensures { IfOk result (λ chunks.
+        map (λ chunk. chunk.items) chunks.items ≡ map (start_chunk words) (range_with_len 0 count)) }
 {
     let mut chunks = Vec::with_capacity(alloc, count as usize)?;
     for id in 0..count {
