@@ -1,0 +1,4 @@
+pub mod Pieces
+pub mod Fronts
+pub mod EntryList
+pub mod Stored

@@ -1,0 +1,11 @@
+use Rattle.std.proofs.Common.{◌≡◌, length}
+use Rattle.cap_io.proofs.Pieces.{PutSoFar}
+use Rattle.cap_io.proofs.put.put_all.Given as goal
+
+abbrev pub invariant-loop-rest : goal.invariant-loop-rest
+invariant-loop-rest g l =
+    PutSoFar (g.K.Sink.taken l.initial.out) (g.K.Sink.taken l.out) l.piece l.rest
+    × (g.K.Sink.faults l.out ≡ g.K.Sink.faults l.initial.out)
+
+abbrev pub decreases-loop-rest : goal.decreases-loop-rest
+decreases-loop-rest g l = length l.rest

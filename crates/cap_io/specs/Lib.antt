@@ -1,0 +1,9 @@
+pub mod Entries
+pub mod FaultCounts
+pub mod Faults
+pub mod Files
+pub mod Memory
+pub mod MemoryShelf
+pub mod Reads
+pub mod Shelves
+pub mod Writes

@@ -1,0 +1,95 @@
+// The present folder as a shelf.
+ghost use Rattle.std.specs.Prelude.{◌≡◌, ◌≤◌, IfOk, vec_len};
+ghost use Rattle.cap_io.specs.FaultCounts.{FaultCounts};
+
+use super::{Shelf, ShelfError};
+use std::alloc::Global;
+use std::fs;
+use std::fs::File;
+use std::io::{ErrorKind, Read};
+use std::marker::Model;
+use std::rt::Files;
+
+/// A shelf over the present folder: a name is a path there. It tells nothing of the files. Contracts see its two counts
+/// of faults, which rise at each error of the system but one: that there is no such file, at a load, is Absent.
+#[derive(Drop)]
+pub struct DirShelf<R: Files + Drop> {
+    rt: R,
+    load_faults: u64,
+    store_faults: u64,
+}
+
+impl<R: Files + Drop> Model for DirShelf<R> {
+    ghost use Rattle.std.specs.Prelude.{◌<◌, ◌^◌};
+    ghost use Rattle.cap_io.specs.FaultCounts.{FaultCounts};
+
+    ghost Value = { FaultCounts };
+
+    ghost view = { λ s. record { loads = s.load_faults; stores = s.store_faults } };
+
+    ghost invariant = { λ s. (s.load_faults < 2 ^ 64) × (s.store_faults < 2 ^ 64) };
+}
+
+impl<R: Files + Drop> DirShelf<R> {
+    /// The present folder of the process, with no faults so far.
+    pub fn new(rt: R) -> Self
+        ensures { result ≡ record { loads = 0; stores = 0 } }
+    {
+        DirShelf {
+            rt,
+            load_faults: 0,
+            store_faults: 0,
+        }
+    }
+}
+
+impl<R: Files + Drop> Shelf for DirShelf<R> {
+    ghost use Rattle.std.specs.Prelude.{None};
+
+    ghost load_faults = { λ s. s.loads };
+
+    ghost store_faults = { λ s. s.stores };
+
+    ghost files = { λ _. None };
+
+    fn load(&mut self, alloc: Global, name: &str, max: u32) -> Result<Vec<u8>, ShelfError> {
+        let outcome = read_file(&self.rt, alloc, name, max);
+        if matches!(outcome, Err(ShelfError::Failed)) {
+            self.load_faults = self.load_faults.saturating_add(1);
+        }
+        outcome
+    }
+
+    fn store(&mut self, _alloc: Global, name: &str, bytes: &[u8]) -> Result<(), ShelfError> {
+        if fs::write(&self.rt, name, bytes).is_err() {
+            self.store_faults = self.store_faults.saturating_add(1);
+            return Err(ShelfError::Failed);
+        }
+        Ok(())
+    }
+}
+
+/// The bytes of a file of at most `max` bytes.
+fn read_file<R: Files>(rt: &R, alloc: Global, name: &str, max: u32) -> Result<Vec<u8>, ShelfError>
+    ensures { IfOk result (λ bytes. vec_len bytes ≤ max) }
+{
+    let mut file = match File::open(rt, name) {
+        Ok(file) => file,
+        Err(error) if error.kind() == ErrorKind::NotFound => return Err(ShelfError::Absent),
+        Err(_) => return Err(ShelfError::Failed),
+    };
+    let mut bytes = Vec::new(alloc);
+    let mut block = [0u8; 4096];
+    loop {
+        let count = file.read(&mut block).map_err(|_| ShelfError::Failed)?;
+        if count == 0 {
+            return Ok(bytes);
+        }
+        if count > max as usize - bytes.len() {
+            return Err(ShelfError::TooLong);
+        }
+        bytes
+            .extend_from_slice(&block[..count])
+            .map_err(|_| ShelfError::Memory)?;
+    }
+}
