@@ -1,0 +1,29 @@
+/// A modelled call that blocks the thread until it is ready to go on. The fields are the call's
+/// arguments, as words.
+#[derive(Clone, Copy, Debug, PartialEq, Eq)]
+pub enum Block {
+    /// `accept()`: until an arrival waits.
+    Accept,
+    /// `wait(channel)`: until that channel holds a message.
+    Wait { channel: u32 },
+    /// `sleep(ticks)`: until that much time has passed; a word from 2^31 on is a negative number.
+    Sleep { ticks: u32 },
+    /// `yield()`: ready at once.
+    Yield,
+    /// `take(resource, amount)`: until that much of the resource is unused.
+    Take { resource: u32, amount: u32 },
+}
+
+/// A modelled call that is answered at once. The fields are the call's arguments, as words.
+#[derive(Clone, Copy, Debug, PartialEq, Eq)]
+pub enum Ask {
+    /// `put(value)`: prints the value.
+    Put { value: u32 },
+    /// `spawn(function, argument)`: starts a thread. `function` is what stands for the function at
+    /// that level: its number in the program, its entry in the machine.
+    Spawn { function: u32, argument: u32 },
+    /// `give(resource, amount)`: gives back what was taken.
+    Give { resource: u32, amount: u32 },
+    /// `self()`: the thread's number.
+    SelfNumber,
+}

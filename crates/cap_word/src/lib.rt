@@ -1,0 +1,31 @@
+// Words of 32 bits and the small types that the crates of Capriccio share.
+//
+// Words: the arithmetic of RV32IM (RISC-V unprivileged manual, chapters "RV32I" and "M"), on whole
+// numbers from 0 to 2^32 - 1, which serves the meaning of CapC too. A call gets and gives `u32`, and
+// its contract names a formula over whole numbers, of `specs/Word.antt`, which the crates above cite.
+// Shared types: who runs (`ThreadId`), where it blocked (`SiteKey`), what it asks for (`Block`, `Ask`),
+// how a run ends (`TrapKind`, `Stop`, `FaultKind`), which limit was exceeded (`Which`), and the trait
+// `Ready`, by which the scheduler asks a world of threads.
+#![tactic(auto)]
+
+mod calls;
+mod faults;
+mod limits;
+mod readiness;
+mod site_keys;
+mod stops;
+mod threads;
+mod traps;
+mod words;
+
+pub use calls::{Ask, Block};
+pub use faults::FaultKind;
+pub use limits::Which;
+pub use readiness::Ready;
+pub use site_keys::SiteKey;
+pub use stops::Stop;
+pub use threads::ThreadId;
+pub use traps::TrapKind;
+pub use words::{
+    add, div, divu, mul, mulh, mulhsu, mulhu, rem, remu, sll, slt, sltu, sra, srl, sub,
+};

@@ -1,0 +1,119 @@
+ghost use Rattle.std.specs.Prelude.{◌≡◌, ◌≤◌, ◌<◌, length, slice_index, nat_eq};
+ghost use Rattle.std.specs.Cmp.Lexicographic.{pointwise, nat_list_eq_equiv};
+ghost use Rattle.std.specs.Cmp.{partial_equiv_from_equiv};
+ghost use Rattle.std.specs.Cmp.Rules.{hashing};
+ghost use Rattle.std.proofs.Common.{rules};
+ghost use Rattle.std.specs.Hash as fed;
+
+use std::hash::{Hash, Hasher};
+use std::marker::Model;
+
+/// Where a thread blocked: the site of the blocking call, and then those of the up to seven innermost
+/// calls above it, innermost first. A key is the list of its one to eight sites.
+#[derive(Clone, Copy, Debug)]
+pub struct SiteKey {
+    used: u32,
+    places: [u32; 8],
+}
+
+impl Model for SiteKey {
+    ghost use Rattle.std.specs.Prelude.{◌≡◌, ℕ, ◌-◌, ◌≤◌, List, length, take, drop, replicate, refl};
+    ghost use Rattle.cap_word.specs.SiteKey.{places_of, length-take-used, places_of-take};
+
+    ghost Value = { List ℕ };
+
+    ghost view = { λ key. take key.used key.places };
+
+    ghost invariant = { λ key. (1 ≤ key.used) × (key.used ≤ 8) × (length key.places ≡ 8) × (drop key.used key.places ≡ replicate (8 - key.used) 0) };
+
+    ghost inverse = { λ sites. record { used = length sites; places = places_of sites } };
+
+    ghost inverse_ok = { λ key holds. rw (places_of-take key.used key.places holds.1 holds.2 holds.3, length-take-used key.used key.places holds.1 holds.2) };
+}
+
+impl SiteKey {
+    /// The most sites that a key has.
+    pub const MOST: usize = 8;
+
+    /// The key of these sites, innermost first.
+    pub fn new(sites: &[u32]) -> SiteKey
+        requires some { 1 ≤ length sites.now }
+        requires fits { length sites.now ≤ 8 }
+        ensures { result ≡ sites.now }
+    {
+        let mut places = [0; 8];
+        places[..sites.len()].copy_from_slice(sites);
+        SiteKey {
+            used: sites.len() as u32,
+            places,
+        }
+    }
+
+    /// The number of sites, from 1 to 8.
+    pub fn length(&self) -> u32
+        ensures count { result ≡ length self.now }
+        ensures some { 1 ≤ result }
+        ensures most { result ≤ 8 }
+    {
+        self.used
+    }
+
+    /// The site at that place, from 0; the innermost comes first.
+    pub fn site(&self, index: u32) -> u32
+        requires { index < length self.now }
+        ensures { result ≡ slice_index self.now index }
+    {
+        self.places[index as usize]
+    }
+
+    /// The sites, innermost first.
+    pub fn sites(&self) -> &[u32]
+        ensures all { result.now ≡ self.now }
+        ensures some { 1 ≤ length result.now }
+        ensures most { length result.now ≤ 8 }
+    {
+        &self.places[..self.used as usize]
+    }
+}
+
+impl PartialEq for SiteKey {
+    ghost eq = { pointwise nat_eq };
+
+    ghost laws = { partial_equiv_from_equiv nat_list_eq_equiv };
+
+    fn eq(&self, other: &SiteKey) -> bool {
+        self.sites() == other.sites()
+    }
+}
+
+impl Eq for SiteKey {
+    ghost laws = { nat_list_eq_equiv };
+}
+
+impl Hash for SiteKey {
+    ghost hash_input = { fed.slice fed.u32 };
+
+    ghost respects_eq = { Prim.search (hashing, rules) };
+
+    fn hash<H: Hasher>(&self, state: &mut H) {
+        self.sites().hash(state);
+    }
+}
+
+#[cfg(test)]
+mod tests {
+    use super::*;
+
+    #[test]
+    fn keys_are_their_sites(rt: HostRuntime) {
+        let key = SiteKey::new(&[7, 0, 3]);
+        assert_eq!(rt; key.length(), 3);
+        assert_eq!(rt; key.sites(), [7, 0, 3].as_slice());
+        let full = SiteKey::new(&[1, 2, 3, 4, 5, 6, 7, 8]);
+        assert_eq!(rt; full.length(), 8);
+        assert_eq!(rt; full.site(0), 1);
+        assert_eq!(rt; full.site(7), 8);
+        assert_eq!(rt; SiteKey::new(&[7, 0, 3]), key);
+        assert_ne!(rt; SiteKey::new(&[7, 0]), SiteKey::new(&[7, 0, 0]));
+    }
+}

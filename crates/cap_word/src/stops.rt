@@ -1,0 +1,14 @@
+use crate::traps::TrapKind;
+
+/// What ends a whole run in the midst of a thread's segment.
+#[derive(Clone, Copy, Debug, PartialEq, Eq)]
+pub enum Stop {
+    /// The program did what it may not do.
+    Trap(TrapKind),
+    /// A chunk was needed, and none is free.
+    NoChunk,
+    /// The run has retired as many instructions as it may.
+    Fuel,
+    /// A thread was to start, and as many live as may.
+    Threads,
+}
