@@ -1,0 +1,149 @@
+// Reading a number.
+ghost use Rattle.std.specs.Prelude.{◌≡◌, ℕ, ℤ, pos, negsuc, ◌+◌, ◌^◌, FitsSigned, ◌<◌, ◌≤◌, ◌↔◌, MatchOption, IfOk, IsTrue, All};
+ghost use Rattle.std.specs.Bool.{MatchBool};
+ghost use Rattle.std.specs.Int.{w32, w128};
+ghost use Rattle.cap_text.specs.Decimals.{canonical_decimal, canonical_integer, IsDecimal, IsInteger};
+
+use thiserror::Error;
+
+/// Why bytes are refused as a number.
+#[derive(Clone, Copy, Debug, PartialEq, Eq, Error)]
+pub enum NumberError {
+    /// The bytes are not a canonical decimal.
+    #[error("not a canonical decimal")]
+    NotANumber,
+    /// The bytes are a canonical decimal, of a number outside the range that is asked for.
+    #[error("number out of range")]
+    TooLarge,
+}
+
+/// The number, at most `max`, of which `bytes` is the canonical decimal: ASCII digits only, with no leading `0` but in
+/// `0` itself.
+///
+/// Takes no memory. `NotANumber` comes exactly where `bytes` is not a canonical decimal, and `TooLarge` exactly where it
+/// is one of a number above `max`, also above 64 bits.
+pub fn read_dec(bytes: &[u8], max: u64) -> Result<u64, NumberError>
+    ensures number { IfOk result (λ n. (bytes.now ≡ canonical_decimal n) × (n ≤ max)) }
+    ensures not_a_number { (result ≡ Err NumberError.NotANumber) ↔ (¬ IsDecimal bytes.now) }
+    ensures too_large { (result ≡ Err NumberError.TooLarge)
+        ↔ ((n : ℕ) × (bytes.now ≡ canonical_decimal n) × (max < n)) }
+{
+    let number = read_up_to(bytes, u128::from(max))?;
+    Ok(number as u64)
+}
+
+// The same in 128 bits.
+fn read_up_to(bytes: &[u8], max: u128) -> Result<u128, NumberError>
+    ensures number { IfOk result (λ n. (bytes.now ≡ canonical_decimal n) × (n ≤ max)) }
+    ensures not_a_number { (result ≡ Err NumberError.NotANumber) ↔ (¬ IsDecimal bytes.now) }
+    ensures too_large { (result ≡ Err NumberError.TooLarge)
+        ↔ ((n : ℕ) × (bytes.now ≡ canonical_decimal n) × (max < n)) }
+{
+    if !is_decimal(bytes) {
+        return Err(NumberError::NotANumber);
+    }
+    match number_of(bytes) {
+        Some(number) if number <= max => Ok(number),
+        _ => Err(NumberError::TooLarge),
+    }
+}
+
+// Whether the bytes are a canonical decimal.
+fn is_decimal(bytes: &[u8]) -> bool
+    ensures { MatchBool result (IsDecimal bytes.now) (¬ IsDecimal bytes.now) }
+{
+    let Some((first, rest)) = bytes.split_first() else {
+        return false;
+    };
+    if *first == b'0' {
+        rest.is_empty()
+    } else {
+        all_digits(bytes)
+    }
+}
+
+// Whether every byte is an ASCII digit.
+fn all_digits(bytes: &[u8]) -> bool
+    ensures { IsTrue result ↔ All (λ byte. (48 ≤ byte) × (byte ≤ 57)) bytes.now }
+{
+    bytes.iter().all(|byte| (b'0'..=b'9').contains(byte))
+}
+
+// The number of a canonical decimal, if it fits 128 bits.
+fn number_of(digits: &[u8]) -> Option<u128>
+    requires { IsDecimal digits.now }
+    ensures { MatchOption result
+        ((n : ℕ) × (digits.now ≡ canonical_decimal n) × (2 ^ 128 ≤ n))
+        (λ n. digits.now ≡ canonical_decimal n) }
+{
+    let mut number: u128 = 0;
+    for digit in digits {
+        let tens = number.checked_mul(10)?;
+        number = tens.checked_add(u128::from(*digit - b'0'))?;
+    }
+    Some(number)
+}
+
+/// The number in 32 signed bits of which `bytes` is the canonical decimal: as for `read_dec`, after one `-` where it is
+/// negative, so `0` has no sign.
+///
+/// Takes no memory. `NotANumber` comes exactly where `bytes` is no such decimal, and `TooLarge` exactly where it is one
+/// of a number outside 32 bits.
+pub fn read_signed(bytes: &[u8]) -> Result<i32, NumberError>
+    ensures number { IfOk result (λ z. bytes.now ≡ canonical_integer z) }
+    ensures not_a_number { (result ≡ Err NumberError.NotANumber) ↔ (¬ IsInteger bytes.now) }
+    ensures too_large { (result ≡ Err NumberError.TooLarge)
+        ↔ ((z : ℤ) × (bytes.now ≡ canonical_integer z) × (¬ FitsSigned w32 z)) }
+{
+    match read_wide(bytes) {
+        Ok(number) if -0x8000_0000 <= number && number <= 0x7fff_ffff => Ok(number as i32),
+        Ok(_) => Err(NumberError::TooLarge),
+        Err(error) => Err(error),
+    }
+}
+
+/// The number in 128 signed bits of which `bytes` is the canonical decimal.
+///
+/// Takes no memory. `NotANumber` comes exactly where `bytes` is no such decimal, and `TooLarge` exactly where it is one
+/// of a number outside 128 bits.
+pub fn read_wide(bytes: &[u8]) -> Result<i128, NumberError>
+    ensures number { IfOk result (λ z. bytes.now ≡ canonical_integer z) }
+    ensures not_a_number { (result ≡ Err NumberError.NotANumber) ↔ (¬ IsInteger bytes.now) }
+    ensures too_large { (result ≡ Err NumberError.TooLarge)
+        ↔ ((z : ℤ) × (bytes.now ≡ canonical_integer z) × (¬ FitsSigned w128 z)) }
+{
+    let Some((first, size)) = bytes.split_first() else {
+        return Err(NumberError::NotANumber);
+    };
+    if *first == b'-' {
+        read_negative(size)
+    } else {
+        read_natural(bytes)
+    }
+}
+
+// The number from 0 up, of 127 bits at most.
+fn read_natural(bytes: &[u8]) -> Result<i128, NumberError>
+    ensures number { IfOk result (λ z. (n : ℕ) × (z ≡ pos n) × (bytes.now ≡ canonical_decimal n)) }
+    ensures not_a_number { (result ≡ Err NumberError.NotANumber) ↔ (¬ IsDecimal bytes.now) }
+    ensures too_large { (result ≡ Err NumberError.TooLarge)
+        ↔ ((n : ℕ) × (bytes.now ≡ canonical_decimal n) × (2 ^ 127 ≤ n)) }
+{
+    let number = read_up_to(bytes, (1 << 127) - 1)?;
+    Ok(number as i128)
+}
+
+// The negative number whose size the bytes write.
+fn read_negative(size: &[u8]) -> Result<i128, NumberError>
+    ensures number { IfOk result (λ z. (n : ℕ) × (z ≡ negsuc n) × (size.now ≡ canonical_decimal (n + 1))) }
+    ensures not_a_number { (result ≡ Err NumberError.NotANumber)
+        ↔ ((n : ℕ) → size.now ≡ canonical_decimal (n + 1) → ⊥) }
+    ensures too_large { (result ≡ Err NumberError.TooLarge)
+        ↔ ((n : ℕ) × (size.now ≡ canonical_decimal (n + 1)) × (2 ^ 127 ≤ n)) }
+{
+    match read_up_to(size, 1 << 127) {
+        Ok(number) if number > 0 => Ok(-1 - (number - 1) as i128),
+        Ok(_) => Err(NumberError::NotANumber),
+        Err(error) => Err(error),
+    }
+}
