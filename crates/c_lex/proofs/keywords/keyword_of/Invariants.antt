@@ -1,0 +1,8 @@
+use Rattle.std.proofs.Common.{ℕ, ◌≢◌, ◌<◌, get_or}
+use Rattle.c_lex.specs.declared.keywords.Keyword.TheVariants as keywords
+use Rattle.c_lex.specs.Keywords.{keyword_text}
+use Rattle.c_lex.proofs.keywords.keyword_of.Given as goal
+
+-- none so far
+abbrev pub invariant-loop-keyword : goal.invariant-loop-keyword
+invariant-loop-keyword l = (k : ℕ) → k < l.keyword-index → l.word ≢ keyword_text (get_or l.keyword-items k keywords.Auto)

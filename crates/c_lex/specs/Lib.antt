@@ -1,0 +1,9 @@
+pub mod Bytes
+pub mod Gaps
+pub mod Keywords
+pub mod Lexemes
+pub mod Marks
+pub mod Numbers
+pub mod Pieces
+pub mod Places
+pub mod Tokens

@@ -1,0 +1,57 @@
+// Tokens, their kinds, and why a source has none.
+use crate::keywords::Keyword;
+use crate::marks::Mark;
+use thiserror::Error;
+
+/// A token, with where it stands in the source.
+#[derive(Clone, Copy, Debug, PartialEq, Eq, Hash)]
+pub struct Token {
+    /// What it is.
+    pub kind: TokenKind,
+    /// The place of its first byte, counted from 0.
+    pub at: u32,
+    /// How many bytes it has, at least 1.
+    pub length: u32,
+}
+
+/// What a token is (ISO C 2011, 6.4).
+#[derive(Clone, Copy, Debug, PartialEq, Eq, Hash)]
+pub enum TokenKind {
+    /// A name: a letter or `_`, then letters, digits and `_`, and no keyword.
+    Name,
+    /// A number, decimal or hexadecimal.
+    Number {
+        /// Its value, a word.
+        value: u32,
+    },
+    /// A keyword.
+    Keyword(Keyword),
+    /// An operator or a separator.
+    Mark(Mark),
+}
+
+/// Why a source has no list of tokens. `at` is the first place where no token begins, counted from 0.
+#[derive(Clone, Copy, Debug, PartialEq, Eq, Error)]
+pub enum LexError {
+    /// The byte there is neither white space nor the first of a comment, a word or a mark.
+    #[error("BadByte at {at}")]
+    BadByte {
+        /// The byte's place.
+        at: u32,
+    },
+    /// The comment that begins there with `/*` has no `*/`.
+    #[error("OpenComment at {at}")]
+    OpenComment {
+        /// The place of its `/`.
+        at: u32,
+    },
+    /// The word that begins there with a digit is no number, or one above 4294967295.
+    #[error("BadNumber at {at}")]
+    BadNumber {
+        /// The place of its first digit.
+        at: u32,
+    },
+    /// Memory ran out.
+    #[error("out of memory")]
+    Memory,
+}
