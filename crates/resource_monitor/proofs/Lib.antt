@@ -1,0 +1,4 @@
+pub mod CurveLemmas
+pub mod GateLemmas
+pub mod MonitorLemmas
+pub mod TestLemmas

@@ -1,0 +1,8 @@
+use Rattle.std.proofs.Common.{arith}
+use Rattle.resource_monitor.proofs.GateLemmas.{pressures_from_each}
+use Rattle.resource_monitor.proofs.monitor.readings.Goals as goal
+
+pub returns-clause-value : goal.returns-clause-value
+returns-clause-value g c =
+    pressures_from_each _ _ _ (omega (arith, c.told-uses)) (omega (arith, c.told-caps, c.told-uses))
+    (λ k h. c.loop-place.invariant.1 k (omega (arith, c.told-uses)))

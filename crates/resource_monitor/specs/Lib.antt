@@ -1,0 +1,3 @@
+pub mod Gate
+pub mod Monitor
+pub mod Pressure

@@ -1,0 +1,34 @@
+-- The pressure of a resource: its use, in thousandths of its cap.
+use Rattle.std.specs.Prelude.{ℕ, ◌≡◌, ◌*◌, ◌/◌, ◌≤◌, ◌==◌, if◌then◌else◌, List, [], ◌∷◌}
+use Rattle.resource_monitor.specs.declared.curves.Curve.{Curve}
+use Rattle.resource_monitor.specs.declared.curves.Curve.TheVariants.{Linear}
+
+-- what a curve answers where `used` of `cap` is in use
+abbrev pub curve_value : Curve → ℕ → ℕ → ℕ
+curve_value Linear used cap = 1000 * used / cap
+
+-- the pressure of a resource of which `used` is in use, out of `cap`; a resource with no cap has none
+abbrev pub pressure : ℕ → ℕ → ℕ
+pressure used cap = if cap == 0 then 0 else 1000 * used / cap
+
+-- the pressure of each resource, from the uses and the caps
+abbrev pub pressures : List ℕ → List ℕ → List ℕ
+pressures (used ∷ uses) (cap ∷ caps) = pressure used cap ∷ pressures uses caps
+pressures _ _ = []
+
+-- a use and a cap that a closure of a gauge answers for
+pub record IsReading (used cap : ℕ) : Type 0 where
+  pub some : 1 ≤ cap
+  pub most : cap ≤ 1000000
+  pub within : used ≤ cap
+
+-- a curve is a pressure: at most 1000, 0 at no use, and never falling as the use grows
+pub record IsPressureCurve (curve : Curve) : Type 0 where
+  pub bounded : (used cap : ℕ) → IsReading used cap → curve_value curve used cap ≤ 1000
+  pub starts : (cap : ℕ) → IsReading 0 cap → curve_value curve 0 cap ≡ 0
+  pub rises : (less used cap : ℕ) → IsReading used cap → less ≤ used → curve_value curve less cap ≤ curve_value curve used cap
+
+-- a closure answers a curve: it may be called at each reading, and answers the curve's value
+pub record AnswersCurve (pre : ℕ → ℕ → Type 0) (post : ℕ → ℕ → ℕ → Type 0) (curve : Curve) : Type 0 where
+  pub callable : (used cap : ℕ) → IsReading used cap → pre used cap
+  pub answers : (used cap answer : ℕ) → IsReading used cap → post used cap answer → answer ≡ curve_value curve used cap
