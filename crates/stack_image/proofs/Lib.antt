@@ -1,0 +1,5 @@
+pub mod ImageLemmas
+pub mod WordBytes
+pub mod NoRefusal
+pub mod ReadAgain
+pub mod Spelled

@@ -1,0 +1,41 @@
+ghost use Rattle.std.specs.Prelude.{◌≡◌, ◌++◌, ◌^◌, ◌<◌, length, IfOk, OnOk, All};
+ghost use Rattle.stack_image.specs.Spelling.{words, spelling, IsWithinLimits, HoldsWords};
+
+use crate::images::Image;
+use std::alloc::{AllocError, Global};
+
+// Appends the words, each as four bytes, lowest byte first.
+fn put_words(bytes: &mut Vec<u8>, added: &[u32]) -> Result<(), AllocError>
+    ensures added { OnOk result (bytes.new.items ≡ bytes.old.items ++ words added.now) }
+    ensures words { All (λ word. word < 2 ^ 32) added.now }
+{
+    for word in added {
+        bytes.extend_from_slice(&word.to_le_bytes())?;
+    }
+    Ok(())
+}
+
+/// Writes the image as bytes, in its one spelling, which `read_image` reads back: `CAP1`, the numbers of
+/// code, global, table and entry words, and those words, all little-endian. The image keeps the limits:
+/// at most 200,000 words of code, 65,536 globals, 65,536 table words and 4,096 entries. The format is
+/// Capriccio's own.
+#[tactic(auto, unfolding(crate::specs::Spelling::spelling))]
+pub fn write_image(alloc: Global, image: &Image) -> Result<Vec<u8>, AllocError>
+    requires limits { IsWithinLimits image.now }
+    ensures spelled { IfOk result (λ bytes. bytes.items ≡ spelling image.now) }
+    ensures words { OnOk result (HoldsWords image.now) }
+{
+    let sizes = [
+        image.code.len() as u32,
+        image.globals.len() as u32,
+        image.tables.len() as u32,
+        image.entries.len() as u32,
+    ];
+    let mut bytes = Vec::from_slice(alloc, b"CAP1")?;
+    put_words(&mut bytes, &sizes)?;
+    put_words(&mut bytes, image.code.as_slice())?;
+    put_words(&mut bytes, image.globals.as_slice())?;
+    put_words(&mut bytes, image.tables.as_slice())?;
+    put_words(&mut bytes, image.entries.as_slice())?;
+    Ok(bytes)
+}
