@@ -1,0 +1,4 @@
+pub mod Fields
+pub mod Gathering
+pub mod Lines
+pub mod Reader

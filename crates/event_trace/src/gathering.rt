@@ -1,0 +1,48 @@
+// A line, taken from a source byte by byte.
+ghost use Rattle.std.specs.Prelude.{◌≡◌, ◌≤◌, IfOk, Ok, vec_len, vec_capacity};
+ghost use Rattle.event_trace.specs.Gathering.{Gathers, IsShort, CountsFaults};
+
+use cap_io::{Failed, Source};
+
+/// The most bytes of a line, without its LF.
+pub(crate) const MOST_BYTES: usize = 64;
+
+/// How a line ended.
+#[derive(Clone, Copy, Debug, PartialEq, Eq)]
+pub(crate) enum Ending {
+    /// With its LF, or with the end of the trace behind at least one byte.
+    Line,
+    /// There was none: the trace is at its end.
+    End,
+    /// It has more than 64 bytes.
+    TooLong,
+}
+
+/// Takes the next line, without its LF, into `line`, in place of what that held and in the room that it has.
+pub(crate) fn read_line<S: Source>(line: &mut Vec<u8>, source: &mut S) -> Result<Ending, Failed>
+    requires { 64 ≤ vec_capacity line.old }
+    ensures room { 64 ≤ vec_capacity line.new }
+    ensures short { IfOk result (λ ending. IsShort ending line.new.items) }
+    ensures told { Gathers (S.left source.old) (S.left source.new) line.new.items result }
+    ensures counts { CountsFaults result (S.faults source.old) (S.faults source.new) }
+    ensures never_falls { S.faults source.old ≤ S.faults source.new }
+{
+    line.clear();
+    let mut byte = [0u8];
+    loop {
+        if source.read(&mut byte)? == 0 {
+            return Ok(if line.is_empty() {
+                Ending::End
+            } else {
+                Ending::Line
+            });
+        }
+        if byte[0] == b'\n' {
+            return Ok(Ending::Line);
+        }
+        if line.len() == MOST_BYTES {
+            return Ok(Ending::TooLong);
+        }
+        line.push_reserved(byte[0]);
+    }
+}

@@ -1,0 +1,105 @@
+// The reader of a trace.
+ghost use Rattle.std.specs.Prelude.{◌≡◌, [], ◌≤◌, IfOk, IfSome, Err, None};
+ghost use Rattle.event_trace.specs.Reader.{NextTold, KeepsCount, KeepsRefusal, CountsNext};
+
+use super::gathering::{Ending, MOST_BYTES, read_line};
+use super::parsing::parse_line;
+use super::{Event, TraceError};
+use cap_io::Source;
+use std::alloc::{AllocError, Global};
+use std::marker::Model;
+
+/// The most lines of a trace.
+const MOST_LINES: u32 = 1_000_000;
+
+/// Gives the events of a trace, one after another. Contracts see the bytes that it holds of its source, the number of
+/// lines that it gave, the last time, and the refusal that it gave, if it gave one.
+#[derive(Drop)]
+pub struct TraceReader {
+    line: Vec<u8>,
+    lines: u32,
+    last: u64,
+    refused: Option<TraceError>,
+}
+
+impl Model for TraceReader {
+    ghost use Rattle.std.specs.Prelude.{[], ◌≤◌, vec_capacity};
+    ghost use Rattle.event_trace.specs.Reader.{ReaderState};
+
+    ghost Value = { ReaderState };
+
+    ghost view = { λ r. record { held = []; lines = r.lines; last = r.last; refused = r.refused } };
+
+    ghost invariant = { λ r. (64 ≤ vec_capacity r.line) × (r.lines ≤ 1000000) };
+}
+
+impl TraceReader {
+    /// A reader at the start of a trace. It reserves the room of a line.
+    pub fn new(alloc: Global) -> Result<TraceReader, AllocError>
+        ensures { IfOk result (λ reader. reader ≡ record { held = []; lines = 0; last = 0; refused = None }) }
+    {
+        Ok(TraceReader {
+            line: Vec::with_capacity(alloc, MOST_BYTES)?,
+            lines: 0,
+            last: 0,
+            refused: None,
+        })
+    }
+
+    /// The next event of the bytes that the reader holds followed by those that the source has left, and None exactly
+    /// at their end. Line comes exactly where the next line spells no event, or is line 1,000,001; Order exactly where
+    /// its time is below the last; ReadFault only where the source's count of faults rose in this call, or stands at its
+    /// end. After a refusal the reader gives the same refusal again and reads nothing. It takes no memory.
+    pub fn next<S: Source>(&mut self, source: &mut S) -> Result<Option<Event>, TraceError>
+        ensures again { IfSome self.old.refused (λ refusal. result ≡ Err refusal × self.new ≡ self.old × source.new ≡ source.old) }
+        ensures told { self.old.refused ≡ None → NextTold self.old self.new (S.left source.old) (S.left source.new) result }
+        ensures kept { self.old.refused ≡ None → KeepsRefusal self.old self.new result }
+        ensures counts { self.old.refused ≡ None → CountsNext result (S.faults source.old) (S.faults source.new) }
+        ensures never_falls { S.faults source.old ≤ S.faults source.new }
+    {
+        if let Some(refusal) = self.refused {
+            return Err(refusal);
+        }
+        let answer = self.read_event(source);
+        if let Err(refusal) = answer {
+            self.refused = Some(refusal);
+        }
+        answer
+    }
+
+    /// The next event, with no regard to an earlier refusal.
+    fn read_event<S: Source>(&mut self, source: &mut S) -> Result<Option<Event>, TraceError>
+        ensures told { NextTold self.old self.new (S.left source.old) (S.left source.new) result }
+        ensures kept { KeepsCount self.old self.new result }
+        ensures counts { CountsNext result (S.faults source.old) (S.faults source.new) }
+        ensures never_falls { S.faults source.old ≤ S.faults source.new }
+    {
+        let number = self.lines + 1;
+        let Ok(ending) = read_line(&mut self.line, source) else {
+            return Err(TraceError::ReadFault);
+        };
+        match ending {
+            Ending::End => return Ok(None),
+            Ending::TooLong => return Err(TraceError::Line { number }),
+            Ending::Line => {}
+        }
+        if number > MOST_LINES {
+            return Err(TraceError::Line { number });
+        }
+        let Some(event) = parse_line(&self.line) else {
+            return Err(TraceError::Line { number });
+        };
+        let earlier = self.last;
+        let time = event.time;
+        if time < earlier {
+            return Err(TraceError::Order {
+                number,
+                time,
+                earlier,
+            });
+        }
+        self.lines = number;
+        self.last = time;
+        Ok(Some(event))
+    }
+}
