@@ -1,0 +1,4 @@
+pub mod AverageLemmas
+pub mod EdgeLemmas
+pub mod PredictionLemmas
+pub mod GraphLemmas

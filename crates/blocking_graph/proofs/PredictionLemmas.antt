@@ -1,0 +1,76 @@
+-- Sums of weighted averages, and their quotients.
+use Rattle.std.proofs.Common.{drop, drop-cons, add-one, to_z, of_z, FitsSigned, ◌≢◌, ◌≡◌, ℕ, suc, ◌+◌, ◌*◌, ◌^◌, ◌≤◌, ◌<◌, Bool, true, false, cond, ◌==◌, ℤ, pos, negsuc, ◌+ℤ◌, ◌*ℤ◌, unsigned_abs, List, [], ◌∷◌, length, get_or, refl, arith, rules}
+use Rattle.std.proofs.Math.Nat.{div-le_of_le-mul}
+use Rattle.std.proofs.lemmas.Int.{ints, unsigned_abs-mul, fits_signed_from_abs, fits_signed_mul, to_z-of_z}
+use Rattle.std.specs.Int.{w128}
+use Rattle.std.proofs.lemmas.Bool.Decides.{nat_tests}
+use Rattle.std.proofs.lemmas.List.Sums.{sum_by-cons}
+use Rattle.std.proofs.lemmas.Nat.{div_below, mul-le}
+use Rattle.blocking_graph.specs.declared.edges.EdgeLine.{EdgeLine}
+use Rattle.blocking_graph.specs.Averages.{floor_div}
+use Rattle.blocking_graph.specs.Edges.{edges_from, count_of}
+use Rattle.blocking_graph.proofs.AverageLemmas.{floor_div_is}
+
+-- a quotient of a sum of `count` numbers of that size is of that size
+pub floor_div-le : (z : ℤ) (count size : ℕ) → 0 < count → unsigned_abs z ≤ count * size → unsigned_abs (floor_div z count) ≤ size
+floor_div-le (pos n) count size some h = div-le_of_le-mul count h
+floor_div-le (negsuc n) count size some h = div_below n count size some (grind arith)
+
+pub ruleset quotients = (floor_div_is, floor_div-le)
+
+pub sum-le : (a b : ℤ) (m n : ℕ) → unsigned_abs a ≤ m → unsigned_abs b ≤ n → unsigned_abs (a +ℤ b) ≤ m + n
+sum-le a b m n p q = omega (arith, ints)
+
+-- what stands past the end of the edges
+abbrev pub no_edge : EdgeLine
+no_edge = record { from = 0; to = 0; count = 0; cost = pos 0; change = [] }
+
+pub weight-le : (count : ℕ) (average : ℤ) (size : ℕ) → unsigned_abs average ≤ size → unsigned_abs (pos count *ℤ average) ≤ count * size
+weight-le count average size h = rw (unsigned_abs-mul (pos count) average) (mul-le count (unsigned_abs average) count size (omega arith) h)
+
+-- the product of the code, which fits 128 bits
+pub computed_weight : (count : ℕ) (average : ℤ) → count ≤ 2 ^ 40 → unsigned_abs average ≤ 2 ^ 39 →
+    to_z w128 (of_z w128 (to_z w128 (of_z w128 (pos count)) *ℤ to_z w128 (of_z w128 average))) ≡ pos count *ℤ average
+computed_weight count average p q =
+    let n : FitsSigned w128 (pos count) = search rules in
+    let a : FitsSigned w128 average = search rules in
+    let m : FitsSigned w128 (pos count *ℤ average) = fits_signed_mul w128 (pos count) average (2 ^ 40) (2 ^ 39) p q (omega arith) in
+    rw (to_z-of_z w128 (pos count) n, to_z-of_z w128 average a, to_z-of_z w128 (pos count *ℤ average) m)
+
+-- one more edge, from the node or from another
+pub edges_from-yes : (edge : EdgeLine) (edges : List EdgeLine) (node : ℕ) → edge.from ≡ node → edges_from (edge ∷ edges) node ≡ edge ∷ edges_from edges node
+edges_from-yes edge edges node e = let same : (edge.from == node) ≡ true = grind (arith, nat_tests) in rw same refl
+
+pub edges_from-no : (edge : EdgeLine) (edges : List EdgeLine) (node : ℕ) → edge.from ≢ node → edges_from (edge ∷ edges) node ≡ edges_from edges node
+edges_from-no edge edges node e = let other : (edge.from == node) ≡ false = grind (arith, nat_tests) in rw other refl
+
+pub count_of-cons : (edge : EdgeLine) (edges : List EdgeLine) → count_of (edge ∷ edges) ≡ edge.count + count_of edges
+count_of-cons edge edges = sum_by-cons (λ e. e.count) edge edges
+
+-- the edges from a node have no more records than all edges
+within_more : (b : Bool) (edge : EdgeLine) (some all : List EdgeLine) → count_of some ≤ count_of all → count_of (cond b (edge ∷ some) some) ≤ count_of (edge ∷ all)
+within_more true edge some all h = omega (arith, h, count_of-cons edge some, count_of-cons edge all)
+within_more false edge some all h = omega (arith, h, count_of-cons edge all)
+
+pub count_of-edges_from : (edges : List EdgeLine) (node : ℕ) → count_of (edges_from edges node) ≤ count_of edges
+count_of-edges_from [] node = omega arith
+count_of-edges_from (edge ∷ edges) node = within_more (edge.from == node) edge (edges_from edges node) edges (count_of-edges_from edges node)
+
+-- the edges from the node that are left, at an edge from it and at another
+pub edges_from-drop_yes : (edges : List EdgeLine) (i : ℕ) (node : ℕ) (d : EdgeLine) → i < length edges → (get_or edges i d).from ≡ node →
+    edges_from (drop i edges) node ≡ get_or edges i d ∷ edges_from (drop (i + 1) edges) node
+edges_from-drop_yes edges i node d h e = rw (add-one, drop-cons edges i d) (edges_from-yes (get_or edges i d) (drop (suc i) edges) node e)
+
+pub edges_from-drop_no : (edges : List EdgeLine) (i : ℕ) (node : ℕ) (d : EdgeLine) → i < length edges → (get_or edges i d).from ≢ node →
+    edges_from (drop i edges) node ≡ edges_from (drop (i + 1) edges) node
+edges_from-drop_no edges i node d h e = rw (add-one, drop-cons edges i d) (edges_from-no (get_or edges i d) (drop (suc i) edges) node e)
+
+-- one more weight, which fits 128 bits
+pub computed_total : (total weight : ℤ) (count more : ℕ) → unsigned_abs total ≤ count * 2 ^ 39 → unsigned_abs weight ≤ more * 2 ^ 39 → count + more ≤ 2 ^ 40 →
+    to_z w128 (of_z w128 (total +ℤ to_z w128 (of_z w128 weight))) ≡ total +ℤ weight
+computed_total total weight count more p q room =
+    let small : unsigned_abs weight < 2 ^ 127 = omega arith in
+    let w : FitsSigned w128 weight = fits_signed_from_abs w128 weight small in
+    let both : unsigned_abs (total +ℤ weight) < 2 ^ 127 = omega (arith, sum-le total weight (count * 2 ^ 39) (more * 2 ^ 39) p q) in
+    let t : FitsSigned w128 (total +ℤ weight) = fits_signed_from_abs w128 (total +ℤ weight) both in
+    rw (to_z-of_z w128 weight w, to_z-of_z w128 (total +ℤ weight) t)

@@ -1,0 +1,4 @@
+pub mod Averages
+pub mod Edges
+pub mod Graph
+pub mod Nodes

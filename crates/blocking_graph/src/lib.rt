@@ -1,0 +1,21 @@
+// The blocking graph: where threads block, and what the way from one blocking point to the next costs.
+//
+// A node is a blocking point, named by its key, the list of call sites that led there; keys are numbered
+// in order of first appearance (`Graph::node_of`). Each segment that a thread runs from one blocking
+// point to the next gives a record (`Graph::note`); for each pair of nodes the graph keeps the count of
+// records and averages of their cost and of the change of each resource. The scheduler asks what a
+// segment from a node is expected to change (`Graph::predicted`), the log lists the edges
+// (`Graph::edges`). The crates above cite `specs/Edges.antt` and `specs/Nodes.antt`. Source: Capriccio
+// (von Behren et al., SOSP 2003, section "Resource-Aware Scheduling").
+#![tactic(auto)]
+
+mod adding;
+mod averages;
+mod edges;
+mod graph;
+mod predicting;
+mod segments;
+
+pub use edges::EdgeLine;
+pub use graph::Graph;
+pub use segments::SegmentRecord;
