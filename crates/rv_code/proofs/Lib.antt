@@ -1,0 +1,5 @@
+pub mod Complements
+pub mod Fits
+pub mod Inverse
+pub mod Layouts
+pub mod Rows

@@ -1,0 +1,29 @@
+// The instructions of RV32IM and their words.
+//
+// In: an instruction (`Instr`, with operands that keep their own ranges) or a word. Out: the word of the
+// instruction (`encode`), or the instruction whose word that is (`decode`). The definitions are in specs/:
+// `Field` and `Format` lay out words, `Table` has a row an instruction, `Decoding` finds the row of a word,
+// `Operands` has the ranges. The crates above cite `encoding`, `decoding` and the laws that make them
+// inverse. Source: RISC-V unprivileged manual, chapters "RV32I", version 2.1, and "M", version 2.0.
+#![tactic(auto)]
+
+mod decoding;
+mod encoding;
+mod fields;
+mod formats;
+mod immediates;
+mod instructions;
+mod laws;
+mod offsets;
+mod registers;
+
+pub use decoding::decode;
+pub use encoding::encode;
+pub use immediates::{Immediate, ShiftCount, UpperImmediate};
+pub use instructions::Instr;
+pub use laws::table_laws;
+pub use offsets::{BranchOffset, JumpOffset};
+pub use registers::Register;
+
+#[cfg(test)]
+mod tests;
