@@ -1,0 +1,11 @@
+pub mod ChainTemporaries
+pub mod Maps
+pub mod ExprEquations
+pub mod StmtEquations
+pub mod Cuts
+pub mod Sample
+pub mod SiteNumbers
+pub mod LongerSizes
+pub mod Pushes
+pub mod RawExprEquations
+pub mod RawStmtEquations

@@ -1,0 +1,42 @@
+-- The tree of a statement as it is read, form by form.
+use Rattle.std.proofs.Common.{◌≡◌, ℕ, map, sym, ap, ◌∙◌}
+use Rattle.std.specs.Prelude.{Box, Vec, Option, option_map}
+use Rattle.std.specs.declared.alloc.Global.{Global}
+use Rattle.c_tree.specs.declared.raw_expressions.RawExpr.{RawExpr}
+use Rattle.c_tree.specs.declared.raw_statements.RawSimple.{RawSimple}
+use Rattle.c_tree.specs.declared.raw_statements.RawStmt.{RawStmt}
+use Rattle.c_tree.specs.declared.raw_statements.RawStmt.TheViews as code
+use Rattle.c_tree.specs.declared.raw_statements.RawStmt.TheFolds.{fold-roll-RawStmt}
+use Rattle.c_tree.specs.declared.raw_statements.RawStmt.TheVariants.{rolls-Simple, rolls-Empty, rolls-Block, rolls-If, rolls-IfElse, rolls-While, rolls-For, rolls-Break, rolls-Continue, rolls-Return}
+use Rattle.c_tree.specs.RawTrees.{RawStmtTree, RawDo, RawEmpty, RawBlock, RawIf, RawIfElse, RawWhile, RawFor, RawBreak, RawContinue, RawReturn}
+use Rattle.c_tree.specs.RawViews.{raw_expr_tree, raw_simple_tree, raw_stmt_step, raw_stmt_tree, raw_stmt_trees}
+
+pub raw_stmt_tree-Simple : (s : RawSimple) → raw_stmt_tree (RawStmt.Simple s) ≡ RawDo (raw_simple_tree s)
+raw_stmt_tree-Simple s = ap raw_stmt_tree (sym (rolls-Simple s)) ∙ fold-roll-RawStmt RawStmtTree raw_stmt_step _
+
+pub raw_stmt_tree-Empty : raw_stmt_tree RawStmt.Empty ≡ RawEmpty
+raw_stmt_tree-Empty = ap raw_stmt_tree (sym rolls-Empty) ∙ fold-roll-RawStmt RawStmtTree raw_stmt_step _
+
+pub raw_stmt_tree-Block : (ss : Vec RawStmt Global) → raw_stmt_tree (code.Block ss) ≡ RawBlock (raw_stmt_trees ss.items)
+raw_stmt_tree-Block ss = ap raw_stmt_tree (sym (rolls-Block ss)) ∙ fold-roll-RawStmt RawStmtTree raw_stmt_step _
+
+pub raw_stmt_tree-If : (c : RawExpr) (s : Box RawStmt Global) → raw_stmt_tree (code.If c s) ≡ RawIf (raw_expr_tree c) (raw_stmt_tree s.value)
+raw_stmt_tree-If c s = ap raw_stmt_tree (sym (rolls-If c s)) ∙ fold-roll-RawStmt RawStmtTree raw_stmt_step _
+
+pub raw_stmt_tree-IfElse : (c : RawExpr) (s r : Box RawStmt Global) → raw_stmt_tree (code.IfElse c s r) ≡ RawIfElse (raw_expr_tree c) (raw_stmt_tree s.value) (raw_stmt_tree r.value)
+raw_stmt_tree-IfElse c s r = ap raw_stmt_tree (sym (rolls-IfElse c s r)) ∙ fold-roll-RawStmt RawStmtTree raw_stmt_step _
+
+pub raw_stmt_tree-While : (c : RawExpr) (s : Box RawStmt Global) → raw_stmt_tree (code.While c s) ≡ RawWhile (raw_expr_tree c) (raw_stmt_tree s.value)
+raw_stmt_tree-While c s = ap raw_stmt_tree (sym (rolls-While c s)) ∙ fold-roll-RawStmt RawStmtTree raw_stmt_step _
+
+pub raw_stmt_tree-For : (init : Vec RawSimple Global) (c : Option RawExpr) (step : Option RawSimple) (s : Box RawStmt Global) → raw_stmt_tree (code.For init c step s) ≡ RawFor (map raw_simple_tree init.items) (option_map raw_expr_tree c) (option_map raw_simple_tree step) (raw_stmt_tree s.value)
+raw_stmt_tree-For init c step s = ap raw_stmt_tree (sym (rolls-For init c step s)) ∙ fold-roll-RawStmt RawStmtTree raw_stmt_step _
+
+pub raw_stmt_tree-Break : (at : ℕ) → raw_stmt_tree (RawStmt.Break at) ≡ RawBreak at
+raw_stmt_tree-Break at = ap raw_stmt_tree (sym (rolls-Break at)) ∙ fold-roll-RawStmt RawStmtTree raw_stmt_step _
+
+pub raw_stmt_tree-Continue : (at : ℕ) → raw_stmt_tree (RawStmt.Continue at) ≡ RawContinue at
+raw_stmt_tree-Continue at = ap raw_stmt_tree (sym (rolls-Continue at)) ∙ fold-roll-RawStmt RawStmtTree raw_stmt_step _
+
+pub raw_stmt_tree-Return : (at : ℕ) (v : Option RawExpr) → raw_stmt_tree (RawStmt.Return at v) ≡ RawReturn at (option_map raw_expr_tree v)
+raw_stmt_tree-Return at v = ap raw_stmt_tree (sym (rolls-Return at v)) ∙ fold-roll-RawStmt RawStmtTree raw_stmt_step _

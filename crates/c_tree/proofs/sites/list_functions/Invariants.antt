@@ -1,0 +1,7 @@
+use Rattle.std.proofs.Common.{◌≡◌, ◌++◌, map, drop}
+use Rattle.c_tree.specs.Views.{function_tree}
+use Rattle.c_tree.specs.TextOrder.{functions_sites}
+use Rattle.c_tree.proofs.sites.list_functions.Given as goal
+
+abbrev pub invariant-loop-function : goal.invariant-loop-function
+invariant-loop-function l = l.sites.items ++ functions_sites (map function_tree (drop l.function-index l.functions)) ≡ l.initial.sites.items ++ functions_sites (map function_tree l.functions)

@@ -1,0 +1,9 @@
+use Rattle.std.proofs.Common.{◌≡◌, ◌≤◌, max, map, drop}
+use Rattle.c_tree.specs.Views.{simple_tree}
+use Rattle.c_tree.specs.Temporaries.{capped, simples_temporaries}
+use Rattle.c_tree.proofs.temporaries.simples_of.Given as goal
+
+abbrev pub invariant-loop-simple : goal.invariant-loop-simple
+invariant-loop-simple l =
+    (l.most ≤ 65537)
+    × (capped (max l.most (simples_temporaries (map simple_tree (drop l.simple-index l.simples)))) ≡ capped (simples_temporaries (map simple_tree l.simples)))

@@ -1,0 +1,15 @@
+pub mod Modelled
+pub mod Trees
+pub mod Views
+pub mod Temporaries
+pub mod TextOrder
+pub mod RawTrees
+pub mod RawViews
+pub mod RawTemporaries
+pub mod Sizes
+pub mod WellScoped
+pub mod Programs
+pub mod OneProof
+pub mod ProgramView
+pub mod RawProgramView
+pub mod Sample

@@ -1,0 +1,42 @@
+// Expressions whose names have become numbers.
+
+use crate::operators::{Infix, UnaryOperator};
+
+/// An expression without calls. A variable is numbered within its function, parameters first; a global
+/// is numbered within the program.
+#[derive(Debug, Drop)]
+pub enum Expr {
+    /// A number, taken as a word.
+    Number(u32),
+    /// A variable of one word.
+    Local(u32),
+    /// A global of one word.
+    Global(u32),
+    /// A word of a variable, by its index.
+    LocalElement {
+        array: u32,
+        index: Box<Expr>,
+    },
+    /// A word of a global, by its index.
+    GlobalElement {
+        array: u32,
+        index: Box<Expr>,
+    },
+    Unary {
+        operator: UnaryOperator,
+        operand: Box<Expr>,
+    },
+    /// An expression in parentheses.
+    Parenthesized(Box<Expr>),
+    /// Operators one after another, which group to the left: `a - b + c` is `(a - b) + c`.
+    Chain {
+        first: Box<Expr>,
+        rest: Vec<(Infix, Expr)>,
+    },
+    /// `condition ? then : otherwise`.
+    Conditional {
+        condition: Box<Expr>,
+        then: Box<Expr>,
+        otherwise: Box<Expr>,
+    },
+}

@@ -1,0 +1,83 @@
+// Statements as they are read, with names.
+
+use crate::raw_expressions::{Name, RawExpr};
+
+/// A declaration of one name, an assignment, or a call.
+#[derive(Debug, Drop)]
+pub enum RawSimple {
+    /// `int name;`
+    DeclareScalar {
+        name: Name,
+    },
+    /// `int name[words];`, with the number that stands in the text.
+    DeclareArray {
+        name: Name,
+        words: u32,
+    },
+    /// `int name = value;`
+    DeclareWith {
+        name: Name,
+        value: RawExpr,
+    },
+    /// `name = value`
+    Set {
+        name: Name,
+        value: RawExpr,
+    },
+    /// `name[index] = value`
+    SetElement {
+        name: Name,
+        index: RawExpr,
+        value: RawExpr,
+    },
+    /// `name(arguments)`
+    Call {
+        name: Name,
+        arguments: Vec<RawExpr>,
+    },
+    /// `name[index](argument)`
+    TableCall {
+        name: Name,
+        index: RawExpr,
+        argument: RawExpr,
+    },
+}
+
+/// A statement with names. `at` is the place of the statement's keyword.
+#[derive(Debug, Drop)]
+pub enum RawStmt {
+    Simple(RawSimple),
+    /// `;`
+    Empty,
+    Block(Vec<RawStmt>),
+    If {
+        condition: RawExpr,
+        then: Box<RawStmt>,
+    },
+    IfElse {
+        condition: RawExpr,
+        then: Box<RawStmt>,
+        otherwise: Box<RawStmt>,
+    },
+    While {
+        condition: RawExpr,
+        body: Box<RawStmt>,
+    },
+    /// `for (init; condition; step) body`. Declarations of several names are several entries of `init`.
+    For {
+        init: Vec<RawSimple>,
+        condition: Option<RawExpr>,
+        step: Option<RawSimple>,
+        body: Box<RawStmt>,
+    },
+    Break {
+        at: u32,
+    },
+    Continue {
+        at: u32,
+    },
+    Return {
+        at: u32,
+        value: Option<RawExpr>,
+    },
+}

@@ -1,0 +1,111 @@
+// Calls and statements whose names have become numbers.
+
+use crate::expressions::Expr;
+use crate::operators::ModelledCall;
+
+/// A call, with the number of its site. Its arguments have no calls in them.
+#[derive(Debug, Drop)]
+pub enum Call {
+    Function {
+        site: u32,
+        function: u32,
+        arguments: Vec<Expr>,
+    },
+    /// `table[index](argument)`, a call of the table's member at the index.
+    Table {
+        site: u32,
+        table: u32,
+        index: Expr,
+        argument: Expr,
+    },
+    /// `spawn(function, argument)`, which starts a thread.
+    Spawn {
+        site: u32,
+        function: u32,
+        argument: Expr,
+    },
+    Modelled {
+        site: u32,
+        call: ModelledCall,
+        arguments: Vec<Expr>,
+    },
+}
+
+/// What is assigned or returned: the value of an expression, or the result of a call.
+#[derive(Debug, Drop)]
+pub enum RightSide {
+    Expr(Expr),
+    Call(Call),
+}
+
+/// A statement that has no statement in it and leaves no loop and no function: a declaration of one
+/// name, an assignment, or a call.
+#[derive(Debug, Drop)]
+pub enum Simple {
+    /// `int x;`
+    DeclareScalar {
+        variable: u32,
+    },
+    /// `int x[words];`
+    DeclareArray {
+        variable: u32,
+        words: u32,
+    },
+    /// `int x = value;`
+    DeclareWith {
+        variable: u32,
+        value: RightSide,
+    },
+    SetLocal {
+        variable: u32,
+        value: RightSide,
+    },
+    SetGlobal {
+        global: u32,
+        value: RightSide,
+    },
+    SetLocalElement {
+        array: u32,
+        index: Expr,
+        value: RightSide,
+    },
+    SetGlobalElement {
+        array: u32,
+        index: Expr,
+        value: RightSide,
+    },
+    /// A call whose result, if it gives one, is dropped.
+    Call(Call),
+}
+
+/// A statement (ISO/IEC 9899:2018, 6.8).
+#[derive(Debug, Drop)]
+pub enum Stmt {
+    Simple(Simple),
+    /// `;`
+    Empty,
+    Block(Vec<Stmt>),
+    If {
+        condition: Expr,
+        then: Box<Stmt>,
+    },
+    IfElse {
+        condition: Expr,
+        then: Box<Stmt>,
+        otherwise: Box<Stmt>,
+    },
+    While {
+        condition: Expr,
+        body: Box<Stmt>,
+    },
+    /// `for (init; condition; step) body`. Declarations of several names are several entries of `init`.
+    For {
+        init: Vec<Simple>,
+        condition: Option<Expr>,
+        step: Option<Simple>,
+        body: Box<Stmt>,
+    },
+    Break,
+    Continue,
+    Return(Option<RightSide>),
+}
