@@ -1,0 +1,5 @@
+pub mod ChoiceLemmas
+pub mod OrderLemmas
+pub mod QueueLemmas
+pub mod ScoreLemmas
+pub mod TestLemmas

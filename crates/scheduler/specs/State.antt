@@ -1,0 +1,49 @@
+-- What a scheduler means: the queue of each node, the choice that last took each node, and the number of choices.
+use Rattle.std.specs.Prelude.{ℕ, ◌≡◌, ◌≢◌, ◌+◌, ◌^◌, ◌<◌, ◌≤◌, List, [], ◌∷◌, ◌++◌, length, slice_index}
+use Rattle.std.specs.List.{AllByRecursion}
+use Rattle.cap_word.specs.declared.threads.ThreadId.{ThreadId}
+use Rattle.scheduler.specs.declared.choices.Choice.{Choice}
+use Rattle.scheduler.specs.Queues.{threads_at, without}
+
+pub record SchedulerState : Type 0 where
+  pub waiting : List Choice
+  pub lasts : List ℕ
+  pub noted : ℕ
+
+-- the threads that wait at a node, in order of joining
+abbrev pub queue_of : SchedulerState → ℕ → List ThreadId
+queue_of scheduler node = threads_at scheduler.waiting node
+
+-- the number, from 1, of the choice that last took a node, or 0
+abbrev pub last_of : SchedulerState → ℕ → ℕ
+last_of scheduler node = slice_index scheduler.lasts node
+
+-- nothing waits and nothing was chosen
+abbrev pub started : SchedulerState
+started = record { waiting = []; lasts = []; noted = 0 }
+
+-- the queues, the choices that last took the nodes and the number of choices are as before
+pub record IsUnchanged (old new : SchedulerState) : Type 0 where
+  pub queues : (node : ℕ) → queue_of new node ≡ queue_of old node
+  pub lasts : (node : ℕ) → last_of new node ≡ last_of old node
+  pub noted : new.noted ≡ old.noted
+
+-- a thread joined the end of a node's queue, and nothing else changed
+pub record IsJoined (old new : SchedulerState) (node : ℕ) (thread : ThreadId) : Type 0 where
+  pub queue : queue_of new node ≡ queue_of old node ++ thread ∷ []
+  pub others : (other : ℕ) → other ≢ node → queue_of new other ≡ queue_of old other
+  pub lasts : (other : ℕ) → last_of new other ≡ last_of old other
+  pub noted : new.noted ≡ old.noted
+
+-- a choice was noted: its thread left its queue, it is the last that took its node, and nothing else changed
+pub record IsNoted (old new : SchedulerState) (choice : Choice) : Type 0 where
+  pub queue : queue_of new choice.node ≡ without choice.thread (queue_of old choice.node)
+  pub others : (other : ℕ) → other ≢ choice.node → queue_of new other ≡ queue_of old other
+  pub last : last_of new choice.node ≡ old.noted + 1
+  pub other_lasts : (other : ℕ) → other ≢ choice.node → last_of new other ≡ last_of old other
+  pub noted : new.noted ≡ old.noted + 1
+
+-- what a scheduler keeps: each node at which a thread waits has a place for its last choice
+pub record IsScheduler (scheduler : SchedulerState) : Type 0 where
+  pub placed : AllByRecursion (λ w. w.node < length scheduler.lasts) scheduler.waiting
+  pub counted : scheduler.noted ≤ 2 ^ 40

@@ -1,0 +1,19 @@
+// The scheduler: which thread goes on next, by the blocking graph and the pressure on resources.
+//
+// Threads wait in a queue for each node of the blocking graph (`Scheduler::enqueue`). A choice
+// (`Scheduler::choose`) takes the node at which a segment is expected to change the resources under
+// pressure for the better, least score first, and of that node the first thread that may go on. New
+// arrivals wait while the gate is closed and another thread can go on. `Scheduler::note_choice` takes
+// the thread out of its queue. The runner cites `specs/LawfulChoice.antt`, which says what a choice is,
+// and not how it is found. Source: Capriccio (von Behren et al., SOSP 2003, "Resource-Aware Scheduling").
+#![tactic(auto)]
+
+mod choices;
+mod choosing;
+mod eligibility;
+mod queues;
+mod scheduler;
+mod scores;
+
+pub use choices::Choice;
+pub use scheduler::Scheduler;
