@@ -1,0 +1,23 @@
+// The log of a run, line by line.
+//
+// An `Entry` is one line of the log: what was delivered or dropped, which thread ran, what it put out, where it blocked
+// or ended, an edge of the blocking graph, or why the run stopped. `put_entry` writes an entry's line to a sink, and
+// `read_entry` reads a line back. Both cite one definition of the text of an entry, and `log_text` is the text of a list
+// of them, which the law of a whole run cites. The lines are those of Capriccio's log: a word and fields with one blank
+// between, numbers as canonical decimals, LF at the end.
+#![tactic(auto)]
+
+mod averages;
+mod entries;
+mod fields;
+mod lists;
+mod parts;
+mod reading;
+#[cfg(test)]
+mod tests;
+mod writing;
+
+pub use averages::Averages;
+pub use entries::{Entry, Item, StopLine};
+pub use reading::{LogError, read_entry};
+pub use writing::{PutError, put_entry};
