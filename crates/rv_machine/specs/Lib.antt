@@ -1,0 +1,5 @@
+pub mod Bytes
+pub mod Effect
+pub mod Registers
+pub mod Rows
+pub mod Step

@@ -1,0 +1,9 @@
+/// The registers of the machine (RISC-V unprivileged manual, chapter "RV32I", section "Programmers' Model
+/// for Base Integer ISA").
+#[derive(Clone, Copy, Debug, PartialEq, Eq)]
+pub struct Regs {
+    /// The place of the instruction.
+    pub pc: u32,
+    /// The values of the registers, by number. What stands at 0 is never read.
+    pub x: [u32; 32],
+}
