@@ -1,0 +1,15 @@
+pub mod Immediate
+pub mod Leading
+pub mod Straight
+pub mod Start
+pub mod Placed
+pub mod Logged
+pub mod Reached
+pub mod Ranges
+pub mod WholeRun
+pub mod PutText
+pub mod Spelled
+pub mod Lines
+pub mod Ends
+pub mod ServedLog
+pub mod Causes

@@ -1,0 +1,14 @@
+pub mod Code
+pub mod Grammar
+pub mod Words
+pub mod Source
+pub mod Log
+pub mod Lawful
+pub mod Context
+pub mod Execution
+pub mod Machine
+pub mod Segment
+pub mod Served
+pub mod Refusal
+pub mod Command
+pub mod Answer

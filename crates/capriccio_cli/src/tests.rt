@@ -1,0 +1,242 @@
+// The command over objects in memory, with ample memory.
+use super::capriccio;
+use cap_io::{CleanShelf, CleanSink, CleanSource, MemShelf, MemSink, MemSource};
+use std::alloc::{AllocError, Global};
+use std::test::Fail;
+
+const PUT_SEVEN: &[u8] = b"int main() { put(7); return 0; }\n";
+
+const LOG_OF_SEVEN: &[u8] = b"run 0 0 0\nout 0 7\nend 0 17 1024\nedge 0 1 1 4352 -256\nstop done\n";
+
+/// Words of a command line.
+fn words_of(alloc: Global, words: &[&str]) -> Result<Vec<String>, AllocError> {
+    let mut all = Vec::new(alloc);
+    for word in words {
+        all.push(String::from_str(alloc, word)?)?;
+    }
+    Ok(all)
+}
+
+/// A shelf's one file, `put.c`.
+fn files_of(alloc: Global, source: &[u8]) -> Result<Vec<(String, Vec<u8>)>, AllocError> {
+    let mut files = Vec::new(alloc);
+    files.push((String::from_str(alloc, "put.c")?, source.to_vec(alloc)?))?;
+    Ok(files)
+}
+
+/// The status, and what the output and standard error took, of the command over objects that never fail.
+fn answer(
+    alloc: Global,
+    words: &[&str],
+    source: &[u8],
+    trace: &[u8],
+) -> Result<(u8, Vec<u8>, Vec<u8>), AllocError> {
+    let words = words_of(alloc, words)?;
+    let mut shelf = CleanShelf::new(alloc, files_of(alloc, source)?);
+    let mut trace = CleanSource::new(trace.to_vec(alloc)?);
+    let mut out = CleanSink::new(alloc);
+    let mut err = CleanSink::new(alloc);
+    let status = capriccio(alloc, &words, &mut shelf, &mut trace, &mut out, &mut err);
+    Ok((
+        status,
+        out.bytes().to_vec(alloc)?,
+        err.bytes().to_vec(alloc)?,
+    ))
+}
+
+#[test]
+fn rows(rt: HostRuntime) -> Result<(), Fail> {
+    let serve: &[&str] = &["serve", "put.c"];
+    let none: &[u8] = b"";
+    let table: [(&[&str], &[u8], &[u8], u8, &[u8], &[u8]); 12] = [
+        (
+            serve,
+            b"int main() { return 0; }",
+            none,
+            0,
+            b"run 0 0 0\nend 0 11 1024\nedge 0 1 1 2816 -256\nstop done\n",
+            none,
+        ),
+        (serve, PUT_SEVEN, none, 0, LOG_OF_SEVEN, none),
+        (
+            serve,
+            b"int main() { put(2147483647); put(0); return 0; }",
+            none,
+            0,
+            b"run 0 0 0\nout 0 2147483647\nout 0 0\nend 0 23 1024\nedge 0 1 1 5888 -256\nstop done\n",
+            none,
+        ),
+        (
+            serve,
+            b"int main() { put(1) return 0; }",
+            none,
+            2,
+            none,
+            b"source: NotBuilt\n",
+        ),
+        (
+            serve,
+            b"int main() { put(01); return 0; }",
+            none,
+            2,
+            none,
+            b"source: NotBuilt\n",
+        ),
+        (
+            serve,
+            b"int main() { put(2147483648); return 0; }",
+            none,
+            2,
+            none,
+            b"source: NotBuilt\n",
+        ),
+        (
+            serve,
+            b"int main() { return 0; }\n\n",
+            none,
+            2,
+            none,
+            b"source: NotBuilt\n",
+        ),
+        (serve, PUT_SEVEN, b"x", 4, none, b"trace: NotBuilt\n"),
+        (
+            &["serve", "other.c"],
+            PUT_SEVEN,
+            none,
+            9,
+            none,
+            b"absent: source\n",
+        ),
+        (&["serve"], PUT_SEVEN, none, 1, none, b"usage: not built\n"),
+        (
+            &["serve", "-put.c"],
+            PUT_SEVEN,
+            none,
+            1,
+            none,
+            b"usage: not built\n",
+        ),
+        (
+            &["run", "put.c"],
+            PUT_SEVEN,
+            none,
+            1,
+            none,
+            b"usage: not built\n",
+        ),
+    ];
+    for (words, source, trace, status, out, err) in table {
+        let given = answer(rt.alloc(), words, source, trace)?;
+        assert_eq!(rt; given.0, status);
+        assert_eq!(rt; given.1.as_slice(), out);
+        assert_eq!(rt; given.2.as_slice(), err);
+    }
+    Ok(())
+}
+
+/// A source of so many puts, of 0, 1 and so on.
+fn source_of(alloc: Global, puts: u32) -> Result<String, AllocError> {
+    let mut source = String::from_str(alloc, "int main() {")?;
+    for number in 0..puts {
+        write!(source, " put({number});")?;
+    }
+    source.push_str(" return 0; }\n")?;
+    Ok(source)
+}
+
+/// The log of such a source, by the rule that its run has 11 instructions and 6 for each put.
+fn log_of_puts(alloc: Global, puts: u32) -> Result<String, AllocError> {
+    let cost = 11 + 6 * u64::from(puts);
+    let mut log = String::from_str(alloc, "run 0 0 0\n")?;
+    for number in 0..puts {
+        writeln!(log, "out 0 {number}")?;
+    }
+    writeln!(log, "end 0 {cost} 1024")?;
+    let average = 256 * cost;
+    writeln!(log, "edge 0 1 1 {average} -256")?;
+    writeln!(log, "stop done")?;
+    Ok(log)
+}
+
+#[test]
+fn many_puts(rt: HostRuntime) -> Result<(), Fail> {
+    for (puts, status) in [(999, 0), (1000, 0), (1001, 2)] {
+        let source = source_of(rt.alloc(), puts)?;
+        let given = answer(rt.alloc(), &["serve", "put.c"], source.as_bytes(), b"")?;
+        assert_eq!(rt; given.0, status);
+        let log = if status == 0 {
+            log_of_puts(rt.alloc(), puts)?
+        } else {
+            String::new(rt.alloc())
+        };
+        assert_eq!(rt; given.1.as_slice(), log.as_bytes());
+    }
+    let long = vec![in rt.alloc(); b' '; 1048577]?;
+    let given = answer(rt.alloc(), &["serve", "put.c"], long.as_slice(), b"")?;
+    assert_eq!(rt; given.0, 2);
+    assert_eq!(rt; given.2.as_slice(), b"source: TooLong\n".as_slice());
+    Ok(())
+}
+
+/// The call that is to fail, or none where it is 0.
+fn calls_of(alloc: Global, call: u64) -> Result<Vec<u64>, AllocError> {
+    let mut calls = Vec::new(alloc);
+    if call > 0 {
+        calls.push(call)?;
+    }
+    Ok(calls)
+}
+
+/// The same of a shelf.
+fn loads_of(alloc: Global, call: u64) -> Result<Vec<(u64, u32)>, AllocError> {
+    let mut calls = Vec::new(alloc);
+    if call > 0 {
+        calls.push((call, 0))?;
+    }
+    Ok(calls)
+}
+
+/// The status, and what the output and standard error took, where calls of the shelf, the trace, the output and standard
+/// error fail: 0 stands for none. The output takes 10 bytes a call.
+fn failing(alloc: Global, fails: [u64; 4]) -> Result<(u8, Vec<u8>, Vec<u8>), AllocError> {
+    let [load, read, write, line] = fails;
+    let words = words_of(alloc, &["serve", "put.c"])?;
+    let mut shelf = MemShelf::new(alloc, files_of(alloc, PUT_SEVEN)?, loads_of(alloc, load)?);
+    let mut trace = MemSource::new(Vec::new(alloc), 1, calls_of(alloc, read)?);
+    let mut out = MemSink::new(alloc, 10, calls_of(alloc, write)?);
+    let mut err = MemSink::new(alloc, 100, calls_of(alloc, line)?);
+    let status = capriccio(alloc, &words, &mut shelf, &mut trace, &mut out, &mut err);
+    let taken = out.bytes().to_vec(alloc)?;
+    let line = err.bytes().to_vec(alloc)?;
+    Ok((status, taken, line))
+}
+
+#[test]
+fn failing_objects(rt: HostRuntime) -> Result<(), Fail> {
+    let read: &[u8] = b"fault: read\n";
+    let write: &[u8] = b"fault: write\n";
+    let none: &[u8] = b"";
+    let table: [([u64; 4], u8, usize, &[u8]); 11] = [
+        ([1, 0, 0, 0], 6, 0, read),
+        ([0, 1, 0, 0], 6, 0, read),
+        ([0, 0, 1, 0], 7, 0, write),
+        ([0, 0, 2, 0], 7, 10, write),
+        ([0, 0, 3, 0], 7, 20, write),
+        ([0, 0, 4, 0], 7, 30, write),
+        ([0, 0, 5, 0], 7, 40, write),
+        ([0, 0, 6, 0], 7, 50, write),
+        ([0, 0, 7, 0], 7, 60, write),
+        ([0, 0, 8, 0], 0, 63, none),
+        ([0, 0, 1, 1], 7, 0, none),
+    ];
+    for (fails, status, taken, err) in table {
+        let given = failing(rt.alloc(), fails)?;
+        assert_eq!(rt; given.0, status);
+        assert_eq!(rt;
+            given.1.as_slice(),
+            LOG_OF_SEVEN.get(..taken).ok_or("a prefix")?
+        );
+        assert_eq!(rt; given.2.as_slice(), err);
+    }
+    Ok(())
+}
