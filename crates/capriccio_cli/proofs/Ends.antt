@@ -1,10 +1,10 @@
 -- A run of the machine stops where the compiled main ends.
 use Rattle.std.proofs.Common.{◌≡◌, ◌≢◌, ℕ, suc, ◌+◌, ◌-◌, ◌*◌, ◌<◌, List, [], length, Some, None, sym, ap, ◌∙◌, subst, arith, ⊎_elim}
 use Rattle.std.proofs.lemmas.Bool.{cases_lt}
-use Rattle.machine_world.specs.World.{World}
+use Rattle.machine_world.specs.World.{World, thread_of}
 use Rattle.machine_world.specs.Effect.{Wrong, step}
 use Rattle.machine_world.specs.Run.{world_on, world_after, puts_after, and_then_after}
-use Rattle.machine_world.proofs.Runs.{world_after-add, none_past_end}
+use Rattle.machine_world.proofs.Runs.{world_after-add, none_past_end, same_count}
 use Rattle.capriccio_cli.specs.declared.segments.Segment.{Segment}
 use Rattle.capriccio_cli.specs.declared.segments.Ending.TheVariants.{Ended, Faulted, OutOfFuel}
 use Rattle.capriccio_cli.specs.Segment.{IsSegment, StopsAt}
@@ -14,24 +14,13 @@ use Rattle.capriccio_cli.proofs.WholeRun.{RunsWell}
 none_is_no_world : (world : World) → None ≡ Some world → ⊥
 none_is_no_world world e = cc
 
--- two runs from one world that end without a thread have equally many steps
-same_count : (code : List ℕ) (m n : ℕ) (first a b : World) → world_after code 0 m first ≡ Some a → a.threads ≡ [] → world_after code 0 n first ≡ Some b → b.threads ≡ [] → m ≡ n
-same_count code m n first a b ea na eb nb =
-    ⊎_elim
-    (λ lt. absurd (none_is_no_world b (sym (none_past_end code 0 m n first a ea na lt) ∙ eb)))
-    (λ ge. ⊎_elim
-    (λ lt. absurd (none_is_no_world a (sym (none_past_end code 0 n m first b eb nb lt) ∙ ea)))
-    (λ ge'. omega arith)
-    (cases_lt n m))
-    (cases_lt m n)
-
 -- a run to a world with a thread has fewer steps than one that ends without
 fewer : (code : List ℕ) (m n : ℕ) (first a b : World) → world_after code 0 m first ≡ Some a → a.threads ≢ [] → world_after code 0 n first ≡ Some b → b.threads ≡ [] → m < n
 fewer code m n first a b ea live eb nb =
     ⊎_elim
     (λ lt. lt)
     (λ ge. ⊎_elim
-    (λ lt. absurd (none_is_no_world a (sym (none_past_end code 0 n m first b eb nb lt) ∙ ea)))
+    (λ lt. absurd (none_is_no_world a (sym (none_past_end code 0 n m first b eb (ap (thread_of 0) nb) lt) ∙ ea)))
     (λ ge'.
     let same : m ≡ n = omega arith in
     let worlds : Some a ≡ Some b = sym ea ∙ ap (λ k. world_after code 0 k first) same ∙ eb in
@@ -72,7 +61,7 @@ module _ (numbers : List ℕ) (world new : World) (fuel : ℕ) (segment : Segmen
   pub is_whole : (r : RunsWell numbers world) → IsSegment (code_of numbers) fuel world new segment → segment.ending ≡ Ended → IsWhole r
   is_whole r s e =
       let stops : StopsAt (code_of numbers) fuel segment.cost new Ended = subst (StopsAt (code_of numbers) fuel segment.cost new) e s.stops in
-      let cost : segment.cost ≡ 11 + 6 * length numbers = same_count (code_of numbers) segment.cost (11 + 6 * length numbers) world new r.last s.reaches.after stops r.leads.after r.nobody in
+      let cost : segment.cost ≡ 11 + 6 * length numbers = same_count (code_of numbers) 0 segment.cost (11 + 6 * length numbers) world new r.last s.reaches.after (ap (thread_of 0) stops) r.leads.after (ap (thread_of 0) r.nobody) in
       let worlds : Some new ≡ Some r.last = sym s.reaches.after ∙ ap (λ k. world_after (code_of numbers) 0 k world) cost ∙ r.leads.after in
       let equal : new ≡ r.last = cc in
       record {

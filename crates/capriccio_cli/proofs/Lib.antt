@@ -13,3 +13,4 @@ pub mod Lines
 pub mod Ends
 pub mod ServedLog
 pub mod Causes
+pub mod OnlyLog

@@ -1,5 +1,5 @@
 -- The run of the compiled main, whole.
-use Rattle.std.proofs.Common.{◌≡◌, ℕ, suc, ◌+◌, ◌-◌, ◌*◌, ◌<◌, List, [], ◌∷◌, ◌++◌, Some, refl, sym, ap, ◌∙◌, subst, arith, length, map, length-append}
+use Rattle.std.proofs.Common.{◌≡◌, ◌≢◌, ℕ, suc, ◌+◌, ◌-◌, ◌*◌, ◌<◌, List, [], ◌∷◌, ◌++◌, Some, refl, sym, ap, ◌∙◌, subst, arith, length, map, length-append}
 use Rattle.std.specs.List.{AllByRecursion, flat_map}
 use Rattle.std.proofs.lemmas.List.{append-nil}
 use Rattle.rv_code.proofs.Inverse.{decoding-encoding}
@@ -25,6 +25,7 @@ length_main numbers = omega (arith, length_puts numbers, length-append (flat_map
 pub record RunsWell (numbers : List ℕ) (world : World) : Type 0 where
   pub last : World
   pub leads : Leads (code_of numbers) (main_fact (length (main_code numbers) - 2)) (11 + 6 * length numbers) world numbers last
+  pub alive : world.threads ≢ []
   pub nobody : last.threads ≡ []
   pub count_before : world.pool.count ≡ 1024
   pub count_after : last.pool.count ≡ 1024
@@ -47,6 +48,7 @@ main_runs numbers world fit s =
     record {
       last = end.0;
       leads = subst (λ w. Leads code (main_fact words) (11 + 6 * length numbers) w numbers end.0) (sym start.world_is) end.1.1;
+      alive = λ none. let some = ap (λ w. w.threads) start.world_is in let bad : ⊥ = cc in bad;
       nobody = end.1.0.nobody;
       count_before = ap (λ w. w.pool.count) start.world_is;
       count_after = end.1.0.count_is;

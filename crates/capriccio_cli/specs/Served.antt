@@ -17,11 +17,12 @@ code_of numbers = map encoding (main_code numbers)
 abbrev pub main_fact : ℕ → FunctionFact
 main_fact words = record { entry = 4104; words = words; frame = 16; ra = 12; bound = 16 }
 
--- the text is that of a lawful log of this main, over 1,024 chunks of 1,024 words, and the log is good
+-- the text is that of the lawful log of this main, over 1,024 chunks of 1,024 words: there is no other, and it is good
 pub record IsServed (numbers text : List ℕ) : Type 0 where
   pub start : World
   pub starts : start_world 1024 1024 4104 ≡ Some start
   pub entries : List Entry
   pub lawful : IsLawfulFrom (code_of numbers) (start_of start numbers) entries
+  pub only : (others : List Entry) → IsLawfulFrom (code_of numbers) (start_of start numbers) others → others ≡ entries
   pub good : IsGoodFrom (code_of numbers) (main_fact (length (main_code numbers) - 2)) start entries
   pub text_is : text ≡ text_of entries
