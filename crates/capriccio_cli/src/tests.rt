@@ -1,5 +1,6 @@
 // The command over objects in memory, with ample memory.
 use super::capriccio;
+use super::code::compile;
 use cap_io::{CleanShelf, CleanSink, CleanSource, MemShelf, MemSink, MemSource};
 use std::alloc::{AllocError, Global};
 use std::test::Fail;
@@ -238,5 +239,19 @@ fn failing_objects(rt: HostRuntime) -> Result<(), Fail> {
         );
         assert_eq!(rt; given.2.as_slice(), err);
     }
+    Ok(())
+}
+
+/// The 24 words of the code of `int main() { put(7); return 0; }`, as GNU binutils assembles them for RV32IM.
+const CODE_OF_SEVEN: [u32; 24] = [
+    0x01e00893, 0x00000073, 0xff010113, 0x00112623, 0x000002b7, 0x00728293, 0x00512023, 0x00012503,
+    0x00300893, 0x00000073, 0x000002b7, 0x00028293, 0x00512023, 0x00012503, 0x00c12083, 0x01010113,
+    0x00008067, 0x000002b7, 0x00028293, 0x00512023, 0x00012503, 0x00c12083, 0x01010113, 0x00008067,
+];
+
+#[test]
+fn code_words(rt: HostRuntime) -> Result<(), Fail> {
+    let code = compile(rt.alloc(), &[7])?;
+    assert_eq!(rt; code.as_slice(), CODE_OF_SEVEN.as_slice());
     Ok(())
 }
