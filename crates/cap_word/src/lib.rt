@@ -4,8 +4,8 @@
 // numbers from 0 to 2^32 - 1, which serves the meaning of CapC too. A call gets and gives `u32`, and
 // its contract names a formula over whole numbers, of `specs/Word.antt`, which the crates above cite.
 // Shared types: who runs (`ThreadId`), where it blocked (`SiteKey`), what it asks for (`Block`, `Ask`),
-// how a run ends (`TrapKind`, `Stop`, `FaultKind`), which limit was exceeded (`Which`), and the trait
-// `Ready`, by which the scheduler asks a world of threads.
+// how a run ends (`TrapKind`, `Stop`, `FaultKind`), which limit was exceeded (`Which`), a list of words
+// seen as a list (`Words`), and the trait `Ready`, by which the scheduler asks a world of threads.
 #![tactic(auto)]
 
 mod calls;
@@ -16,6 +16,7 @@ mod site_keys;
 mod stops;
 mod threads;
 mod traps;
+mod word_lists;
 mod words;
 
 pub use calls::{Ask, Block};
@@ -26,6 +27,7 @@ pub use site_keys::SiteKey;
 pub use stops::Stop;
 pub use threads::ThreadId;
 pub use traps::TrapKind;
+pub use word_lists::Words;
 pub use words::{
     add, div, divu, mul, mulh, mulhsu, mulhu, rem, remu, sll, slt, sltu, sra, srl, sub,
 };

@@ -1,8 +1,8 @@
 ghost use Rattle.std.specs.Prelude.{ℕ, nat_lt, slice_get};
 
 use super::*;
-use cap_word::FaultKind;
-use stack_image::{Image, Words};
+use cap_word::{FaultKind, Words};
+use stack_image::Image;
 use std::alloc::{AllocError, Global};
 use std::test::Fail;
 

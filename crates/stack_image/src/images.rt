@@ -1,4 +1,4 @@
-use crate::word_lists::Words;
+use cap_word::Words;
 
 /// What the machine is started from.
 #[derive(Debug, Drop, PartialEq, Eq)]

@@ -11,11 +11,9 @@
 mod images;
 mod reading;
 mod refusals;
-mod word_lists;
 mod writing;
 
 pub use images::Image;
 pub use reading::read_image;
 pub use refusals::ImageError;
-pub use word_lists::Words;
 pub use writing::write_image;

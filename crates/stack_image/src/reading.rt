@@ -6,8 +6,7 @@ ghost use Rattle.stack_image.specs.Reading.{words_of, behind, image_of};
 
 use crate::images::Image;
 use crate::refusals::ImageError;
-use crate::word_lists::Words;
-use cap_word::Which;
+use cap_word::{Which, Words};
 use std::alloc::{AllocError, Global};
 
 const MAGIC: &[u8] = b"CAP1";
