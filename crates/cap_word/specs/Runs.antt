@@ -1,6 +1,6 @@
 -- Machines that go on by themselves, ask a world outside and wait for its answer, or stop; and their runs.
 -- A thread of a source and a thread of flat code are such machines.
-use Rattle.std.specs.Prelude.{◌≡◌, ℕ, zero, suc, List, [], ◌∷◌, Option, Some, None}
+use Rattle.std.specs.Prelude.{◌≡◌, ℕ, zero, suc, List, ◌∷◌, Option, Some, None}
 
 -- what one step leads to, from states S; W is what a machine keeps while it waits, Q what it asks, E how it stops
 pub data Move (S W Q E : Type 0) : Type 0 where
