@@ -1,3 +1,6 @@
 pub mod Limit
 pub mod SiteKey
 pub mod Word
+pub mod Rows
+pub mod Calls
+pub mod Runs
