@@ -13,3 +13,4 @@ pub mod OneProof
 pub mod ProgramView
 pub mod RawProgramView
 pub mod Sample
+pub mod WholeCalls
