@@ -12,4 +12,3 @@ pub mod Programs
 pub mod OneProof
 pub mod ProgramView
 pub mod RawProgramView
-pub mod Sample
