@@ -2,14 +2,14 @@
 ghost use Rattle.std.specs.Prelude.{◌≡◌};
 ghost use Rattle.c_lex.specs.Bytes.{is_white_space, is_letter, is_word_byte};
 
-/// Space, tab, LF, vertical tab, form feed or CR (ISO C 2011, 6.4, white-space characters).
+/// Space, tab, LF, vertical tab, form feed or CR (ISO/IEC 9899:2018, 6.4, white-space characters).
 pub(crate) fn is_white_space(byte: u8) -> bool
     ensures { result ≡ is_white_space byte }
 {
     byte == b' ' || (byte >= 9 && byte <= 13)
 }
 
-/// An ASCII letter or `_` (ISO C 2011, 6.4.2.1, nondigit).
+/// An ASCII letter or `_` (ISO/IEC 9899:2018, 6.4.2.1, nondigit).
 pub(crate) fn is_letter(byte: u8) -> bool
     ensures { result ≡ is_letter byte }
 {

@@ -37,7 +37,7 @@ fn end_of_comment(text: &[u8]) -> Option<usize>
 }
 
 /// The length of the comment that begins with `//`: up to before the next LF, or up to the end
-/// (ISO C 2011, 6.4.9).
+/// (ISO/IEC 9899:2018, 6.4.9).
 pub(crate) fn line_comment_length(text: &[u8]) -> usize
     requires { BeginsWith text.now (codes "//") }
     ensures within { result ≤ length text.now }
@@ -47,7 +47,7 @@ pub(crate) fn line_comment_length(text: &[u8]) -> usize
 }
 
 /// The length of the comment that begins with `/*`: up to the next `*/`, or `None` where there is none
-/// (ISO C 2011, 6.4.9).
+/// (ISO/IEC 9899:2018, 6.4.9).
 pub(crate) fn block_comment_length(text: &[u8]) -> Option<usize>
     requires { BeginsWith text.now (codes "/*") }
     ensures within { IfSome result (λ end. end ≤ length text.now) }

@@ -3,8 +3,8 @@ ghost use Rattle.std.specs.Prelude.{◌≡◌, ◌≢◌, IfSome, IfNone};
 ghost use Rattle.c_lex.specs.declared.keywords.Keyword.{Keyword};
 ghost use Rattle.c_lex.specs.Keywords.{keyword_text};
 
-/// A keyword of C (ISO C 2011, 6.4.1). Those that the subset has no use for are keywords too.
-#[derive(Clone, Copy, Debug, PartialEq, Eq, Hash)]
+/// A keyword of C (ISO/IEC 9899:2018, 6.4.1). Those that the subset has no use for are keywords too.
+#[derive(Clone, Copy, PartialEq, Eq)]
 pub enum Keyword {
     /// `auto`
     Auto,

@@ -8,7 +8,7 @@ use crate::pieces::{Piece, first_piece};
 use crate::tokens::{LexError, Token};
 use std::alloc::Global;
 
-/// The tokens of a source of at most 1,048,576 bytes, in order, by ISO C 2011, 6.4, as far as the subset goes.
+/// The tokens of a source of at most 1,048,576 bytes, in order, by ISO/IEC 9899:2018, 6.4, as far as the subset goes.
 ///
 /// # Errors
 ///
@@ -44,6 +44,3 @@ pub fn lex(alloc: Global, source: &[u8]) -> Result<Vec<Token>, LexError>
     }
     Ok(tokens)
 }
-
-#[cfg(test)]
-mod tests;

@@ -7,7 +7,7 @@
 // `lex` is the contract for the crate above: it answers the tokens exactly where `AreTokensOf` holds of the
 // source and the list (specs/Tokens.antt), and else the refusal that `IsLexErrorOf` gives.
 //
-// The rules are those of ISO C 2011, 6.4, of ASCII alone and without strings, characters, suffixes and octal.
+// The rules are those of ISO/IEC 9899:2018, 6.4, of ASCII alone and without strings, characters, suffixes and octal.
 #![tactic(auto)]
 
 mod bytes;

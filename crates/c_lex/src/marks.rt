@@ -3,8 +3,9 @@ ghost use Rattle.std.specs.Prelude.{◌≡◌, ◌≤◌, length, IfSome, IfNone
 ghost use Rattle.c_lex.specs.declared.marks.Mark.{Mark};
 ghost use Rattle.c_lex.specs.Marks.{mark_text, BeginsWith};
 
-/// A mark: an operator or a separator of C (ISO C 2011, 6.4.6). Those that the subset has no use for are marks too.
-#[derive(Clone, Copy, Debug, PartialEq, Eq, Hash)]
+/// A mark: an operator or a separator of C (ISO/IEC 9899:2018, 6.4.6). Those that the subset has no use for are marks
+/// too.
+#[derive(Clone, Copy, PartialEq, Eq)]
 pub enum Mark {
     /// `<<=`
     ShiftLeftAssign,

@@ -29,7 +29,7 @@ fn value_of(digits: &[u8], radix: u32) -> Option<u32>
 }
 
 /// The value of the number that a word is, or `None` where it is no number or one of more than 32 bits
-/// (ISO C 2011, 6.4.4.1, without octal and suffixes).
+/// (ISO/IEC 9899:2018, 6.4.4.1, without octal and suffixes).
 pub(crate) fn number_of(word: &[u8]) -> Option<u32>
     ensures value { IfSome result (λ value. IsNumber word.now value) }
     ensures none { IfNone result ((value : ℕ) → value < 2 ^ 32 → ¬ IsNumber word.now value) }

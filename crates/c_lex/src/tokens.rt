@@ -4,7 +4,7 @@ use crate::marks::Mark;
 use thiserror::Error;
 
 /// A token, with where it stands in the source.
-#[derive(Clone, Copy, Debug, PartialEq, Eq, Hash)]
+#[derive(Clone, Copy, PartialEq, Eq)]
 pub struct Token {
     /// What it is.
     pub kind: TokenKind,
@@ -14,8 +14,8 @@ pub struct Token {
     pub length: u32,
 }
 
-/// What a token is (ISO C 2011, 6.4).
-#[derive(Clone, Copy, Debug, PartialEq, Eq, Hash)]
+/// What a token is (ISO/IEC 9899:2018, 6.4).
+#[derive(Clone, Copy, PartialEq, Eq)]
 pub enum TokenKind {
     /// A name: a letter or `_`, then letters, digits and `_`, and no keyword.
     Name,

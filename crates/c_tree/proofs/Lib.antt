@@ -3,7 +3,6 @@ pub mod Maps
 pub mod ExprEquations
 pub mod StmtEquations
 pub mod Cuts
-pub mod Sample
 pub mod SiteNumbers
 pub mod LongerSizes
 pub mod Pushes

@@ -12,5 +12,4 @@ pub mod Programs
 pub mod OneProof
 pub mod ProgramView
 pub mod RawProgramView
-pub mod Sample
 pub mod WholeCalls

@@ -1,4 +1,4 @@
--- The declared names and the calls of a tree, in the order of the text.
+-- The declared names and the calls of a tree, in the order of the tree: of a `for` the start, the step and the body.
 use Rattle.std.specs.Prelude.{ℕ, ◌+◌, ◌≡◌, List, [], ◌∷◌, ◌++◌, Option, Some, None}
 use Rattle.c_tree.specs.declared.facts.Site.{Site}
 use Rattle.c_tree.specs.declared.facts.SiteKind.{SiteKind}

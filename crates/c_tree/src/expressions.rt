@@ -4,7 +4,7 @@ use crate::operators::{Infix, UnaryOperator};
 
 /// An expression without calls. A variable is numbered within its function, parameters first; a global
 /// is numbered within the program.
-#[derive(Debug, Drop)]
+#[derive(Drop)]
 pub enum Expr {
     /// A number, taken as a word.
     Number(u32),

@@ -4,7 +4,7 @@ use crate::statements::Stmt;
 
 /// A function with a body. It has a variable for each parameter and then for each name that its body
 /// declares, in the order of the text.
-#[derive(Debug, Drop)]
+#[derive(Drop)]
 pub struct Function {
     /// The bytes of its name.
     pub name: Vec<u8>,
@@ -18,28 +18,28 @@ pub struct Function {
 }
 
 /// A global of `words` words, each of which starts at `start`.
-#[derive(Clone, Copy, PartialEq, Eq, Debug)]
+#[derive(Clone, Copy, PartialEq, Eq)]
 pub struct GlobalFact {
     pub words: u32,
     pub start: u32,
 }
 
 /// A table of functions, by their numbers.
-#[derive(Debug, Drop)]
+#[derive(Drop)]
 pub struct TableFact {
     pub members: Vec<u32>,
 }
 
 /// A call in the text, by its number.
-#[derive(Clone, Copy, PartialEq, Eq, Debug)]
+#[derive(Clone, Copy, PartialEq, Eq)]
 pub struct Site {
     pub number: u32,
     pub kind: SiteKind,
 }
 
-/// What is called at a site: a function or a table by its number, a function that a new thread runs, or
-/// a modelled call by the number that the run time knows it by.
-#[derive(Clone, Copy, PartialEq, Eq, Debug)]
+/// What is called at a site: a function or a table by its number, the function that a new thread runs,
+/// by its number too, or a modelled call by the number that the run time knows it by.
+#[derive(Clone, Copy, PartialEq, Eq)]
 pub enum SiteKind {
     Function(u32),
     Table(u32),

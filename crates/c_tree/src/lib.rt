@@ -20,8 +20,6 @@ mod raw_statements;
 mod sites;
 mod statements;
 mod temporaries;
-#[cfg(test)]
-mod tests;
 
 pub use expressions::Expr;
 pub use facts::{Function, GlobalFact, Site, SiteKind, TableFact};

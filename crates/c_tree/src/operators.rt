@@ -1,7 +1,7 @@
 // What stands between, before and in the place of operands: operators and modelled calls.
 
 /// An operator both of whose operands are evaluated (ISO/IEC 9899:2018, 6.5.5 to 6.5.12).
-#[derive(Clone, Copy, PartialEq, Eq, Debug)]
+#[derive(Clone, Copy, PartialEq, Eq)]
 pub enum BinaryOperator {
     Add,
     Subtract,
@@ -23,7 +23,7 @@ pub enum BinaryOperator {
 
 /// An operator between two operands. The logical ones evaluate the right operand only where the left
 /// one leaves the answer open (ISO/IEC 9899:2018, 6.5.13 and 6.5.14).
-#[derive(Clone, Copy, PartialEq, Eq, Debug)]
+#[derive(Clone, Copy, PartialEq, Eq)]
 pub enum Infix {
     Binary(BinaryOperator),
     LogicalAnd,
@@ -31,7 +31,7 @@ pub enum Infix {
 }
 
 /// An operator before its operand: `+`, `-`, `~` and `!` (ISO/IEC 9899:2018, 6.5.3.3).
-#[derive(Clone, Copy, PartialEq, Eq, Debug)]
+#[derive(Clone, Copy, PartialEq, Eq)]
 pub enum UnaryOperator {
     Plus,
     Negate,
@@ -41,7 +41,7 @@ pub enum UnaryOperator {
 
 /// A call that the thread package answers, other than `spawn`: `accept`, `wait`, `sleep`, `yield`,
 /// `take`, `put`, `give` and `self`.
-#[derive(Clone, Copy, PartialEq, Eq, Debug)]
+#[derive(Clone, Copy, PartialEq, Eq)]
 pub enum ModelledCall {
     Accept,
     Wait,

@@ -14,7 +14,7 @@ use std::alloc::{AllocError, Global};
 /// A program that is well scoped: each number is in range and each name in its scope, arguments agree
 /// with parameters, results are used only of calls that give one, `return`, `break` and `continue` stand
 /// where they may, and the limits hold (ISO/IEC 9899:2018, 6.2.1, 6.5.2.2 and 6.8.6).
-#[derive(Debug, Drop)]
+#[derive(Drop)]
 pub struct Program {
     functions: Vec<Function>,
     globals: Vec<GlobalFact>,
@@ -84,7 +84,8 @@ impl Program {
         self.main
     }
 
-    /// The call sites, in the order of the text.
+    /// The call sites, in the order of the tree. Their numbers need not rise in it: a resolver numbers
+    /// them by their places in the source.
     pub fn sites(&self) -> &[Site]
         ensures { result.now ≡ program_sites (program_tree self.now) }
     {

@@ -3,14 +3,14 @@
 use crate::operators::{Infix, UnaryOperator};
 
 /// A name in the source: the place of its first byte, and its bytes.
-#[derive(Debug, Drop)]
+#[derive(Drop)]
 pub struct Name {
     pub at: u32,
     pub text: Vec<u8>,
 }
 
 /// An expression with names, in which a call may stand wherever an expression may.
-#[derive(Debug, Drop)]
+#[derive(Drop)]
 pub enum RawExpr {
     /// A number, taken as a word.
     Number(u32),

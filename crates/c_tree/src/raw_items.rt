@@ -4,7 +4,7 @@ use crate::raw_expressions::Name;
 use crate::raw_statements::RawStmt;
 
 /// A table's declaration: `int (*name[size])(int) = { members };`
-#[derive(Debug, Drop)]
+#[derive(Drop)]
 pub struct RawTable {
     pub name: Name,
     pub size: u32,
@@ -12,7 +12,7 @@ pub struct RawTable {
 }
 
 /// A function's prototype. A parameter may have no name in it.
-#[derive(Debug, Drop)]
+#[derive(Drop)]
 pub struct RawPrototype {
     /// Whether the result is `int`.
     pub gives: bool,
@@ -21,7 +21,7 @@ pub struct RawPrototype {
 }
 
 /// A function's definition.
-#[derive(Debug, Drop)]
+#[derive(Drop)]
 pub struct RawFunction {
     /// Whether the result is `int`.
     pub gives: bool,
@@ -32,7 +32,7 @@ pub struct RawFunction {
 
 /// One thing that a source declares or defines outside functions. A declaration of several globals is
 /// several items.
-#[derive(Debug, Drop)]
+#[derive(Drop)]
 pub enum RawItem {
     /// A global of one word, and the word that it starts at.
     Global { name: Name, start: u32 },

@@ -9,7 +9,7 @@ use crate::raw_items::RawItem;
 
 /// A source as it is read: what it declares and defines outside functions, in the order of the text. No
 /// statement needs more than 65,536 temporaries.
-#[derive(Debug, Drop)]
+#[derive(Drop)]
 pub struct RawProgram {
     items: Vec<RawItem>,
     pub ghost within: { AreWithinTemporaries (raw_item_trees items.items) } by { AreWithinTemporaries-prop (raw_item_trees items.items) },

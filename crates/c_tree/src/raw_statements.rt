@@ -3,7 +3,7 @@
 use crate::raw_expressions::{Name, RawExpr};
 
 /// A declaration of one name, an assignment, or a call.
-#[derive(Debug, Drop)]
+#[derive(Drop)]
 pub enum RawSimple {
     /// `int name;`
     DeclareScalar {
@@ -44,7 +44,7 @@ pub enum RawSimple {
 }
 
 /// A statement with names. `at` is the place of the statement's keyword.
-#[derive(Debug, Drop)]
+#[derive(Drop)]
 pub enum RawStmt {
     Simple(RawSimple),
     /// `;`

@@ -1,4 +1,4 @@
-// The call sites of a tree, in the order of the text.
+// The call sites of a tree, in the tree's order.
 
 ghost use Rattle.std.specs.Prelude.{◌≡◌, ◌++◌, ◌∷◌, [], OnOk, map, option_map};
 ghost use Rattle.c_tree.specs.Views.{call_tree, right_tree, simple_tree, stmt_tree, stmt_trees, function_tree};

@@ -4,7 +4,7 @@ use crate::expressions::Expr;
 use crate::operators::ModelledCall;
 
 /// A call, with the number of its site. Its arguments have no calls in them.
-#[derive(Debug, Drop)]
+#[derive(Drop)]
 pub enum Call {
     Function {
         site: u32,
@@ -18,7 +18,7 @@ pub enum Call {
         index: Expr,
         argument: Expr,
     },
-    /// `spawn(function, argument)`, which starts a thread.
+    /// `spawn(function, argument)`, which starts a thread. `function` is the function's number.
     Spawn {
         site: u32,
         function: u32,
@@ -32,7 +32,7 @@ pub enum Call {
 }
 
 /// What is assigned or returned: the value of an expression, or the result of a call.
-#[derive(Debug, Drop)]
+#[derive(Drop)]
 pub enum RightSide {
     Expr(Expr),
     Call(Call),
@@ -40,7 +40,7 @@ pub enum RightSide {
 
 /// A statement that has no statement in it and leaves no loop and no function: a declaration of one
 /// name, an assignment, or a call.
-#[derive(Debug, Drop)]
+#[derive(Drop)]
 pub enum Simple {
     /// `int x;`
     DeclareScalar {
@@ -79,7 +79,7 @@ pub enum Simple {
 }
 
 /// A statement (ISO/IEC 9899:2018, 6.8).
-#[derive(Debug, Drop)]
+#[derive(Drop)]
 pub enum Stmt {
     Simple(Simple),
     /// `;`

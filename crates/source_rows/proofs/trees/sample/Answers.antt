@@ -1,5 +1,5 @@
-use Rattle.c_tree.proofs.Sample.{sample_scoped}
-use Rattle.c_tree.proofs.tests.sample.Goals as goal
+use Rattle.source_rows.proofs.Sample.{sample_scoped}
+use Rattle.source_rows.proofs.trees.sample.Goals as goal
 
 pub new-requires : goal.new-requires
 new-requires c =

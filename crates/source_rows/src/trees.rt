@@ -2,11 +2,11 @@
 
 ghost use Rattle.std.specs.Prelude.{◌≡◌, IfOk};
 ghost use Rattle.c_tree.specs.Views.{function_tree, stmt_trees};
-ghost use Rattle.c_tree.specs.Sample.{identity_tree, caller_tree};
+ghost use Rattle.source_rows.specs.Sample.{identity_tree, caller_tree};
 
-use crate::{
+use c_tree::{
     BinaryOperator, Call, Expr, Function, GlobalFact, Infix, ModelledCall, Name, Program, RawExpr,
-    RawItem, RawProgram, RawStmt, RightSide, Simple, Site, SiteKind, Stmt, TableFact, sites,
+    RawItem, RawProgram, RawStmt, RightSide, Simple, Site, SiteKind, Stmt, TableFact,
 };
 use std::alloc::{AllocError, Global};
 use std::test::Fail;
@@ -60,17 +60,6 @@ fn long_lists_are_built_walked_and_dropped(rt: HostRuntime) -> Result<(), Fail> 
         body: long_body(alloc)?,
     };
     assert_eq!(rt; function.temporaries(), 2);
-    let functions = vec![in alloc; function]?;
-    let mut found = Vec::new(alloc);
-    sites::list_functions(&mut found, &functions)?;
-    assert_eq!(rt; found.len(), 100_000);
-    assert_eq!(rt;
-        found.last().copied(),
-        Some(Site {
-            number: 99_999,
-            kind: SiteKind::Modelled(3)
-        })
-    );
     Ok(())
 }
 
@@ -167,8 +156,41 @@ fn a_program_tells_its_parts(rt: HostRuntime) -> Result<(), Fail> {
         number: 0,
         kind: SiteKind::Function(0),
     };
-    assert_eq!(rt; program.sites().first().copied(), Some(site));
+    assert!(rt; program.sites().first().copied() == Some(site));
     Ok(())
+}
+
+// The numbers of the calls of the run time, by docs/LANGUAGE.md.
+#[test]
+fn modelled_calls_have_numbers(rt: HostRuntime) {
+    let rows = [
+        (ModelledCall::Put, 3),
+        (ModelledCall::Give, 5),
+        (ModelledCall::SelfNumber, 6),
+        (ModelledCall::Accept, 16),
+        (ModelledCall::Wait, 17),
+        (ModelledCall::Sleep, 18),
+        (ModelledCall::Yield, 19),
+        (ModelledCall::Take, 20),
+    ];
+    for (call, number) in rows {
+        assert_eq!(rt; call.number(), number);
+    }
+}
+
+// `spawn(f, 4)`, where f is function 2 and the site has number 9.
+#[test]
+fn a_spawn_tells_its_site(rt: HostRuntime) {
+    let call = Call::Spawn {
+        site: 9,
+        function: 2,
+        argument: Expr::Number(4),
+    };
+    let site = Site {
+        number: 9,
+        kind: SiteKind::Spawn(2),
+    };
+    assert!(rt; call.site() == site);
 }
 
 // `int g = 7;`

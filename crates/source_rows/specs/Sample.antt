@@ -1,4 +1,4 @@
--- A small program, which the tests build: `int h[3]; int g(int x) { return x; } int (*t[1])(int) = { g };
+-- A small program, which the rows of trees build: `int h[3]; int g(int x) { return x; } int (*t[1])(int) = { g };
 -- int main() { int a; int b; a = g(1); return a; }`
 use Rattle.std.specs.Prelude.{true, [], ◌∷◌, Some}
 use Rattle.c_tree.specs.Trees.{FunctionTree, ProgramTree, Number, Local, CallFunction, Computed, Called, DeclareScalar, SetLocal, Do, Return, NoStmts, Then}

@@ -1,7 +1,7 @@
 -- The small program is well scoped, so that well-scopedness is not empty.
 use Rattle.std.proofs.Common.{refl, lit≤, lit<, [], ◌∷◌, eqb}
 use Rattle.std.specs.List.{IsDistinct}
-use Rattle.c_tree.specs.Sample.{identity_tree, caller_tree, sample_tree}
+use Rattle.source_rows.specs.Sample.{identity_tree, caller_tree, sample_tree}
 use Rattle.c_tree.specs.WellScoped.{IsFunctionScoped, IsWellScoped}
 
 identity_scoped : IsFunctionScoped sample_tree identity_tree

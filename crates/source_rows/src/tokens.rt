@@ -1,8 +1,8 @@
-use super::*;
-use crate::keywords::Keyword;
-use crate::marks::Mark;
-use crate::tokens::TokenKind;
-use crate::{reading_is_unique, tokens_stand_in_source};
+// Sources and their tokens, or the refusal of one that has none.
+
+use c_lex::{
+    Keyword, LexError, Mark, Token, TokenKind, lex, reading_is_unique, tokens_stand_in_source,
+};
 use std::test::Fail;
 
 fn name(at: u32, length: u32) -> Token {
@@ -83,7 +83,7 @@ fn splits(rt: HostRuntime) -> Result<(), Fail> {
     for (source, want) in rows {
         assert!(rt; source.len() < 100);
         let tokens = lex(rt.alloc(), source)?;
-        assert_eq!(rt; tokens.as_slice(), want, "{source:?}");
+        assert!(rt; tokens.as_slice() == want, "{source:?}");
     }
     Ok(())
 }
