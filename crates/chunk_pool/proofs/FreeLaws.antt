@@ -1,19 +1,15 @@
--- Free and held chunks: they divide the pool, and a take and a give undo each other.
-use Rattle.std.proofs.Common.{◌≡◌, ◌≢◌, ℕ, zero, suc, ◌+◌, ◌<◌, ◌≤◌, ◌⊎◌, inl, inr, false, List, [], ◌∷◌, length, drop, get_or, set, refl, sym, ◌∙◌, ap, subst, arith, nat_eq, All, Contains, slice_get, Some, Bool, true, cond, count_by}
+-- Free and held chunks, and what a need takes.
+use Rattle.std.proofs.Common.{◌≡◌, ◌≢◌, ℕ, zero, suc, ◌+◌, ◌<◌, ◌≤◌, ◌⊎◌, inl, inr, false, List, [], ◌∷◌, length, drop, get_or, refl, sym, ◌∙◌, ap, subst, arith, nat_eq, All, Contains, slice_get, Option, Some, None, IsTrue, Bool, true, cond, count_by}
 use Rattle.std.specs.List.{IsDistinct, AllByRecursion}
 use Rattle.std.proofs.lemmas.Bool.{cases_eq, eqb-true, ne_eqb, both_ways, eq-eqb, eqb-false}
-use Rattle.std.proofs.lemmas.List.{set-get_or}
 use Rattle.std.proofs.lemmas.List.Elements.{All-head, All-tail, All-contains, All-from_recursion}
 use Rattle.std.proofs.lemmas.List.Sums.{sum_by-cons}
 use Rattle.std.proofs.lemmas.Map.Steps.{length-le_from_distinct_below}
 use Rattle.std.proofs.lemmas.Map.Views.{Contains-from_any}
-use Rattle.chunk_pool.specs.Pool.{Pool, first_free, contents_with, after_take, after_give, first_or, IsFree, IsHeld, IsLinked, IsPool}
-use Rattle.chunk_pool.proofs.PoolLaws.{same_pool, Contains-cases, apart_from, IsPool-after_give}
+use Rattle.chunk_pool.specs.Pool.{Pool, first_free, after_take, after_give, fits, taken_of, taken_for, IsTaken, IsFree, IsHeld, IsPool}
+use Rattle.chunk_pool.proofs.PoolLaws.{apart_from, IsPool-after_give}
 
 -- ---- free and held
-
-pub free_or_held : (p : Pool) (id : ℕ) → id < p.count → IsFree p id ⊎ IsHeld p id
-free_or_held p id within = elim (Contains-cases p.free id) [ inl free ↦ inl free | inr absent ↦ inr (within, absent) ]
 
 -- no more chunks are free than there are
 pub free_bounded : (p : Pool) → IsPool p → length p.free ≤ p.count
@@ -39,32 +35,17 @@ taken_is_held p id ids s e =
     let P : List ℕ → Type 0 = λ xs. All (λ i. i < p.count) xs → IsDistinct nat_eq xs → Contains xs id × ((id < p.count) × ¬ Contains (drop 1 xs) id) in
     subst P (sym e) (first_is_taken p.count id ids) s.free_below s.free_distinct
 
--- ---- take and give undo each other
+-- ---- what a need takes
 
-first_from_get : (ids : List ℕ) (id : ℕ) → slice_get ids 0 ≡ Some id → ids ≡ id ∷ drop 1 ids
-first_from_get [] id first = cc
-first_from_get (x ∷ xs) id first = let same : x ≡ id = cc in ap (λ (y : ℕ). y ∷ xs) same
+taken_of-first : (p : Pool) (need : ℕ) (ids : List ℕ) (answer : Option ℕ) (new : Pool) → answer ≡ slice_get ids 0 → new ≡ record p { free = drop 1 ids } → p.free ≡ ids → All (λ id. IsTrue (fits p need id)) ids → IsTaken (taken_of p need ids) answer p new
+taken_of-first p need [] answer new first after free each = (first, after ∙ ap (λ (xs : List ℕ). record p { free = xs }) (sym free))
+taken_of-first p need (id ∷ ids) answer new first after free each =
+    let fit : fits p need id ≡ true = All-head (λ id. IsTrue (fits p need id)) id ids each in
+    subst (λ taken. IsTaken taken answer p new) (sym (ap (λ (b : Bool). cond b (Some (record { chunk = id; pool = record p { free = ids } })) None) fit)) (first, after)
 
-first_link : (contents : List (List ℕ)) (end id : ℕ) (ids rest : List ℕ) → ids ≡ id ∷ rest → IsLinked contents end ids → get_or (get_or contents id []) 0 0 ≡ first_or rest end
-first_link contents end id ids rest e linked = (subst (IsLinked contents end) e linked).0
-
--- a give of the chunk that was just taken restores the whole pool
-pub after_give-after_take : (p : Pool) (id : ℕ) → IsPool p → first_free p ≡ Some id → after_give (after_take p) id ≡ p
-after_give-after_take p id s first =
-    let free = first_from_get p.free id first in
-    let next = first_or (drop 1 p.free) p.count in
-    let chunk = get_or p.contents id [] in
-    let same_chunk : set chunk 0 next ≡ chunk =
-    ap (set chunk 0) (sym (first_link p.contents p.count id p.free (drop 1 p.free) free s.linked)) ∙ set-get_or chunk 0 0 in
-    same_pool p.count p.count p.words (contents_with p.contents id 0 next) p.contents (id ∷ drop 1 p.free) p.free
-    refl (ap (set p.contents id) same_chunk ∙ set-get_or p.contents id []) (sym free)
-
--- what was given back is taken next, and the free list is then as before the give
-pub first_free-after_give : (p : Pool) (id : ℕ) → first_free (after_give p id) ≡ Some id
-first_free-after_give p id = refl
-
-pub free-after_take-after_give : (p : Pool) (id : ℕ) → (after_take (after_give p id)).free ≡ p.free
-free-after_take-after_give p id = refl
+-- where each free chunk fits, a take takes what the need does
+pub IsTaken-after_take : (p : Pool) (need : ℕ) (answer : Option ℕ) (new : Pool) → answer ≡ first_free p → new ≡ after_take p → All (λ id. IsTrue (fits p need id)) p.free → IsTaken (taken_for p need) answer p new
+IsTaken-after_take p need answer new first after each = taken_of-first p need p.free answer new first after refl each
 
 -- ---- held chunks under take and give
 

@@ -7,7 +7,7 @@ use Rattle.chunk_pool.specs.declared.pool.ChunkPool.TheInside.{Inside}
 use Rattle.chunk_pool.specs.Pool.{Pool, contents_with, with_word, after_take, after_give, first_or, IsFree, IsHeld, IsChunk, IsPool}
 use Rattle.chunk_pool.specs.Chunks.{pool_of, IsKept}
 use Rattle.chunk_pool.proofs.PoolLaws.{same_pool}
-use Rattle.chunk_pool.proofs.FreeLaws.{after_give-after_take, taken_is_held, free_bounded_by_held}
+use Rattle.chunk_pool.proofs.FreeLaws.{taken_is_held, free_bounded_by_held}
 
 -- ---- a chunk's vector
 
@@ -121,9 +121,3 @@ taken a p free r v sound e cases =
 pub payload_within : (a : Inside) (p : Pool) (id : ℕ) (chunk : Vec ℕ Global) → pool_of a ≡ p → IsPool (pool_of a) → id < p.count → chunk ≡ get_or a.chunks.items id chunk → 4 ≤ vec_len chunk
 payload_within a p id chunk v sound within read =
     omega (arith, sound.header_fits, chunk_len a.words a.chunks.items id chunk sound.chunks (chunk_within a p id v within) read)
-
-pub undone : (a : Inside) (p : Pool) (free : Vec ℕ Global) (r : Option ℕ) → pool_of a ≡ p → IsPool (pool_of a) → a.free.items ≡ free.items ++ option_to_list r → MatchOption r ((vec_len a.free ≡ 0) × (vec_len free ≡ 0)) (λ _. vec_len free + 1 ≡ vec_len a.free) → IfSome r (λ id. after_give (pool_of (record a { free = free })) id ≡ p)
-undone a p free None v sound e cases = tt
-undone a p free (Some id) v sound e cases =
-    ap (λ (q : Pool). after_give q id) (pool_of-popped a free (Some id) e cases)
-    ∙ after_give-after_take (pool_of a) id sound (ap (λ (ids : List ℕ). slice_get ids 0) (popped a.free.items free.items (Some id) e)) ∙ v

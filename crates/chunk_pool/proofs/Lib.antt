@@ -1,4 +1,5 @@
 pub mod PoolLaws
+pub mod NeedLaws
 pub mod FreeLaws
 pub mod AddressLaws
 pub mod PoolStart

@@ -1,5 +1,5 @@
 -- A pool of equal chunks and its free list, as a plain value.
-use Rattle.std.specs.Prelude.{◌≡◌, ◌≢◌, ℕ, ◌+◌, ◌-◌, ◌*◌, ◌/◌, ◌%◌, ◌^◌, ◌<◌, ◌≤◌, ◌&&◌, ◌⊎◌, List, [], ◌∷◌, length, map, drop, replicate, Option, Some, None, if◌then◌else◌, nat_eq, nat_lt, nat_le, slice_get, slice_index, slice_index_or, slice_set, All, Contains}
+use Rattle.std.specs.Prelude.{◌≡◌, ◌≢◌, ℕ, ◌+◌, ◌-◌, ◌*◌, ◌/◌, ◌%◌, ◌^◌, ◌<◌, ◌≤◌, ◌&&◌, Bool, List, [], ◌∷◌, length, map, drop, replicate, Option, Some, None, if◌then◌else◌, nat_eq, nat_lt, nat_le, slice_get, slice_index, slice_index_or, slice_set, All, Contains}
 use Rattle.std.specs.List.{IsDistinct, range_with_len}
 
 -- how many chunks there are, how many words each has, the words of every chunk, and the numbers of
@@ -71,10 +71,6 @@ IsFree p id = Contains p.free id
 abbrev pub IsHeld : Pool → ℕ → Type 0
 IsHeld p id = (id < p.count) × ¬ Contains p.free id
 
--- each chunk is free or held, and by the meaning of held not both
-abbrev pub IsPartitioned : Pool → Type 0
-IsPartitioned p = (id : ℕ) → id < p.count → IsFree p id ⊎ IsHeld p id
-
 -- ---- what every pool keeps
 
 -- so many words, each of 32 bits
@@ -131,9 +127,20 @@ bytes_of p id = 4 * p.words
 abbrev pub place_of : Pool → ℕ → ℕ
 place_of p id = first_place + id * (4 * p.words)
 
+-- the address just past a chunk's last byte, where a stack in it begins
+abbrev pub end_of : Pool → ℕ → ℕ
+end_of p id = place_of p id + bytes_of p id
+
+-- the address of the first byte of a chunk's payload, and how many bytes that has
+abbrev pub payload_place_of : Pool → ℕ → ℕ
+payload_place_of p id = place_of p id + 16
+
+abbrev pub payload_bytes_of : Pool → ℕ → ℕ
+payload_bytes_of p id = bytes_of p id - 16
+
 -- the chunk has a byte at this address
 abbrev pub HasAddress : Pool → ℕ → ℕ → Type 0
-HasAddress p id address = (id < p.count) × (place_of p id ≤ address) × (address < place_of p id + bytes_of p id)
+HasAddress p id address = (id < p.count) × (place_of p id ≤ address) × (address < end_of p id)
 
 -- the number of the chunk that has a byte at this address, if one has
 abbrev pub chunk_at : Pool → ℕ → Option ℕ
@@ -141,3 +148,28 @@ chunk_at p address =
     if nat_le first_place address && nat_lt address (first_place + p.count * (4 * p.words))
     then Some ((address - first_place) / (4 * p.words))
     else None
+
+-- ---- what a need of so many bytes takes
+
+-- the chunk's payload has as many bytes as the need
+abbrev pub fits : Pool → ℕ → ℕ → Bool
+fits p need id = nat_le need (payload_bytes_of p id)
+
+-- a chunk, and the pool after it has left the free list
+pub record Taken : Type 0 where
+  pub chunk : ℕ
+  pub pool : Pool
+
+-- what the need takes of a pool with this free list: the first of them, if it fits. All chunks have one size.
+abbrev pub taken_of : Pool → ℕ → List ℕ → Option Taken
+taken_of p need [] = None
+taken_of p need (id ∷ ids) = if fits p need id then Some (record { chunk = id; pool = record p { free = ids } }) else None
+
+-- what the need takes; none where no free chunk fits it
+abbrev pub taken_for : Pool → ℕ → Option Taken
+taken_for p need = taken_of p need p.free
+
+-- the answer of a take and the pool after it are what the need takes
+abbrev pub IsTaken : Option Taken → Option ℕ → Pool → Pool → Type 0
+IsTaken None answer old new = (answer ≡ None) × (new ≡ old)
+IsTaken (Some taken) answer old new = (answer ≡ Some taken.chunk) × (new ≡ taken.pool)

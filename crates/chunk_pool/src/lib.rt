@@ -5,12 +5,13 @@
 // (von Behren et al., SOSP 2003, "Linked Stack Management"): the last chunk that was given back is taken first.
 //
 // Contracts see a pool as the record `Pool` of specs/Pool.antt: the count, the words per chunk, the contents and the
-// free list. The layer above uses the definitions there and the clauses of `ChunkPool`'s calls.
+// free list. The layer above uses the definitions there, among them which chunk a need takes (`taken_for`), what fits
+// and where a chunk ends, and the clauses of `ChunkPool`'s calls and of `need_laws`.
 #![tactic(auto)]
 
+mod laws;
 mod pool;
 mod start;
-#[cfg(test)]
-mod tests;
 
+pub use laws::need_laws;
 pub use pool::ChunkPool;

@@ -1,5 +1,5 @@
-ghost use Rattle.std.specs.Prelude.{◌≡◌, ℕ, ◌+◌, ◌-◌, ◌*◌, ◌/◌, ◌%◌, ◌<◌, ◌≤◌, ◌⊎◌, ◌↔◌, [], ◌∷◌, length, IsNone, IfSome, IfNone, IfOk};
-ghost use Rattle.chunk_pool.specs.Pool.{Pool, word_of, payload_of, with_word, KeepsOthers, KeepsOtherWords, KeepsPayloads, IsPartitioned, first_or, first_free, after_take, after_give, IsFree, IsHeld, IsPool, start_pool, bytes_of, place_of, HasAddress, chunk_at};
+ghost use Rattle.std.specs.Prelude.{◌≡◌, ℕ, ◌+◌, ◌-◌, ◌*◌, ◌/◌, ◌%◌, ◌<◌, ◌≤◌, ◌⊎◌, ◌↔◌, [], ◌∷◌, length, All, IsTrue, IsNone, IfSome, IfNone, IfOk};
+ghost use Rattle.chunk_pool.specs.Pool.{Pool, word_of, payload_of, with_word, KeepsOthers, KeepsOtherWords, KeepsPayloads, first_or, first_free, after_take, after_give, IsFree, IsHeld, IsPool, start_pool, bytes_of, place_of, end_of, fits, taken_for, IsTaken, HasAddress, chunk_at};
 
 use crate::start::{first_chunks, free_numbers};
 use std::alloc::{AllocError, Global};
@@ -61,7 +61,8 @@ impl ChunkPool {
         ensures after { self.new ≡ after_take self.old }
         ensures none { IsNone result ↔ (self.old.free ≡ []) }
         ensures held { IfSome result (λ id. IsFree self.old id × IsHeld self.new id) }
-        ensures undone { IfSome result (λ id. after_give self.new id ≡ self.old) }
+        // Where each free chunk fits a need, it takes what the need takes.
+        ensures needed { (need : ℕ) → All (λ id. IsTrue (fits self.old need id)) self.old.free → IsTaken (taken_for self.old need) result self.old self.new }
         ensures sound { IsPool self.new }
     {
         self.free.pop()
@@ -76,8 +77,6 @@ impl ChunkPool {
         ensures link { word_of self.new id 0 ≡ first_or self.old.free self.old.count }
         ensures payloads { KeepsPayloads self.old self.new }
         ensures others { KeepsOthers self.old self.new id }
-        // Where the chunk was taken and the free list is as that take left it, it is again as before the take.
-        ensures restored { (p : Pool) → p.free ≡ id ∷ self.old.free → self.new.free ≡ p.free }
         ensures sound { IsPool self.new }
     {
         let next = self
@@ -130,7 +129,6 @@ impl ChunkPool {
     pub fn free(&self) -> u32
         ensures count { result ≡ length self.now.free }
         ensures bounded { result ≤ self.now.count }
-        ensures partition { IsPartitioned self.now }
         ensures sound { IsPool self.now }
     {
         self.free.len() as u32
@@ -141,7 +139,7 @@ impl ChunkPool {
         requires { id < self.now.count }
         ensures place { result ≡ place_of self.now id }
         ensures aligned { result % 16 ≡ 0 }
-        ensures below_end { result + bytes_of self.now id ≤ 0x8400_0000 }
+        ensures below_end { end_of self.now id ≤ 0x8400_0000 }
         ensures sound { IsPool self.now }
     {
         ChunkPool::FIRST_PLACE + id * (4 * self.words)

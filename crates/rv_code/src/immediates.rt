@@ -6,7 +6,7 @@ use std::marker::Model;
 
 /// The immediate of formats I and S: a signed number of 12 bits, from -2048 to 2047 (RISC-V unprivileged
 /// manual, chapter "RV32I", section "Immediate Encoding Variants").
-#[derive(Clone, Copy, Debug, PartialEq, Eq)]
+#[derive(Clone, Copy, PartialEq, Eq)]
 pub struct Immediate {
     value: i32,
 }
@@ -63,7 +63,7 @@ impl Immediate {
 
 /// The immediate of format U: the 20 bits that LUI and AUIPC place from bit 12 up, as a number from 0 to
 /// 1048575 (RISC-V unprivileged manual, chapter "RV32I", section "Immediate Encoding Variants").
-#[derive(Clone, Copy, Debug, PartialEq, Eq)]
+#[derive(Clone, Copy, PartialEq, Eq)]
 pub struct UpperImmediate {
     value: i32,
 }
@@ -117,7 +117,7 @@ impl UpperImmediate {
 
 /// The count of SLLI, SRLI and SRAI, from 0 to 31 (RISC-V unprivileged manual, chapter "RV32I", section
 /// "Integer Register-Immediate Instructions").
-#[derive(Clone, Copy, Debug, PartialEq, Eq)]
+#[derive(Clone, Copy, PartialEq, Eq)]
 pub struct ShiftCount {
     value: i32,
 }

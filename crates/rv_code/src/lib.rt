@@ -24,6 +24,3 @@ pub use instructions::Instr;
 pub use laws::table_laws;
 pub use offsets::{BranchOffset, JumpOffset};
 pub use registers::Register;
-
-#[cfg(test)]
-mod tests;

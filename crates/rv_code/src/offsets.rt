@@ -6,7 +6,7 @@ use std::marker::Model;
 
 /// The offset of a branch in bytes, from the branch: an even number from -4096 to 4094 (RISC-V unprivileged
 /// manual, chapter "RV32I", section "Conditional Branches").
-#[derive(Clone, Copy, Debug, PartialEq, Eq)]
+#[derive(Clone, Copy, PartialEq, Eq)]
 pub struct BranchOffset {
     value: i32,
 }
@@ -65,7 +65,7 @@ impl BranchOffset {
 
 /// The offset of JAL in bytes, from the jump: an even number from -1048576 to 1048574 (RISC-V unprivileged
 /// manual, chapter "RV32I", section "Unconditional Jumps").
-#[derive(Clone, Copy, Debug, PartialEq, Eq)]
+#[derive(Clone, Copy, PartialEq, Eq)]
 pub struct JumpOffset {
     value: i32,
 }

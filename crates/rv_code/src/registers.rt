@@ -4,7 +4,7 @@ use std::marker::Model;
 
 /// The number of a register, from 0 to 31. Register 0 reads as 0 (RISC-V unprivileged manual, chapter
 /// "RV32I", section "Programmers' Model for Base Integer ISA").
-#[derive(Clone, Copy, Debug, PartialEq, Eq)]
+#[derive(Clone, Copy, PartialEq, Eq)]
 pub struct Register {
     number: u32,
 }

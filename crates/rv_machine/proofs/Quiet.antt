@@ -1,30 +1,31 @@
--- The rows that write no memory leave every byte.
+-- The rows that store nothing leave every memory.
 use Rattle.std.proofs.Common.{◌≡◌, ℕ, ◌%◌, Bool, true, false, eqb, ℤ, Result, Ok, Err, refl}
 use Rattle.std.proofs.lemmas.Bool.{cond_both}
 use Rattle.cap_word.specs.declared.faults.FaultKind.{FaultKind}
 use Rattle.cap_word.specs.declared.faults.FaultKind.TheVariants.{Misaligned}
+use Rattle.rv_machine.specs.Bytes.{Nothing}
 use Rattle.rv_machine.specs.Registers.{write}
 use Rattle.rv_machine.specs.Rows.{Machine, Goes, Fails, next, relative, passes, sets, jumps, branches, loads}
-use Rattle.rv_machine.specs.Step.{bytes_after}
+use Rattle.rv_machine.specs.Step.{memory_after}
 
-pub bytes_after-jumps : (m : Machine) (rd target at : ℕ) → m.bytes at ≡ bytes_after (jumps m rd target) m.bytes at
+pub memory_after-jumps : {S : Type 0} (put : S → ℕ → ℕ → S) (memory : S) (m : Machine) (rd target : ℕ) → memory ≡ memory_after put (jumps m rd target) memory
 unfolding jumps
-bytes_after-jumps m rd target at =
-    cond_both (eqb (target % 4) 0) (Goes target (write m.x rd (next m)) m.bytes) (Fails Misaligned)
-    (λ outcome. m.bytes at ≡ bytes_after outcome m.bytes at)
+memory_after-jumps put memory m rd target =
+    cond_both (eqb (target % 4) 0) (Goes target (write m.x rd (next m)) Nothing) (Fails Misaligned)
+    (λ outcome. memory ≡ memory_after put outcome memory)
     (λ _. refl)
     (λ _. refl)
 
-pub bytes_after-branches : (m : Machine) (imm : ℤ) (taken : Bool) (at : ℕ) → m.bytes at ≡ bytes_after (branches m imm taken) m.bytes at
+pub memory_after-branches : {S : Type 0} (put : S → ℕ → ℕ → S) (memory : S) (m : Machine) (imm : ℤ) (taken : Bool) → memory ≡ memory_after put (branches m imm taken) memory
 unfolding branches passes
-bytes_after-branches m imm true at =
-    cond_both (eqb (relative m imm % 4) 0) (Goes (relative m imm) m.x m.bytes) (Fails Misaligned)
-    (λ outcome. m.bytes at ≡ bytes_after outcome m.bytes at)
+memory_after-branches put memory m imm true =
+    cond_both (eqb (relative m imm % 4) 0) (Goes (relative m imm) m.x Nothing) (Fails Misaligned)
+    (λ outcome. memory ≡ memory_after put outcome memory)
     (λ _. refl)
     (λ _. refl)
-bytes_after-branches m imm false at = refl
+memory_after-branches put memory m imm false = refl
 
-pub bytes_after-loads : (m : Machine) (rd : ℕ) (loaded : Result ℕ FaultKind) (at : ℕ) → m.bytes at ≡ bytes_after (loads m rd loaded) m.bytes at
+pub memory_after-loads : {S : Type 0} (put : S → ℕ → ℕ → S) (memory : S) (m : Machine) (rd : ℕ) (loaded : Result ℕ FaultKind) → memory ≡ memory_after put (loads m rd loaded) memory
 unfolding loads sets
-bytes_after-loads m rd (Ok value) at = refl
-bytes_after-loads m rd (Err kind) at = refl
+memory_after-loads put memory m rd (Ok value) = refl
+memory_after-loads put memory m rd (Err kind) = refl

@@ -25,12 +25,28 @@ replaced (Some old) byte = Some byte
 unfoldable pub put_byte : (ℕ → Option ℕ) → ℕ → ℕ → ℕ → Option ℕ
 put_byte bytes address byte at = if at == address then replaced (bytes at) byte else bytes at
 
--- memory after a half and after a word is written
-unfoldable pub put_half : (ℕ → Option ℕ) → ℕ → ℕ → ℕ → Option ℕ
-put_half bytes address half = put_byte (put_byte bytes address (half % 2 ^ 8)) (address + 1) (half / 2 ^ 8)
+-- ---- memory of any kind, where `put` says what it is after a byte is written
 
-unfoldable pub put_word : (ℕ → Option ℕ) → ℕ → ℕ → ℕ → Option ℕ
-put_word bytes address word = put_half (put_half bytes address (word % 2 ^ 16)) (address + 2) (word / 2 ^ 16)
+-- after a half and after a word is written, the lowest byte first
+unfoldable pub with_half : {S : Type 0} → (S → ℕ → ℕ → S) → S → ℕ → ℕ → S
+with_half put memory address half = put (put memory address (half % 2 ^ 8)) (address + 1) (half / 2 ^ 8)
+
+unfoldable pub with_word : {S : Type 0} → (S → ℕ → ℕ → S) → S → ℕ → ℕ → S
+with_word put memory address word = with_half put (with_half put memory address (word % 2 ^ 16)) (address + 2) (word / 2 ^ 16)
+
+-- what is stored: nothing, or a byte, a half or a word at an address
+pub data Stored : Type 0 where
+  Nothing : Stored
+  Byte : (address value : ℕ) → Stored
+  Half : (address value : ℕ) → Stored
+  Word : (address value : ℕ) → Stored
+
+-- memory after that is stored
+abbrev pub with_stored : {S : Type 0} → (S → ℕ → ℕ → S) → Stored → S → S
+with_stored put Nothing memory = memory
+with_stored put (Byte address value) memory = put memory address value
+with_stored put (Half address value) memory = with_half put memory address value
+with_stored put (Word address value) memory = with_word put memory address value
 
 -- the bytes of a half and of a word are all writable
 unfoldable pub half_is_writable : (ℕ → Bool) → ℕ → Bool

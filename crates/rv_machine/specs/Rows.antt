@@ -4,7 +4,7 @@ use Rattle.cap_word.specs.Word as word
 use Rattle.cap_word.specs.declared.faults.FaultKind.{FaultKind}
 use Rattle.cap_word.specs.declared.faults.FaultKind.TheVariants.{Load, Store, Misaligned}
 use Rattle.rv_code.specs.Field.{signed}
-use Rattle.rv_machine.specs.Bytes.{half_at, word_at, put_byte, put_half, put_word, half_is_writable, word_is_writable}
+use Rattle.rv_machine.specs.Bytes.{half_at, word_at, half_is_writable, word_is_writable, Stored, Nothing, Byte, Half, Word}
 use Rattle.rv_machine.specs.Registers.{read, write}
 
 -- the machine: the place of the instruction, the registers, the readable bytes and the writable addresses
@@ -14,10 +14,10 @@ pub record Machine : Type 0 where
   pub bytes : ℕ → Option ℕ
   pub writable : ℕ → Bool
 
--- what a step comes to: it goes on with that pc, those registers and those bytes, it asks for the call of that
--- number, or it is a fault
+-- what a step comes to: it goes on with that pc and those registers and has stored this, it asks for the call of
+-- that number, or it is a fault
 pub data Outcome : Type 0 where
-  Goes : (pc : ℕ) (x : List ℕ) (bytes : ℕ → Option ℕ) → Outcome
+  Goes : (pc : ℕ) (x : List ℕ) (stored : Stored) → Outcome
   Asks : (number : ℕ) → Outcome
   Fails : (kind : FaultKind) → Outcome
 
@@ -35,20 +35,20 @@ relative m imm = word.add m.pc (word.word_of imm)
 
 -- nothing but pc changes
 unfoldable pub passes : Machine → Outcome
-passes m = Goes (next m) m.x m.bytes
+passes m = Goes (next m) m.x Nothing
 
 -- a register gets a value
 unfoldable pub sets : Machine → ℕ → ℕ → Outcome
-sets m rd value = Goes (next m) (write m.x rd value) m.bytes
+sets m rd value = Goes (next m) (write m.x rd value) Nothing
 
 -- a jump, which leaves the next place in a register
 unfoldable pub jumps : Machine → ℕ → ℕ → Outcome
-jumps m rd target = if target % 4 == 0 then Goes target (write m.x rd (next m)) m.bytes else Fails Misaligned
+jumps m rd target = if target % 4 == 0 then Goes target (write m.x rd (next m)) Nothing else Fails Misaligned
 
 -- a branch, taken where the test holds
 unfoldable pub branches : Machine → ℤ → Bool → Outcome
 branches m imm taken =
-    if taken then (if relative m imm % 4 == 0 then Goes (relative m imm) m.x m.bytes else Fails Misaligned) else passes m
+    if taken then (if relative m imm % 4 == 0 then Goes (relative m imm) m.x Nothing else Fails Misaligned) else passes m
 
 -- ---- loads
 
@@ -78,16 +78,16 @@ loads m rd (Err kind) = Fails kind
 
 -- ---- stores
 
-abbrev pub stores : Machine → Bool → (ℕ → Option ℕ) → Outcome
-stores m writable bytes = if writable then Goes (next m) m.x bytes else Fails Store
+-- this is stored, where all of it is writable
+abbrev pub stores : Machine → Bool → Stored → Outcome
+stores m writable stored = if writable then Goes (next m) m.x stored else Fails Store
 
 unfoldable pub byte_stored : Machine → ℕ → ℕ → Outcome
-byte_stored m at value = stores m (m.writable at) (put_byte m.bytes at (value % 2 ^ 8))
+byte_stored m at value = stores m (m.writable at) (Byte at (value % 2 ^ 8))
 
 unfoldable pub half_stored : Machine → ℕ → ℕ → Outcome
 half_stored m at value =
-    if at % 2 == 0 then stores m (half_is_writable m.writable at) (put_half m.bytes at (value % 2 ^ 16)) else Fails Misaligned
+    if at % 2 == 0 then stores m (half_is_writable m.writable at) (Half at (value % 2 ^ 16)) else Fails Misaligned
 
 unfoldable pub word_stored : Machine → ℕ → ℕ → Outcome
-word_stored m at value =
-    if at % 4 == 0 then stores m (word_is_writable m.writable at) (put_word m.bytes at value) else Fails Misaligned
+word_stored m at value = if at % 4 == 0 then stores m (word_is_writable m.writable at) (Word at value) else Fails Misaligned

@@ -9,6 +9,7 @@ use Rattle.rv_code.specs.declared.instructions.Instr.{Instr}
 use Rattle.rv_machine.specs.declared.registers.Regs.{Regs}
 use Rattle.rv_machine.specs.declared.results.StepResult.{StepResult}
 use Rattle.rv_machine.specs.declared.results.StepResult.TheVariants.{Went, Call, Fault}
+use Rattle.rv_machine.specs.Bytes.{put_byte, with_stored}
 use Rattle.rv_machine.specs.Effect.{effect}
 use Rattle.rv_machine.specs.Rows.{Machine, Outcome, Goes, Asks, Fails}
 
@@ -50,18 +51,28 @@ machine regs bytes writable = record { pc = regs.pc; x = regs.x; bytes = bytes; 
 
 -- the answer; a fault tells the place of the instruction
 abbrev pub answer : Outcome → Regs → StepResult
-answer (Goes pc x bytes) regs = Went
+answer (Goes pc x stored) regs = Went
 answer (Asks number) regs = Call number
 answer (Fails kind) regs = Fault regs.pc kind
 
 -- the registers afterwards: as before, unless it goes on
 abbrev pub regs_after : Outcome → Regs → Regs
-regs_after (Goes pc x bytes) regs = record { pc = pc; x = x }
+regs_after (Goes pc x stored) regs = record { pc = pc; x = x }
 regs_after (Asks number) regs = regs
 regs_after (Fails kind) regs = regs
 
--- the bytes afterwards: as before, unless it goes on
+-- memory of any kind afterwards, where `put` says what it is after a byte is written: as before, unless it goes on
+abbrev pub memory_after : {S : Type 0} → (S → ℕ → ℕ → S) → Outcome → S → S
+memory_after put (Goes pc x stored) old = with_stored put stored old
+memory_after put (Asks number) old = old
+memory_after put (Fails kind) old = old
+
+-- the bytes afterwards
 abbrev pub bytes_after : Outcome → (ℕ → Option ℕ) → ℕ → Option ℕ
-bytes_after (Goes pc x bytes) old = bytes
-bytes_after (Asks number) old = old
-bytes_after (Fails kind) old = old
+bytes_after outcome old = memory_after put_byte outcome old
+
+-- the machine afterwards
+abbrev pub machine_after : Outcome → Machine → Machine
+machine_after (Goes pc x stored) m = record m { pc = pc; x = x; bytes = with_stored put_byte stored m.bytes }
+machine_after (Asks number) m = m
+machine_after (Fails kind) m = m

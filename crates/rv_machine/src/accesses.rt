@@ -1,6 +1,6 @@
 ghost use Rattle.std.specs.Prelude.{◌≡◌, ℕ};
 ghost use Rattle.rv_machine.specs.Rows.{byte_loaded, half_loaded, word_loaded, extended, byte_stored, half_stored, word_stored};
-ghost use Rattle.rv_machine.specs.Step.{machine, answer, regs_after, bytes_after};
+ghost use Rattle.rv_machine.specs.Step.{machine, answer, regs_after, bytes_after, memory_after};
 
 use crate::memory::Memory;
 use crate::registers::Regs;
@@ -80,6 +80,7 @@ pub(crate) fn store_byte<M: Memory>(
     ensures registers { regs.new ≡ regs_after (byte_stored (machine regs.old (M.byte_at memory.old) (M.is_writable memory.old)) address value) regs.old }
     ensures bytes { (at : ℕ) → M.byte_at memory.new at ≡ bytes_after (byte_stored (machine regs.old (M.byte_at memory.old) (M.is_writable memory.old)) address value) (M.byte_at memory.old) at }
     ensures writable { (at : ℕ) → M.is_writable memory.new at ≡ M.is_writable memory.old at }
+    ensures whole { memory.new ≡ memory_after M.with_byte (byte_stored (machine regs.old (M.byte_at memory.old) (M.is_writable memory.old)) address value) memory.old }
 {
     if memory.store(address, (value & 0xff) as u8) {
         regs.advance()
@@ -99,6 +100,7 @@ pub(crate) fn store_half<M: Memory>(
     ensures registers { regs.new ≡ regs_after (half_stored (machine regs.old (M.byte_at memory.old) (M.is_writable memory.old)) address value) regs.old }
     ensures bytes { (at : ℕ) → M.byte_at memory.new at ≡ bytes_after (half_stored (machine regs.old (M.byte_at memory.old) (M.is_writable memory.old)) address value) (M.byte_at memory.old) at }
     ensures writable { (at : ℕ) → M.is_writable memory.new at ≡ M.is_writable memory.old at }
+    ensures whole { memory.new ≡ memory_after M.with_byte (half_stored (machine regs.old (M.byte_at memory.old) (M.is_writable memory.old)) address value) memory.old }
 {
     if address % 2 != 0 {
         return regs.fault(FaultKind::Misaligned);
@@ -121,6 +123,7 @@ pub(crate) fn store_word<M: Memory>(
     ensures registers { regs.new ≡ regs_after (word_stored (machine regs.old (M.byte_at memory.old) (M.is_writable memory.old)) address value) regs.old }
     ensures bytes { (at : ℕ) → M.byte_at memory.new at ≡ bytes_after (word_stored (machine regs.old (M.byte_at memory.old) (M.is_writable memory.old)) address value) (M.byte_at memory.old) at }
     ensures writable { (at : ℕ) → M.is_writable memory.new at ≡ M.is_writable memory.old at }
+    ensures whole { memory.new ≡ memory_after M.with_byte (word_stored (machine regs.old (M.byte_at memory.old) (M.is_writable memory.old)) address value) memory.old }
 {
     if address % 4 != 0 {
         return regs.fault(FaultKind::Misaligned);

@@ -1,6 +1,6 @@
 ghost use Rattle.std.specs.Prelude.{◌≡◌, ℕ};
 ghost use Rattle.rv_machine.specs.Effect.{effect};
-ghost use Rattle.rv_machine.specs.Step.{machine, answer, regs_after, bytes_after};
+ghost use Rattle.rv_machine.specs.Step.{machine, answer, regs_after, bytes_after, memory_after};
 
 use crate::accesses::{
     extend_byte, extend_half, load_byte, load_half, load_word, store_byte, store_half, store_word,
@@ -21,6 +21,7 @@ pub(crate) fn execute<M: Memory>(instr: Instr, memory: &mut M, regs: &mut Regs) 
     ensures registers { regs.new ≡ regs_after (effect instr (machine regs.old (M.byte_at memory.old) (M.is_writable memory.old))) regs.old }
     ensures bytes { (at : ℕ) → M.byte_at memory.new at ≡ bytes_after (effect instr (machine regs.old (M.byte_at memory.old) (M.is_writable memory.old))) (M.byte_at memory.old) at }
     ensures writable { (at : ℕ) → M.is_writable memory.new at ≡ M.is_writable memory.old at }
+    ensures whole { memory.new ≡ memory_after M.with_byte (effect instr (machine regs.old (M.byte_at memory.old) (M.is_writable memory.old))) memory.old }
 {
     match instr {
         Instr::Lui { rd, imm } => regs.set(rd, upper(imm)),

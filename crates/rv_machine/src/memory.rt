@@ -1,13 +1,16 @@
 ghost use Rattle.std.specs.Prelude.{◌≡◌, ℕ, ◌%◌, ◌<◌, ◌^◌, Bool, Option, if◌then◌else◌};
-ghost use Rattle.rv_machine.specs.Bytes.{half_at, word_at, put_byte, put_half, put_word, half_is_writable, word_is_writable};
+ghost use Rattle.rv_machine.specs.Bytes.{half_at, word_at, put_byte, with_half, with_word, half_is_writable, word_is_writable};
 
 /// Memory by bytes. It means a function from an address to a byte, or to none where the address isn't
-/// readable, and the test of what is writable. Halves and words are little-endian (RISC-V unprivileged
+/// readable, the test of what is writable, and what the whole value is after a byte was written, so that a
+/// store is told to leave all that isn't memory. Halves and words are little-endian (RISC-V unprivileged
 /// manual, chapter "RV32I", section "Load and Store Instructions").
 pub trait Memory {
     ghost byte_at: { Self → ℕ → Option ℕ };
 
     ghost is_writable: { Self → ℕ → Bool };
+
+    ghost with_byte: { Self → ℕ → ℕ → Self };
 
     /// The byte at the address, or None exactly where it isn't readable.
     fn load(&self, address: u32) -> Option<u8>
@@ -23,7 +26,8 @@ pub trait Memory {
     fn store(&mut self, address: u32, byte: u8) -> bool
         ensures answer { result ≡ is_writable self.old address }
         ensures bytes { (at : ℕ) → byte_at self.new at ≡ (if result then put_byte (byte_at self.old) address byte at else byte_at self.old at) }
-        ensures writable { (at : ℕ) → is_writable self.new at ≡ is_writable self.old at };
+        ensures writable { (at : ℕ) → is_writable self.new at ≡ is_writable self.old at }
+        ensures whole { self.new ≡ (if result then with_byte self.old address byte else self.old) };
 
     /// The half of two bytes at the address, a multiple of 2, or None where one isn't readable.
     #[tactic(auto, unfolding(crate::specs::Bytes::half_at))]
@@ -49,12 +53,13 @@ pub trait Memory {
 
     /// Writes the half at the address, a multiple of 2, and answers whether both bytes are writable. Where
     /// one isn't, nothing changes.
-    #[tactic(auto, unfolding(crate::specs::Bytes::half_is_writable, crate::specs::Bytes::put_half))]
+    #[tactic(auto, unfolding(crate::specs::Bytes::half_is_writable, crate::specs::Bytes::with_half))]
     fn store_half(&mut self, address: u32, half: u16) -> bool
         requires { address % 2 ≡ 0 }
         ensures answer { result ≡ half_is_writable (is_writable self.old) address }
-        ensures bytes { (at : ℕ) → byte_at self.new at ≡ (if result then put_half (byte_at self.old) address half at else byte_at self.old at) }
+        ensures bytes { (at : ℕ) → byte_at self.new at ≡ (if result then with_half put_byte (byte_at self.old) address half at else byte_at self.old at) }
         ensures writable { (at : ℕ) → is_writable self.new at ≡ is_writable self.old at }
+        ensures whole { self.new ≡ (if result then with_half with_byte self.old address half else self.old) }
     {
         if !(self.can_store(address) && self.can_store(address + 1)) {
             return false;
@@ -64,12 +69,13 @@ pub trait Memory {
 
     /// Writes the word at the address, a multiple of 4, and answers whether its four bytes are writable.
     /// Where one isn't, nothing changes.
-    #[tactic(auto, unfolding(crate::specs::Bytes::word_is_writable, crate::specs::Bytes::half_is_writable, crate::specs::Bytes::put_word))]
+    #[tactic(auto, unfolding(crate::specs::Bytes::word_is_writable, crate::specs::Bytes::half_is_writable, crate::specs::Bytes::with_word))]
     fn store_word(&mut self, address: u32, word: u32) -> bool
         requires { address % 4 ≡ 0 }
         ensures answer { result ≡ word_is_writable (is_writable self.old) address }
-        ensures bytes { (at : ℕ) → byte_at self.new at ≡ (if result then put_word (byte_at self.old) address word at else byte_at self.old at) }
+        ensures bytes { (at : ℕ) → byte_at self.new at ≡ (if result then with_word put_byte (byte_at self.old) address word at else byte_at self.old at) }
         ensures writable { (at : ℕ) → is_writable self.new at ≡ is_writable self.old at }
+        ensures whole { self.new ≡ (if result then with_word with_byte self.old address word else self.old) }
     {
         if !(self.can_store(address)
             && self.can_store(address + 1)

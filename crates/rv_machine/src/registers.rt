@@ -1,6 +1,6 @@
 /// The registers of the machine (RISC-V unprivileged manual, chapter "RV32I", section "Programmers' Model
 /// for Base Integer ISA").
-#[derive(Clone, Copy, Debug, PartialEq, Eq)]
+#[derive(Clone, Copy, PartialEq, Eq)]
 pub struct Regs {
     /// The place of the instruction.
     pub pc: u32,

@@ -1,5 +1,5 @@
 ghost use Rattle.std.specs.Prelude.{◌≡◌, ℕ};
-ghost use Rattle.rv_machine.specs.Step.{instruction_at, outcome, machine, answer, regs_after, bytes_after};
+ghost use Rattle.rv_machine.specs.Step.{instruction_at, outcome, machine, answer, regs_after, bytes_after, memory_after};
 
 use crate::execution::execute;
 use crate::memory::Memory;
@@ -26,6 +26,7 @@ pub fn step<M: Memory>(image: &Image, memory: &mut M, regs: &mut Regs) -> StepRe
     ensures registers { regs.new ≡ regs_after (outcome image.now.code (machine regs.old (M.byte_at memory.old) (M.is_writable memory.old))) regs.old }
     ensures bytes { (at : ℕ) → M.byte_at memory.new at ≡ bytes_after (outcome image.now.code (machine regs.old (M.byte_at memory.old) (M.is_writable memory.old))) (M.byte_at memory.old) at }
     ensures writable { (at : ℕ) → M.is_writable memory.new at ≡ M.is_writable memory.old at }
+    ensures whole { memory.new ≡ memory_after M.with_byte (outcome image.now.code (machine regs.old (M.byte_at memory.old) (M.is_writable memory.old))) memory.old }
 {
     match fetch(image.code.as_slice(), regs.pc) {
         Ok(instr) => execute(instr, memory, regs),

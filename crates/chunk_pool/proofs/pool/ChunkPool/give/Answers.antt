@@ -31,9 +31,6 @@ returns-clause-others c =
     subst (λ (p : Pool). KeepsOthers c.args.self.now p c.args.id) (sym (returns-clause-after c))
     (KeepsOthers-after_give c.args.self.now c.args.id)
 
-pub returns-clause-restored : goal.returns-clause-restored
-returns-clause-restored c p before = ap (λ (q : Pool). q.free) (returns-clause-after c) ∙ sym before
-
 pub returns-clause-sound : goal.returns-clause-sound
 returns-clause-sound c =
     subst IsPool (sym (returns-clause-after c))

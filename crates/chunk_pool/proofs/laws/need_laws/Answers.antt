@@ -1,0 +1,14 @@
+use Rattle.chunk_pool.proofs.NeedLaws.{taken_for-none, taken_for-fits, taken_for-leaves, taken_for-keeps}
+use Rattle.chunk_pool.proofs.laws.need_laws.Goals as goal
+
+pub returns-clause-none : goal.returns-clause-none
+returns-clause-none c = taken_for-none
+
+pub returns-clause-fits : goal.returns-clause-fits
+returns-clause-fits c = taken_for-fits
+
+pub returns-clause-leaves : goal.returns-clause-leaves
+returns-clause-leaves c = taken_for-leaves
+
+pub returns-clause-keeps : goal.returns-clause-keeps
+returns-clause-keeps c = taken_for-keeps

@@ -1,0 +1,40 @@
+ghost use Rattle.std.specs.Prelude.{◌≡◌, ◌≢◌, ℕ, ◌/◌, ◌%◌, ◌^◌, ◌<◌, List, length, slice_index, slice_set, Option, Some};
+ghost use Rattle.rv_machine.specs.Access.{next_access, IsAccessed, AgreeIn, Fills};
+ghost use Rattle.rv_machine.specs.Bytes.{word_at, with_word};
+ghost use Rattle.rv_machine.specs.Rows.{Machine};
+ghost use Rattle.rv_machine.specs.Step.{outcome, bytes_after, machine_after};
+ghost use Rattle.rv_machine.specs.WordBytes.{byte_of, word_with, byte_in, words_with, HoldsWord};
+ghost use Rattle.rv_machine.specs.Words.{IsWords, TellsWords};
+
+/// The laws of the access of a step, for any code and machine: a step changes no byte outside its access,
+/// depends on no other byte, and what it stores is the whole access, all of it writable. It does nothing.
+pub fn access_laws()
+    ensures stays { (code : List ℕ) (m : Machine) (at : ℕ) → ¬ IsAccessed (next_access code m) at →
+        bytes_after (outcome code m) m.bytes at ≡ m.bytes at }
+    ensures depends { (code : List ℕ) (m other : Machine) → m.pc ≡ other.pc → m.x ≡ other.x → AgreeIn (next_access code m) m other →
+        outcome code m ≡ outcome code other }
+    ensures fills { (code : List ℕ) (m : Machine) → Fills (next_access code m) m.writable (outcome code m) }
+{}
+
+/// The laws of words, for any code: a step of a machine of words leaves one, and what it stores or asks for are
+/// words. It does nothing.
+pub fn word_laws()
+    ensures stay { (code : List ℕ) (m : Machine) → IsWords m → IsWords (machine_after (outcome code m) m) }
+    ensures told { (code : List ℕ) (m : Machine) → IsWords m → TellsWords (outcome code m) }
+{}
+
+/// The laws of words and their bytes: a byte that is put into a word is there, the others stay, and it is a word;
+/// four bytes of a word are that word; the same of a row of words, where a word is written by an index. It does
+/// nothing.
+pub fn byte_laws()
+    ensures same { (word k byte : ℕ) → k < 4 → byte < 2 ^ 8 → byte_of (word_with word k byte) k ≡ byte }
+    ensures others { (word k j byte : ℕ) → k < 4 → j < 4 → j ≢ k → byte < 2 ^ 8 → byte_of (word_with word k byte) j ≡ byte_of word j }
+    ensures below { (word k byte : ℕ) → k < 4 → byte < 2 ^ 8 → word < 2 ^ 32 → word_with word k byte < 2 ^ 32 }
+    ensures held { (bytes : ℕ → Option ℕ) (address word : ℕ) → word < 2 ^ 32 → HoldsWord bytes address word → word_at bytes address ≡ Some word }
+    ensures row_same { (words : List ℕ) (offset byte : ℕ) → offset / 4 < length words → byte < 2 ^ 8 →
+        byte_in (words_with words offset byte) offset ≡ byte }
+    ensures row_others { (words : List ℕ) (offset other byte : ℕ) → other ≢ offset → byte < 2 ^ 8 →
+        byte_in (words_with words offset byte) other ≡ byte_in words other }
+    ensures row_word { (words : List ℕ) (offset word : ℕ) → offset % 4 ≡ 0 → offset / 4 < length words →
+        slice_index words (offset / 4) < 2 ^ 32 → word < 2 ^ 32 → with_word words_with words offset word ≡ slice_set words (offset / 4) word }
+{}
