@@ -19,8 +19,6 @@ mod shelves;
 mod sinks;
 mod sources;
 mod std_streams;
-#[cfg(test)]
-mod tests;
 
 pub use folder::DirShelf;
 pub use memory_shelf::{CleanShelf, MemShelf};

@@ -1,5 +1,5 @@
 -- The laws of canonical decimals.
-use Rattle.std.proofs.Common.{◌≡◌, ℕ, suc, ◌+◌, ◌*◌, ◌/◌, ◌%◌, ◌^◌, ◌<◌, ◌≤◌, cond, List, [], ◌∷◌, ◌++◌, length, get_or, map, ℤ, pos, negsuc, FitsSigned, to_z, of_z, refl, ap, sym, subst, ◌∙◌, inl, inr, ◌⊎◌, arith, eq-zero-or-pos, append_assoc, append-nil, length-append}
+use Rattle.std.proofs.Common.{◌≡◌, ℕ, zero, suc, ◌+◌, ◌*◌, ◌/◌, ◌%◌, ◌^◌, ◌<◌, ◌≤◌, cond, List, [], ◌∷◌, ◌++◌, length, get_or, map, ℤ, pos, negsuc, FitsSigned, to_z, of_z, refl, ap, sym, subst, ◌∙◌, inl, inr, ◌⊎◌, arith, eq-zero-or-pos, append_assoc, append-nil, length-append}
 use Rattle.std.specs.Int.Digits.{digits_of, number_from_digits, number_from_digits_after, AllBelowBase}
 use Rattle.std.specs.Fmt.{decimal, signed_decimal}
 use Rattle.std.specs.Str.Parse.{AllDigits, digits_value}
@@ -10,6 +10,7 @@ use Rattle.std.proofs.lemmas.List.{map_push, length-map, get_or-map}
 use Rattle.std.proofs.lemmas.Str.Parse.{digit_from_value}
 use Rattle.std.proofs.lemmas.Int.Digits.{digits_of_step, number_digits_of, all_below_base_digits_of, first_digits_of, digits_value_is, all_below_base_from_digits, number_after_ge}
 use Rattle.std.proofs.lemmas.Int.{to_z-of_z}
+use Rattle.std.proofs.Math.Nat.{pow-suc}
 use Rattle.cap_text.specs.Decimals.{canonical_decimal, canonical_integer}
 use borrow.Author.Tests.{ne_eqb}
 use Rattle.std.proofs.lemmas.Bool.Decides.{nat_tests}
@@ -104,6 +105,41 @@ pub length_integer : (z : ℤ) → 0 < length (canonical_integer z)
 unfolding canonical_integer
 length_integer (pos n) = length_decimal n
 length_integer (negsuc n) = omega arith
+
+-- how many digits a number has
+
+one_digit : (n : ℕ) → n < 10 → length (canonical_decimal n) ≡ 1
+one_digit n small = elim (eq-zero-or-pos n) [
+  | inl z ↦ rw (z, decimal_zero) refl
+  | inr p ↦
+      let tens : n / 10 ≡ 0 = omega arith in
+      let digits = digits_of_step 10 n (omega arith) p ∙ ap (λ m. digits_of 10 m ++ (n % 10 ∷ [])) tens in
+      ap length (decimal_some n p) ∙ length-map (digits_of 10 n) (λ (d : ℕ). 48 + d) ∙ ap length digits
+]
+
+one_digit_more : (n : ℕ) → 10 ≤ n → length (canonical_decimal n) ≡ length (canonical_decimal (n / 10)) + 1
+one_digit_more n large =
+    rw (decimal_some n (omega arith), decimal_some (n / 10) (omega arith)) (omega (
+      arith,
+      length-map (digits_of 10 n) (λ (d : ℕ). 48 + d),
+      length-map (digits_of 10 (n / 10)) (λ (d : ℕ). 48 + d),
+      ap length (digits_of_step 10 n (omega arith) (omega arith)),
+      length-append (digits_of 10 (n / 10)) (n % 10 ∷ []),
+    ))
+
+length_below : (more n : ℕ) → n < 10 ^ suc more → length (canonical_decimal n) ≤ suc more
+length_below zero n small = omega (arith, one_digit n (omega arith))
+length_below (suc more) n small =
+    let power : 10 ^ suc (suc more) ≡ 10 ^ suc more * 10 = pow-suc 10 (suc more) in
+    elim (eq-zero-or-pos (n / 10)) [
+      | inl few ↦ omega (arith, one_digit n (omega arith))
+      | inr many ↦ omega (arith, one_digit_more n (omega arith), length_below more (n / 10) (omega (arith, power)))
+    ]
+
+-- a number below 10 to the power of some digits has no more of them
+pub decimal_length : (n digits : ℕ) → 0 < digits → n < 10 ^ digits → length (canonical_decimal n) ≤ digits
+decimal_length n zero some small = absurd (omega arith)
+decimal_length n (suc more) some small = length_below more n small
 
 -- digits with no leading 0 are those of their number
 

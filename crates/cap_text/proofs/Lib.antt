@@ -1,4 +1,7 @@
 pub mod DecimalLaws
+pub mod FieldRefusals
 pub mod LineLaws
+pub mod PieceLaws
+pub mod PieceSteps
 pub mod Refusals
 pub mod Spellings

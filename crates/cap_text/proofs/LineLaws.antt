@@ -1,10 +1,13 @@
 -- The laws of the lines of a text.
-use Rattle.std.proofs.Common.{◌≡◌, ℕ, ◌+◌, ◌<◌, ◌≤◌, Bool, true, false, cond, List, [], ◌∷◌, ◌++◌, length, take, drop, refl, ap, sym, ◌∙◌, arith, All, ◌==◌, Option, Some, None, nat_lt}
+use Rattle.std.proofs.Common.{◌≡◌, ℕ, ◌+◌, ◌<◌, ◌≤◌, Bool, true, false, cond, List, [], ◌∷◌, ◌++◌, length, take, drop, refl, ap, sym, ◌∙◌, arith, All, ◌==◌, Option, Some, None, nat_lt, append_assoc}
 use Rattle.std.specs.List.{slice_split, position, position_or_len, before_first, after_first}
 use Rattle.std.proofs.lemmas.List.Splits.{slice_split_none, slice_split_at, slice_split_first, length-slice_split}
 use Rattle.std.proofs.lemmas.List.Sums.{fails_before_first}
 use borrow.Author.Tests.{ne_eqb, ltb-true, ltb-false}
-use Rattle.cap_text.specs.TextLines.{lines_of, without_empty_last}
+use Rattle.std.specs.List.{AllByRecursion}
+use Rattle.cap_text.specs.Pieces.{Lacks}
+use Rattle.cap_text.specs.TextLines.{lines_of, without_empty_last, ended_lines}
+use Rattle.cap_text.proofs.PieceLaws.{all_by}
 
 abbrev pub is_line_feed : ℕ → Bool
 is_line_feed byte = byte == 10
@@ -33,6 +36,14 @@ first_line line rest none = ap without_empty_last (slice_split_at is_line_feed l
 pub last_line : (line : List ℕ) → All (λ byte. is_line_feed byte ≡ false) line → 0 < length line → lines_of line ≡ line ∷ []
 unfolding lines_of
 last_line line none some = ap without_empty_last (slice_split_none is_line_feed line none) ∙ last_piece line some
+
+-- lines, a line feed after each
+pub ended_lines_back : (lines : List (List ℕ)) → AllByRecursion (Lacks 10) lines → lines_of (ended_lines lines) ≡ lines
+ended_lines_back [] h = no_lines
+ended_lines_back (line ∷ lines) h =
+    ap lines_of (append_assoc line (10 ∷ []) (ended_lines lines))
+    ∙ first_line line (ended_lines lines) (all_by (λ byte. is_line_feed byte ≡ false) line h.0)
+    ∙ ap (λ x. line ∷ x) (ended_lines_back lines h.1)
 
 -- the same, by the first line feed
 

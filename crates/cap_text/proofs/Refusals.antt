@@ -1,6 +1,7 @@
 -- From what a reader of numbers answers for a part of its bytes to what it answers for the whole.
 use Rattle.std.proofs.Common.{◌≡◌, ℕ, suc, ◌+◌, ◌-◌, ◌^◌, ◌<◌, ◌≤◌, List, ◌∷◌, refl, ap, sym, subst, ◌∙◌, arith, ◌↔◌, ℤ, pos, negsuc, FitsSigned, to_z, of_z, int_le, true, ◌-ℤ◌, Result, Ok, Err, IfOk, length}
 use Rattle.std.specs.Int.{w32, w128}
+use mir.Syntax.{Width}
 use Rattle.std.proofs.lemmas.Int.{ints, to_z-of_z}
 use Rattle.std.specs.Str.Parse.{AllDigits}
 use Rattle.std.proofs.lemmas.Str.Parse.{digit_from_value}
@@ -137,3 +138,27 @@ in_range z fits low high = within z (rw (to_z-of_z w128 z fits) at low) (rw (to_
 
 pub one_integer : (bytes : List ℕ) (y z : ℤ) → bytes ≡ canonical_integer y → bytes ≡ canonical_integer z → z ≡ y
 one_integer bytes y z e f = integer_unique z y (sym f ∙ e)
+
+-- a reader that answers by these clauses reads each number in range
+
+pub decimal_reads : (bytes : List ℕ) (max : ℕ) (r : Result ℕ NumberError) → IfOk r (λ n. (bytes ≡ canonical_decimal n) × (n ≤ max))
+    → Refusals r (¬ IsDecimal bytes) ((n : ℕ) × (bytes ≡ canonical_decimal n) × (max < n)) → (n : ℕ) → n ≤ max → bytes ≡ canonical_decimal n → r ≡ Ok n
+decimal_reads bytes max (Ok m) number h n most is = ap Ok (decimal_unique m n (sym number.0 ∙ is))
+decimal_reads bytes max (Err NotANumber) number h n most is = absurd (h.not_a_number.0 refl (n, is))
+decimal_reads bytes max (Err TooLarge) number h n most is =
+    let large = h.too_large.0 refl in
+    let same : large.0 ≡ n = decimal_unique large.0 n (sym large.1 ∙ is) in
+    let above = large.2 in
+    absurd (omega arith)
+
+pub integer_reads : (w : Width) (bytes : List ℕ) (r : Result ℤ NumberError) → IfOk r (λ z. bytes ≡ canonical_integer z)
+    → Refusals r (¬ IsInteger bytes) ((z : ℤ) × (bytes ≡ canonical_integer z) × (¬ FitsSigned w z)) → (z : ℤ) → FitsSigned w z → bytes ≡ canonical_integer z → r ≡ Ok z
+integer_reads w bytes (Ok y) number h z fits is = ap Ok (integer_unique y z (sym number ∙ is))
+integer_reads w bytes (Err NotANumber) number h z fits is = absurd (h.not_a_number.0 refl (z, is))
+integer_reads w bytes (Err TooLarge) number h z fits is =
+    let large = h.too_large.0 refl in
+    let same : large.0 ≡ z = integer_unique large.0 z (sym large.1 ∙ is) in
+    absurd (large.2 (rw same fits))
+
+pub decimal_answer : (bytes : List ℕ) (m n : ℕ) → bytes ≡ canonical_decimal m → bytes ≡ canonical_decimal n → ◌≡◌ {A = Result ℕ NumberError} (Ok m) (Ok n)
+decimal_answer bytes m n number is = ap Ok (decimal_unique m n (sym number ∙ is))

@@ -1,6 +1,6 @@
 -- The lines of a text.
-use Rattle.std.specs.Prelude.{ℕ, List, [], ◌∷◌, length, ◌==◌, if◌then◌else◌}
-use Rattle.std.specs.List.{slice_split}
+use Rattle.std.specs.Prelude.{ℕ, List, [], ◌∷◌, ◌++◌, length, ◌==◌, if◌then◌else◌}
+use Rattle.std.specs.List.{slice_split, flat_map}
 
 -- an empty last piece is no line: nothing stands after the last line feed
 abbrev pub without_empty_last : List (List ℕ) → List (List ℕ)
@@ -11,3 +11,7 @@ without_empty_last (piece ∷ next ∷ more) = piece ∷ without_empty_last (nex
 -- the lines of a text, in order: the pieces between its line feeds, byte 10
 unfoldable pub lines_of : List ℕ → List (List ℕ)
 lines_of bytes = without_empty_last (slice_split (λ byte. byte == 10) bytes)
+
+-- the text of these lines, a line feed after each
+abbrev pub ended_lines : List (List ℕ) → List ℕ
+ended_lines lines = flat_map (λ line. line ++ 10 ∷ []) lines

@@ -1,5 +1,5 @@
 // Reading a number.
-ghost use Rattle.std.specs.Prelude.{◌≡◌, ℕ, ℤ, pos, negsuc, ◌+◌, ◌^◌, FitsSigned, ◌<◌, ◌≤◌, ◌↔◌, MatchOption, IfOk, IsTrue, All};
+ghost use Rattle.std.specs.Prelude.{◌≡◌, ℕ, ℤ, pos, negsuc, ◌+◌, ◌^◌, FitsSigned, ◌<◌, ◌≤◌, ◌↔◌, MatchOption, Ok, Err, IfOk, IsTrue, All};
 ghost use Rattle.std.specs.Bool.{MatchBool};
 ghost use Rattle.std.specs.Int.{w32, w128};
 ghost use Rattle.cap_text.specs.Decimals.{canonical_decimal, canonical_integer, IsDecimal, IsInteger};
@@ -24,6 +24,7 @@ pub enum NumberError {
 /// is one of a number above `max`, also above 64 bits.
 pub fn read_dec(bytes: &[u8], max: u64) -> Result<u64, NumberError>
     ensures number { IfOk result (λ n. (bytes.now ≡ canonical_decimal n) × (n ≤ max)) }
+    ensures reads { (n : ℕ) → n ≤ max → bytes.now ≡ canonical_decimal n → result ≡ Ok n }
     ensures not_a_number { (result ≡ Err NumberError.NotANumber) ↔ (¬ IsDecimal bytes.now) }
     ensures too_large { (result ≡ Err NumberError.TooLarge)
         ↔ ((n : ℕ) × (bytes.now ≡ canonical_decimal n) × (max < n)) }
@@ -91,6 +92,7 @@ fn number_of(digits: &[u8]) -> Option<u128>
 /// of a number outside 32 bits.
 pub fn read_signed(bytes: &[u8]) -> Result<i32, NumberError>
     ensures number { IfOk result (λ z. bytes.now ≡ canonical_integer z) }
+    ensures reads { (z : ℤ) → FitsSigned w32 z → bytes.now ≡ canonical_integer z → result ≡ Ok z }
     ensures not_a_number { (result ≡ Err NumberError.NotANumber) ↔ (¬ IsInteger bytes.now) }
     ensures too_large { (result ≡ Err NumberError.TooLarge)
         ↔ ((z : ℤ) × (bytes.now ≡ canonical_integer z) × (¬ FitsSigned w32 z)) }
@@ -108,6 +110,7 @@ pub fn read_signed(bytes: &[u8]) -> Result<i32, NumberError>
 /// of a number outside 128 bits.
 pub fn read_wide(bytes: &[u8]) -> Result<i128, NumberError>
     ensures number { IfOk result (λ z. bytes.now ≡ canonical_integer z) }
+    ensures reads { (z : ℤ) → FitsSigned w128 z → bytes.now ≡ canonical_integer z → result ≡ Ok z }
     ensures not_a_number { (result ≡ Err NumberError.NotANumber) ↔ (¬ IsInteger bytes.now) }
     ensures too_large { (result ≡ Err NumberError.TooLarge)
         ↔ ((z : ℤ) × (bytes.now ≡ canonical_integer z) × (¬ FitsSigned w128 z)) }

@@ -2,10 +2,10 @@
 use Rattle.std.proofs.Common.{◌≡◌, ℕ, zero, suc, ◌<◌, ◌≤◌, false, List, [], ◌∷◌, ◌++◌, length, take, get_or, refl, ap, sym, ◌∙◌, arith, append_assoc, length-append, Option, Some, None, Ok}
 use Rattle.std.specs.Prelude.{◌==◌, ◌≢◌}
 use Rattle.std.proofs.lemmas.List.{append-nil}
-use Rattle.std.specs.Io.KnownBytes.{Consumes, IsAtEnd}
+use Rattle.std.specs.Io.KnownBytes.{Consumes, IsAtEnd, Keeps}
 use Rattle.event_trace.specs.declared.gathering.Ending.TheVariants.{Line, End, TooLong}
 use Rattle.event_trace.specs.Lines.{line_of, rest_of}
-use Rattle.event_trace.specs.Gathering.{Gathers}
+use Rattle.event_trace.specs.Gathering.{Gathers, LeavesTail}
 
 -- no LF among the bytes
 abbrev pub NoLf : List ℕ → Type 0
@@ -101,3 +101,22 @@ gathers_long E (Some a) (Some b) None line byte g now here full = absurd now
 gathers_long E (Some a) (Some b) (Some c) line byte g now here full =
     let whole : a ≡ line ++ byte ∷ c = g.given ∙ ap (λ (l : List ℕ). line ++ l) now
     in rw whole (let long = line_long line c byte g.unended here in omega arith)
+
+-- what the source has left is a tail of what it had
+
+pub tail_after : (before mid after : Option (List ℕ)) (line bytes : List ℕ) → Gathered before mid line → Consumes mid after bytes → LeavesTail before after
+tail_after None mid after line bytes g now = tt
+tail_after (Some a) None after line bytes g now = absurd g.given
+tail_after (Some a) (Some b) None line bytes g now = absurd now
+tail_after (Some a) (Some b) (Some c) line bytes g now = (line ++ bytes, g.given ∙ ap (λ (l : List ℕ). line ++ l) now ∙ sym (append_assoc line bytes c))
+
+pub tail_kept : (before mid after : Option (List ℕ)) (line : List ℕ) → Gathered before mid line → Keeps mid after → LeavesTail before after
+tail_kept None mid after line g now = tt
+tail_kept (Some a) None after line g now = absurd g.given
+tail_kept (Some a) (Some b) None line g now = absurd now
+tail_kept (Some a) (Some b) (Some c) line g now = (line, g.given ∙ ap (λ (l : List ℕ). line ++ l) (sym now))
+
+pub tail_same : (before after : Option (List ℕ)) → after ≡ before → LeavesTail before after
+tail_same None after e = tt
+tail_same (Some a) None e = absurd (cc)
+tail_same (Some a) (Some b) e = ([], cc)

@@ -1,6 +1,3 @@
-pub mod FieldLaws
-pub mod Splits
-pub mod Prefixes
+pub mod LineTexts
 pub mod Gathered
 pub mod Answered
-pub mod Unique

@@ -1,5 +1,5 @@
 -- What taking a line from a source does, where the source tells its bytes.
-use Rattle.std.specs.Prelude.{◌≡◌, ℕ, ◌<◌, ◌≤◌, List, [], length, Option, None, Some, Result, MatchResult}
+use Rattle.std.specs.Prelude.{◌≡◌, ℕ, ◌<◌, ◌≤◌, List, [], ◌++◌, length, Option, None, Some, Result, MatchResult}
 use Rattle.event_trace.specs.declared.gathering.Ending.{Ending}
 use Rattle.event_trace.specs.declared.gathering.Ending.TheVariants.{Line, End, TooLong}
 use Rattle.cap_io.specs.Faults.{Rose}
@@ -16,6 +16,12 @@ abbrev pub Gathers : {E : Type 0} → Option (List ℕ) → Option (List ℕ) �
 Gathers None after line r = Unit {0}
 Gathers (Some before) None line r = ⊥
 Gathers (Some before) (Some after) line r = MatchResult r (λ ending. GathersLine before after line ending) (λ _. Unit {0})
+
+-- what is left is a tail of what was left, where the source tells it
+abbrev pub LeavesTail : Option (List ℕ) → Option (List ℕ) → Type 0
+LeavesTail None after = Unit {0}
+LeavesTail (Some before) None = ⊥
+LeavesTail (Some before) (Some after) = (taken : List ℕ) × (before ≡ taken ++ after)
 
 -- a line that was taken has at most 64 bytes
 abbrev pub IsShort : Ending → List ℕ → Type 0

@@ -1,4 +1,4 @@
-pub mod Fields
 pub mod Gathering
+pub mod LineFields
 pub mod Lines
 pub mod Reader

@@ -1,36 +1,44 @@
 -- The lines of a trace: which bytes spell which event.
-use Rattle.std.specs.Prelude.{◌≡◌, ℕ, ◌==◌, if◌then◌else◌, ◌≤◌, List, [], ◌∷◌, ◌++◌, length, codes}
+use Rattle.std.specs.Prelude.{◌≡◌, ℕ, ◌==◌, if◌then◌else◌, ◌^◌, ◌<◌, ◌≤◌, List, [], ◌∷◌, ◌++◌, length, codes}
+use Rattle.std.specs.Int.{w32, cast_signed}
+use Rattle.cap_text.specs.Decimals.{canonical_decimal, canonical_integer}
+use Rattle.cap_text.specs.Pieces.{after_each}
 use Rattle.event_trace.specs.declared.events.Event.{Event}
 use Rattle.event_trace.specs.declared.events.EventKind.{EventKind}
 use Rattle.event_trace.specs.declared.events.EventKind.TheVariants.{Arrive, Message}
-use Rattle.event_trace.specs.Fields.{IsTime, IsChannel, IsValue}
 
--- the fields behind `arrive`: a time and a value, with one space between
-pub record ArriveFields (fields : List ℕ) (time value : ℕ) : Type 0 where
-  pub time_field : List ℕ
-  pub value_field : List ℕ
-  pub text : fields ≡ time_field ++ 32 ∷ value_field
-  pub is_time : IsTime time_field time
-  pub is_value : IsValue value_field value
+-- the word that a line begins with
+abbrev pub kind_word : EventKind → List ℕ
+kind_word (Arrive value) = codes "arrive"
+kind_word (Message channel value) = codes "data"
 
--- the fields behind `data`: a time, a channel and a value, with one space between
-pub record MessageFields (fields : List ℕ) (time channel value : ℕ) : Type 0 where
-  pub time_field : List ℕ
-  pub channel_field : List ℕ
-  pub value_field : List ℕ
-  pub text : fields ≡ time_field ++ 32 ∷ (channel_field ++ 32 ∷ value_field)
-  pub is_time : IsTime time_field time
-  pub is_channel : IsChannel channel_field channel
-  pub is_value : IsValue value_field value
+-- a value is written as the signed number that its 32 bits are
+abbrev pub value_field : ℕ → List ℕ
+value_field value = canonical_integer (cast_signed w32 value)
 
--- the line of an event: `arrive T V` or `data T CH V`
-abbrev pub Spells : List ℕ → ℕ → EventKind → Type 0
-Spells line time (Arrive value) = (fields : List ℕ) × (line ≡ codes "arrive " ++ fields) × ArriveFields fields time value
-Spells line time (Message channel value) = (fields : List ℕ) × (line ≡ codes "data " ++ fields) × MessageFields fields time channel value
+-- the fields behind the time
+abbrev pub kind_fields : EventKind → List (List ℕ)
+kind_fields (Arrive value) = value_field value ∷ []
+kind_fields (Message channel value) = canonical_decimal channel ∷ value_field value ∷ []
+
+-- the line of an event, without its LF: `arrive T V` or `data T CH V`, with one space between
+abbrev pub event_text : Event → List ℕ
+event_text event = kind_word event.kind ++ after_each 32 (canonical_decimal event.time ∷ kind_fields event.kind)
+
+-- a channel is from 0 to 63, and a value a word
+abbrev pub FitsKind : EventKind → Type 0
+FitsKind (Arrive value) = value < 2 ^ 32
+FitsKind (Message channel value) = (channel ≤ 63) × (value < 2 ^ 32)
+
+-- an event of a trace: a time is from 0 to 10^15
+pub record FitsEvent (event : Event) : Type 0 where
+  pub time : event.time ≤ 10 ^ 15
+  pub kind : FitsKind event.kind
 
 -- a line, without its LF, that spells an event: at most 64 bytes
 pub record IsTraceLine (line : List ℕ) (event : Event) : Type 0 where
-  pub spells : Spells line event.time event.kind
+  pub text : line ≡ event_text event
+  pub fits : FitsEvent event
   pub short : length line ≤ 64
 
 -- the line spells this event and no other
@@ -41,14 +49,6 @@ pub record SpellsOnly (line : List ℕ) (event : Event) : Type 0 where
 -- a line that spells no event
 abbrev pub HasNoEvent : List ℕ → Type 0
 HasNoEvent line = (event : Event) → IsTraceLine line event → ⊥
-
--- fields behind `arrive` that tell of this event
-abbrev pub IsArrive : List ℕ → Event → Type 0
-IsArrive fields event = (value : ℕ) × (event.kind ≡ Arrive value) × ArriveFields fields event.time value
-
--- fields behind `data` that tell of this event
-abbrev pub IsMessage : List ℕ → Event → Type 0
-IsMessage fields event = (channel : ℕ) × (value : ℕ) × (event.kind ≡ Message channel value) × MessageFields fields event.time channel value
 
 -- the bytes of the next line, up to its LF or the end
 abbrev pub line_of : List ℕ → List ℕ

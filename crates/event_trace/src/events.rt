@@ -1,7 +1,7 @@
 // What a trace tells of.
 
 /// Something that comes to the server from outside, at a time.
-#[derive(Clone, Copy, Debug, PartialEq, Eq)]
+#[derive(Clone, Copy, PartialEq, Eq)]
 pub struct Event {
     /// In cycles of the server's clock, from 0 to 10^15.
     pub time: u64,
@@ -10,7 +10,7 @@ pub struct Event {
 }
 
 /// What comes.
-#[derive(Clone, Copy, Debug, PartialEq, Eq)]
+#[derive(Clone, Copy, PartialEq, Eq)]
 pub enum EventKind {
     /// A connection with its value, a word of 32 bits that the trace writes as a signed number.
     Arrive { value: u32 },

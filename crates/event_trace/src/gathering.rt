@@ -1,6 +1,6 @@
 // A line, taken from a source byte by byte.
 ghost use Rattle.std.specs.Prelude.{◌≡◌, ◌≤◌, IfOk, Ok, vec_len, vec_capacity};
-ghost use Rattle.event_trace.specs.Gathering.{Gathers, IsShort, CountsFaults};
+ghost use Rattle.event_trace.specs.Gathering.{Gathers, LeavesTail, IsShort, CountsFaults};
 
 use cap_io::{Failed, Source};
 
@@ -8,7 +8,7 @@ use cap_io::{Failed, Source};
 pub(crate) const MOST_BYTES: usize = 64;
 
 /// How a line ended.
-#[derive(Clone, Copy, Debug, PartialEq, Eq)]
+#[derive(Clone, Copy)]
 pub(crate) enum Ending {
     /// With its LF, or with the end of the trace behind at least one byte.
     Line,
@@ -24,6 +24,7 @@ pub(crate) fn read_line<S: Source>(line: &mut Vec<u8>, source: &mut S) -> Result
     ensures room { 64 ≤ vec_capacity line.new }
     ensures short { IfOk result (λ ending. IsShort ending line.new.items) }
     ensures told { Gathers (S.left source.old) (S.left source.new) line.new.items result }
+    ensures tail { LeavesTail (S.left source.old) (S.left source.new) }
     ensures counts { CountsFaults result (S.faults source.old) (S.faults source.new) }
     ensures never_falls { S.faults source.old ≤ S.faults source.new }
 {

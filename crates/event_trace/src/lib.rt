@@ -8,13 +8,10 @@
 #![tactic(auto)]
 
 mod events;
-mod fields;
 mod gathering;
 mod parsing;
 mod reader;
 mod refusals;
-#[cfg(test)]
-mod tests;
 
 pub use events::{Event, EventKind};
 pub use reader::TraceReader;

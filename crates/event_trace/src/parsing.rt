@@ -1,46 +1,67 @@
 // A line of a trace, read.
-ghost use Rattle.std.specs.Prelude.{ℕ, ◌≤◌, MatchOption, length};
-ghost use Rattle.event_trace.specs.Lines.{SpellsOnly, HasNoEvent, ArriveFields, MessageFields, IsArrive, IsMessage};
+ghost use Rattle.std.specs.Prelude.{ℕ, ◌≤◌, MatchOption, IfSome, IfNone, length, codes};
+ghost use Rattle.event_trace.specs.Lines.{SpellsOnly, HasNoEvent};
+ghost use Rattle.event_trace.specs.LineFields.{FieldsSpell, FieldsSpellNone};
 
-use super::fields::{read_channel, read_time, read_value, split_field};
 use super::{Event, EventKind};
+use cap_text::Fields;
+
+/// The latest time of an event.
+const LATEST: u64 = 1_000_000_000_000_000;
+
+/// The highest number of a channel.
+const LAST_CHANNEL: u64 = 63;
 
 /// The event that a line of at most 64 bytes, without its LF, spells.
 pub(crate) fn parse_line(line: &[u8]) -> Option<Event>
     requires { length line.now ≤ 64 }
     ensures { MatchOption result (HasNoEvent line.now) (λ event. SpellsOnly line.now event) }
 {
-    if let Some(fields) = line.strip_prefix(b"arrive ".as_slice()) {
-        return parse_arrive(fields);
+    let mut fields = Fields::new(line, b' ');
+    let word = fields.next()?;
+    parse_fields(word, &mut fields)
+}
+
+/// The event whose line begins with that word and has these fields behind it.
+fn parse_fields(word: &[u8], fields: &mut Fields) -> Option<Event>
+    ensures found { IfSome result (FieldsSpell word.now fields.old) }
+    ensures none { IfNone result (FieldsSpellNone word.now fields.old) }
+{
+    if word == b"arrive".as_slice() {
+        parse_arrive(fields)
+    } else if word == b"data".as_slice() {
+        parse_message(fields)
+    } else {
+        None
     }
-    if let Some(fields) = line.strip_prefix(b"data ".as_slice()) {
-        return parse_message(fields);
-    }
-    None
 }
 
 /// The connection that the fields behind `arrive` tell of.
-fn parse_arrive(fields: &[u8]) -> Option<Event>
-    ensures { MatchOption result ((time value : ℕ) → ArriveFields fields.now time value → ⊥)
-        (λ event. IsArrive fields.now event) }
+fn parse_arrive(fields: &mut Fields) -> Option<Event>
+    ensures found { IfSome result (FieldsSpell (codes "arrive") fields.old) }
+    ensures none { IfNone result (FieldsSpellNone (codes "arrive") fields.old) }
 {
-    let (time, value) = split_field(fields)?;
-    let time = read_time(time)?;
-    let value = read_value(value)?;
-    let kind = EventKind::Arrive { value };
+    let time = fields.number(LATEST)?;
+    let value = fields.signed()?;
+    fields.end()?;
+    let kind = EventKind::Arrive {
+        value: value.cast_unsigned(),
+    };
     Some(Event { time, kind })
 }
 
 /// The message that the fields behind `data` tell of.
-fn parse_message(fields: &[u8]) -> Option<Event>
-    ensures { MatchOption result ((time channel value : ℕ) → MessageFields fields.now time channel value → ⊥)
-        (λ event. IsMessage fields.now event) }
+fn parse_message(fields: &mut Fields) -> Option<Event>
+    ensures found { IfSome result (FieldsSpell (codes "data") fields.old) }
+    ensures none { IfNone result (FieldsSpellNone (codes "data") fields.old) }
 {
-    let (time, rest) = split_field(fields)?;
-    let (channel, value) = split_field(rest)?;
-    let time = read_time(time)?;
-    let channel = read_channel(channel)?;
-    let value = read_value(value)?;
-    let kind = EventKind::Message { channel, value };
+    let time = fields.number(LATEST)?;
+    let channel = fields.number(LAST_CHANNEL)?;
+    let value = fields.signed()?;
+    fields.end()?;
+    let kind = EventKind::Message {
+        channel: channel as u32,
+        value: value.cast_unsigned(),
+    };
     Some(Event { time, kind })
 }

@@ -1,5 +1,7 @@
 // The reader of a trace.
 ghost use Rattle.std.specs.Prelude.{◌≡◌, [], ◌≤◌, IfOk, IfSome, Err, None};
+ghost use Rattle.event_trace.specs.Gathering.{LeavesTail};
+ghost use Rattle.event_trace.specs.Lines.{FitsEvent};
 ghost use Rattle.event_trace.specs.Reader.{NextTold, KeepsCount, KeepsRefusal, CountsNext};
 
 use super::gathering::{Ending, MOST_BYTES, read_line};
@@ -49,10 +51,14 @@ impl TraceReader {
     /// The next event of the bytes that the reader holds followed by those that the source has left, and None exactly
     /// at their end. Line comes exactly where the next line spells no event, or is line 1,000,001; Order exactly where
     /// its time is below the last; ReadFault only where the source's count of faults rose in this call, or stands at its
-    /// end. After a refusal the reader gives the same refusal again and reads nothing. It takes no memory.
+    /// end. After a refusal the reader gives the same refusal again and reads nothing. An event's time is at most 10^15
+    /// and not below the last, and its channel at most 63, also where the source tells nothing of its bytes. At every
+    /// answer the source has a tail of its bytes left. It takes no memory.
     pub fn next<S: Source>(&mut self, source: &mut S) -> Result<Option<Event>, TraceError>
         ensures again { IfSome self.old.refused (λ refusal. result ≡ Err refusal × self.new ≡ self.old × source.new ≡ source.old) }
         ensures told { self.old.refused ≡ None → NextTold self.old self.new (S.left source.old) (S.left source.new) result }
+        ensures fits { IfOk result (λ answer. IfSome answer (λ event. FitsEvent event × (self.old.last ≤ event.time))) }
+        ensures tail { LeavesTail (S.left source.old) (S.left source.new) }
         ensures kept { self.old.refused ≡ None → KeepsRefusal self.old self.new result }
         ensures counts { self.old.refused ≡ None → CountsNext result (S.faults source.old) (S.faults source.new) }
         ensures never_falls { S.faults source.old ≤ S.faults source.new }
@@ -70,6 +76,8 @@ impl TraceReader {
     /// The next event, with no regard to an earlier refusal.
     fn read_event<S: Source>(&mut self, source: &mut S) -> Result<Option<Event>, TraceError>
         ensures told { NextTold self.old self.new (S.left source.old) (S.left source.new) result }
+        ensures fits { IfOk result (λ answer. IfSome answer (λ event. FitsEvent event × (self.old.last ≤ event.time))) }
+        ensures tail { LeavesTail (S.left source.old) (S.left source.new) }
         ensures kept { KeepsCount self.old self.new result }
         ensures counts { CountsNext result (S.faults source.old) (S.faults source.new) }
         ensures never_falls { S.faults source.old ≤ S.faults source.new }

@@ -14,10 +14,10 @@ use Rattle.schedule_log.specs.declared.entries.StopLine.{StopLine}
 use Rattle.schedule_log.specs.declared.entries.StopLine.TheVariants.{Done, Idle, Trace, Cut}
 use Rattle.schedule_log.specs.declared.entries.Entry.{Entry}
 use Rattle.schedule_log.specs.declared.entries.Entry.TheVariants.{Event, Dropped, Run, Out, Block, End, Edge, Stop}
-use Rattle.schedule_log.specs.Pieces.{pieces}
+use Rattle.cap_text.specs.Pieces.{pieces}
 use Rattle.schedule_log.specs.EntryText.{key_field, entry_word, entry_fields, entry_text, item_fields, stop_fields, trap_field}
 use Rattle.schedule_log.specs.EntryRanges.{FitsEntry, IsLogLine}
-use Rattle.schedule_log.proofs.TextPieces.{key_pieces}
+use Rattle.schedule_log.proofs.KeyPieces.{key_pieces}
 use Rattle.schedule_log.proofs.EntryPieces.{entry_pieces}
 
 -- the first letters of a word, which tell the words of one place apart

@@ -1,8 +1,7 @@
 pub mod EntryPieces
 pub mod EntryUnique
-pub mod FieldLaws
 pub mod Filled
+pub mod KeyPieces
 pub mod ListsRead
+pub mod LogLines
 pub mod Pushed
-pub mod SplitLaws
-pub mod TextPieces

@@ -1,12 +1,16 @@
 -- A list of numbers, of which the first were read and the fields of the others are left.
 use Rattle.std.proofs.Common.{◌≡◌, ℕ, zero, suc, ◌+◌, ◌<◌, ◌≤◌, List, [], ◌∷◌, ◌++◌, length, take, drop, set, map, ap, sym, ◌∙◌, arith, length-append, Bool, false, ◌==◌, Option, Some, None, IfSome, IfNone}
 use Rattle.cap_text.specs.Decimals.{canonical_decimal}
-use Rattle.schedule_log.specs.Pieces.{pieces}
+use Rattle.cap_text.specs.Pieces.{pieces}
 use Rattle.schedule_log.specs.EntryRanges.{FitsKey}
 use Rattle.schedule_log.specs.EntryText.{key_field}
-use Rattle.schedule_log.proofs.TextPieces.{key_pieces, key_of_pieces}
+use Rattle.schedule_log.proofs.KeyPieces.{key_pieces, key_of_pieces}
 use Rattle.std.specs.List.{AllByRecursion}
 use Rattle.std.proofs.lemmas.List.{length-map, map_push, take_more_set, append_assoc}
+
+pub if_none : {T : Type 0} {P : Type 0} (o : Option T) → P → IfNone o P
+if_none None p = p
+if_none (Some x) p = tt
 
 pub left_of : {A : Type 0} (f : A → List ℕ) (read : List A) (left : List (List ℕ)) (all : List A) → map f read ++ left ≡ map f all → left ≡ map f (drop (length read) all)
 left_of f [] left all e = e

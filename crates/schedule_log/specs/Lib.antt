@@ -1,6 +1,5 @@
 pub mod Averages
 pub mod EntryRanges
 pub mod EntryText
-pub mod Pieces
 pub mod Puts
 pub mod Readings

@@ -4,7 +4,7 @@ use std::marker::Model;
 
 /// The averages of an edge of the blocking graph: how the use of each resource changed over it, in 256ths. They are a
 /// list of one to eight numbers, that of resource 0 first.
-#[derive(Clone, Copy, Debug)]
+#[derive(Clone, Copy)]
 pub struct Averages {
     used: u32,
     places: [i128; 8],

@@ -2,7 +2,7 @@ use crate::Averages;
 use cap_word::{SiteKey, Stop};
 
 /// What came from outside.
-#[derive(Clone, Copy, Debug)]
+#[derive(Clone, Copy)]
 pub enum Item {
     /// An arrival, with its word as a signed number.
     Arrive { value: i32 },
@@ -11,7 +11,7 @@ pub enum Item {
 }
 
 /// Why a run stopped.
-#[derive(Clone, Copy, Debug)]
+#[derive(Clone, Copy)]
 pub enum StopLine {
     /// Every thread ended.
     Done,
@@ -32,7 +32,7 @@ pub enum StopLine {
 
 /// A line of the log. Threads, nodes and channels are numbers, a clock and a cost count instructions, and `free` counts
 /// the chunks that were free after it.
-#[derive(Clone, Copy, Debug)]
+#[derive(Clone, Copy)]
 pub enum Entry {
     /// `event`: the item was delivered at that clock.
     Event {

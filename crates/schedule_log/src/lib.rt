@@ -9,15 +9,14 @@
 
 mod averages;
 mod entries;
-mod fields;
+mod laws;
 mod lists;
 mod parts;
 mod reading;
-#[cfg(test)]
-mod tests;
 mod writing;
 
 pub use averages::Averages;
 pub use entries::{Entry, Item, StopLine};
+pub use laws::log_lines_are_entries;
 pub use reading::{LogError, read_entry};
 pub use writing::{PutError, put_entry};

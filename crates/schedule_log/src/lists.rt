@@ -5,7 +5,7 @@ ghost use Rattle.schedule_log.specs.EntryRanges.{FitsAverages, FitsKey};
 ghost use Rattle.schedule_log.specs.EntryText.{key_field};
 
 use crate::Averages;
-use crate::fields::Fields;
+use cap_text::Fields;
 use cap_word::SiteKey;
 
 // A key: one to eight sites with `<` between.

@@ -10,8 +10,8 @@ ghost use Rattle.schedule_log.specs.EntryText.{cause_fields, item_fields, trap_f
 ghost use Rattle.schedule_log.specs.Readings.{SpellsItem, SpellsNoCut, SpellsNoItem, SpellsNoStop, SpellsStop};
 ghost use Rattle.schedule_log.specs.declared.entries.Item.{Item};
 
-use crate::fields::Fields;
 use crate::{Item, StopLine};
+use cap_text::Fields;
 use cap_word::{Stop, TrapKind};
 
 // Whether two texts are the same.

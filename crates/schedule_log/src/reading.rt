@@ -6,9 +6,9 @@ ghost use Rattle.schedule_log.specs.EntryText.{entry_text};
 ghost use Rattle.schedule_log.specs.Readings.{SpellsEntry, SpellsNoEntry};
 
 use crate::Entry;
-use crate::fields::Fields;
 use crate::lists::{read_averages, read_key};
 use crate::parts::{clock_and_item, is_same, last_word, read_segment, read_stop, word_and_signed};
+use cap_text::Fields;
 use thiserror::Error;
 
 /// Why bytes are refused as a line of the log.

@@ -1,7 +1,7 @@
 use cap_word::Words;
 
 /// What the machine is started from.
-#[derive(Debug, Drop, PartialEq, Eq)]
+#[derive(Drop, PartialEq, Eq)]
 pub struct Image {
     /// The instruction words, from the start of the code.
     pub code: Words,

@@ -173,6 +173,3 @@ pub fn read_image(alloc: Global, bytes: &[u8]) -> Result<Image, ImageError>
     }
     Ok(image_of(alloc, bytes)?)
 }
-
-#[cfg(test)]
-mod tests;

@@ -1,6 +1,7 @@
 use Rattle.std.proofs.Common.{refl}
+use Rattle.std.specs.Int.{w128}
 use Rattle.cap_text.specs.Decimals.{IsInteger}
-use Rattle.cap_text.proofs.Refusals.{Refusals, LargeInteger, natural_number, negative_number, natural_refusals, negative_refusals, no_integer}
+use Rattle.cap_text.proofs.Refusals.{Refusals, LargeInteger, natural_number, negative_number, natural_refusals, negative_refusals, no_integer, integer_reads}
 use Rattle.cap_text.proofs.numbers.read_wide.Goals as goal
 
 negative : (c : goal.After-read_negative) → Refusals c.read_negative.result (¬ IsInteger c.args.bytes.now) (LargeInteger c.args.bytes.now)
@@ -34,3 +35,12 @@ returns-else-first-eq45-clause-not_a_number c = (natural c).not_a_number
 
 pub returns-else-first-eq45-clause-too_large : goal.returns-else-first-eq45-clause-too_large
 returns-else-first-eq45-clause-too_large c = (natural c).too_large
+
+pub returns-in_default-clause-reads : goal.returns-in_default-clause-reads
+returns-in_default-clause-reads c z fits is = absurd (no_integer _ c.in_default.ensures.cases (z, is))
+
+pub returns-then-first-eq45-clause-reads : goal.returns-then-first-eq45-clause-reads
+returns-then-first-eq45-clause-reads c = integer_reads w128 _ c.read_negative.result (returns-then-first-eq45-clause-number c) (negative c)
+
+pub returns-else-first-eq45-clause-reads : goal.returns-else-first-eq45-clause-reads
+returns-else-first-eq45-clause-reads c = integer_reads w128 _ c.read_natural.result (returns-else-first-eq45-clause-number c) (natural c)

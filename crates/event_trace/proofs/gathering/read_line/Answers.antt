@@ -1,7 +1,7 @@
 use Rattle.std.proofs.Common.{◌≡◌, ◌≢◌, nat_eq, ◌∷◌, [], false, arith, get_or, take, refl, ◌∙◌}
 use Rattle.std.proofs.lemmas.Grind.{common_steps}
 use Rattle.std.proofs.lemmas.Bool.Decides.{nat_tests}
-use Rattle.event_trace.proofs.Gathered.{gathers_line, gathers_last, gathers_long, gathered_more, one_byte}
+use Rattle.event_trace.proofs.Gathered.{gathers_line, gathers_last, gathers_long, gathered_more, one_byte, tail_after}
 use Rattle.event_trace.proofs.gathering.read_line.Goals as goal
 
 pub returns-else-is_empty-clause-told : goal.returns-else-is_empty-clause-told
@@ -32,3 +32,9 @@ loop-line-preserved g c =
     in let other : nat_eq (get_or c.read.new.buf 0 0) 10 ≡ false = grind (arith, nat_tests)
     in let more = gathered_more _ _ _ _ _ c.loop-line.invariant.0 (rw one at c.in_ok-read.ensures.bytes.0) other
     in (rw c.push_reserved.ensures.items more, c.in_ok-read.ensures.counts ∙ c.loop-line.invariant.1, omega arith, omega arith)
+
+pub returns-then-byte-eq10-clause-tail : goal.returns-then-byte-eq10-clause-tail
+returns-then-byte-eq10-clause-tail g c = tail_after _ _ _ _ _ c.loop-line.invariant.0 c.in_ok-read.ensures.bytes.0
+
+pub returns-then-len-eq-MOST_BYTES-clause-tail : goal.returns-then-len-eq-MOST_BYTES-clause-tail
+returns-then-len-eq-MOST_BYTES-clause-tail g c = tail_after _ _ _ _ _ c.loop-line.invariant.0 c.in_ok-read.ensures.bytes.0

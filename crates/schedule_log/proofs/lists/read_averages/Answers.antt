@@ -2,8 +2,7 @@ use Rattle.std.proofs.Common.{◌≡◌, ℤ, List, take, map, FitsSigned, sym, 
 use Rattle.std.specs.Int.{w128}
 use Rattle.cap_text.specs.Decimals.{canonical_integer}
 use Rattle.schedule_log.specs.EntryRanges.{FitsAverages}
-use Rattle.schedule_log.proofs.FieldLaws.{if_none}
-use Rattle.schedule_log.proofs.ListsRead.{no_next, some_fields}
+use Rattle.schedule_log.proofs.ListsRead.{if_none, no_next, some_fields}
 use Rattle.schedule_log.proofs.lists.read_averages.Goals as goal
 
 pub returns-in_err-values-clause-none : goal.returns-in_err-values-clause-none

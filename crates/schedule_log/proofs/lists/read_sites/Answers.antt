@@ -1,8 +1,7 @@
 use Rattle.std.proofs.Common.{◌≡◌, ℕ, List, ◌<◌, ◌^◌, take, map, sym, ◌∙◌}
 use Rattle.cap_text.specs.Decimals.{canonical_decimal}
 use Rattle.schedule_log.specs.EntryRanges.{FitsKey}
-use Rattle.schedule_log.proofs.FieldLaws.{if_none}
-use Rattle.schedule_log.proofs.ListsRead.{no_next, some_fields}
+use Rattle.schedule_log.proofs.ListsRead.{if_none, no_next, some_fields}
 use Rattle.schedule_log.proofs.lists.read_sites.Goals as goal
 
 pub returns-in_err-sites-clause-none : goal.returns-in_err-sites-clause-none

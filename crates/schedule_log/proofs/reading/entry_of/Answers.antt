@@ -1,6 +1,6 @@
 use Rattle.std.proofs.Common.{◌≡◌, [], length, sym, ap, ◌∙◌, arith}
-use Rattle.schedule_log.specs.Pieces.{pieces}
-use Rattle.schedule_log.proofs.SplitLaws.{some_pieces}
+use Rattle.cap_text.specs.Pieces.{pieces}
+use Rattle.cap_text.proofs.PieceSteps.{some_pieces}
 use Rattle.schedule_log.proofs.EntryPieces.{entry_found, no_entry}
 use Rattle.schedule_log.proofs.reading.entry_of.Goals as goal
 

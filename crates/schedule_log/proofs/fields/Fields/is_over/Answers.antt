@@ -1,6 +1,0 @@
-use Rattle.std.proofs.Common.{ap, sym, ◌∙◌, length, ◌==◌}
-use Rattle.schedule_log.proofs.SplitLaws.{over_is}
-use Rattle.schedule_log.proofs.fields.Fields.is_over.Goals as goal
-
-pub returns : goal.returns
-returns c = over_is c.self.inside.separator c.self.inside.rest c.is_none.result (sym c.is_none.ensures) ∙ ap (λ fields. length fields == 0) c.self.view_is

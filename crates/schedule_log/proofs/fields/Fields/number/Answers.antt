@@ -1,5 +1,0 @@
-use Rattle.schedule_log.proofs.FieldLaws.{no_number}
-use Rattle.schedule_log.proofs.fields.Fields.number.Goals as goal
-
-pub returns-clause-none : goal.returns-clause-none
-returns-clause-none c = no_number _ _ _ _ c.read_dec.result c.ok.result c.ok.ensures.variant c.in_ok-field.ensures c.read_dec.ensures.not_a_number c.read_dec.ensures.too_large

@@ -1,6 +1,0 @@
-use Rattle.std.specs.Int.{w32}
-use Rattle.schedule_log.proofs.FieldLaws.{no_integer}
-use Rattle.schedule_log.proofs.fields.Fields.signed.Goals as goal
-
-pub returns-clause-none : goal.returns-clause-none
-returns-clause-none c = no_integer w32 _ _ _ c.read_signed.result c.ok.result c.ok.ensures.variant c.in_ok-field.ensures c.read_signed.ensures.not_a_number c.read_signed.ensures.too_large

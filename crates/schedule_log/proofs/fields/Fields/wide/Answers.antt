@@ -1,6 +1,0 @@
-use Rattle.std.specs.Int.{w128}
-use Rattle.schedule_log.proofs.FieldLaws.{no_integer}
-use Rattle.schedule_log.proofs.fields.Fields.wide.Goals as goal
-
-pub returns-clause-none : goal.returns-clause-none
-returns-clause-none c = no_integer w128 _ _ _ c.read_wide.result c.ok.result c.ok.ensures.variant c.in_ok-field.ensures c.read_wide.ensures.not_a_number c.read_wide.ensures.too_large
