@@ -1,0 +1,10 @@
+pub mod Codes
+pub mod Frames
+pub mod Modelled
+pub mod OneProof
+pub mod Operators
+pub mod ProgramView
+pub mod Samples
+pub mod Step
+pub mod Weight
+pub mod WellFormed

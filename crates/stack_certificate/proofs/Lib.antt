@@ -1,0 +1,6 @@
+pub mod AddressLemmas
+pub mod FitsLemmas
+pub mod PartLemmas
+pub mod PlaceLemmas
+pub mod SlotLemmas
+pub mod WordLemmas

@@ -1,0 +1,136 @@
+-- The variables of a well-formed program's operations have places.
+use Rattle.std.proofs.Common.{◌≡◌, ℕ, zero, suc, ◌<◌, ◌≤◌, List, [], ◌∷◌, length, map, arith, refl, ap, Option, Some, None, Bool, true, false}
+use Rattle.std.specs.Prelude.{slice_index_or, nat_eq, All, if◌then◌else◌}
+use Rattle.std.specs.List.{AllByRecursion}
+use Rattle.std.proofs.lemmas.Grind.{common_steps}
+use Rattle.flat_code.specs.declared.functions.FlatFunction.{FlatFunction}
+use Rattle.flat_code.specs.declared.operations.Op.{Op}
+use Rattle.flat_code.specs.Codes.{FlatCode, function_at}
+use Rattle.flat_code.specs.Modelled.{modelled_parameters}
+use Rattle.flat_code.specs.WellFormed.{signature_of, signature_at, Context, context_of, IsScalar, IsResultPlace, IsReturned, IsOperation, IsFunction, IsWellFormed}
+use Rattle.stack_certificate.specs.declared.functions.FunctionFact.{FunctionFact}
+use Rattle.stack_certificate.specs.Places.{HasPlace, HavePlaces, IsBounded}
+use Rattle.stack_certificate.specs.Templates.{HasPlaces}
+
+pub all_at : {X : Type 0} (P : X → Type 0) (xs : List X) (i : ℕ) (d : X) → AllByRecursion P xs → i < length xs → P (slice_index_or xs i d)
+all_at P [] i d h lt = absurd (omega arith)
+all_at P (x ∷ xs) zero d h lt = h.0
+all_at P (x ∷ xs) (suc i) d h lt = all_at P xs i d h.1 (omega arith)
+
+variables : (c : Context) (xs : List ℕ) → AllByRecursion (IsScalar c) xs → All (λ x. x < length c.sizes) xs
+variables c xs h k d lt = (all_at (IsScalar c) xs k d h lt).0
+
+-- each function has at most six parameters
+few : (fs : List FlatFunction) (g : ℕ) → ((i : ℕ) (d : FlatFunction) → i < length fs → (slice_index_or fs i d).params ≤ 6) → (signature_at (map signature_of fs) g).params ≤ 6
+few [] g h = omega arith
+few (f ∷ fs) zero h = h zero f (omega arith)
+few (f ∷ fs) (suc g) h = few fs g (λ i d lt. h (suc i) d (omega arith))
+
+result_place : (c : Context) (gives : Bool) (d : Option ℕ) → IsResultPlace c gives d → HasPlace (length c.sizes) d
+result_place c gives None h = tt
+result_place c gives (Some d) h = h.1.0
+
+returned_place : (c : Context) (s : Option ℕ) → IsReturned c s → HasPlace (length c.sizes) s
+returned_place c None h = tt
+returned_place c (Some s) h = h.1.0
+
+-- where a choice is known, one of its two sides is
+pick : {A : Type 0} (b : Bool) (o rest : Option ℕ) (k : ℕ) → (if b then o else rest) ≡ Some k → (b ≡ true → o ≡ Some k → A) → (rest ≡ Some k → A) → A
+pick true o rest k h first second = first refl h
+pick false o rest k h first second = second h
+
+small : (m n p k : ℕ) → m < 2048 → p ≤ 6 → nat_eq n m ≡ true → Some p ≡ Some k → (n < 2048) × (k ≤ 6)
+small m n p k lt le e h =
+    let same : n ≡ m = grind (arith, common_steps) in
+    let count : p ≡ k = cc in
+    (omega arith, omega arith)
+
+-- a modelled call's number is small, and it has at most two arguments
+modelled_small : (n k : ℕ) → modelled_parameters n ≡ Some k → (n < 2048) × (k ≤ 6)
+modelled_small n k h =
+    pick (nat_eq n 3) (Some 1) _ k h (λ e f. small 3 n 1 k (omega arith) (omega arith) e f) (λ h.
+    pick (nat_eq n 5) (Some 2) _ k h (λ e f. small 5 n 2 k (omega arith) (omega arith) e f) (λ h.
+    pick (nat_eq n 6) (Some 0) _ k h (λ e f. small 6 n 0 k (omega arith) (omega arith) e f) (λ h.
+    pick (nat_eq n 16) (Some 0) _ k h (λ e f. small 16 n 0 k (omega arith) (omega arith) e f) (λ h.
+    pick (nat_eq n 17) (Some 1) _ k h (λ e f. small 17 n 1 k (omega arith) (omega arith) e f) (λ h.
+    pick (nat_eq n 18) (Some 1) _ k h (λ e f. small 18 n 1 k (omega arith) (omega arith) e f) (λ h.
+    pick (nat_eq n 19) (Some 0) _ k h (λ e f. small 19 n 0 k (omega arith) (omega arith) e f) (λ h.
+    pick (nat_eq n 20) (Some 2) None k h (λ e f. small 20 n 2 k (omega arith) (omega arith) e f) (λ h. cc))))))))
+
+have_places : (c : Context) → ((g : ℕ) → (signature_at c.signatures g).params ≤ 6) → (op : Op) → IsOperation c op → HavePlaces (length c.sizes) op
+have_places c most (Op.Const d value) h = h.0.0
+have_places c most (Op.Copy d s) h = (h.0.0, h.1.0)
+have_places c most (Op.Neg d s) h = (h.0.0, h.1.0)
+have_places c most (Op.Not d s) h = (h.0.0, h.1.0)
+have_places c most (Op.Flip d s) h = (h.0.0, h.1.0)
+have_places c most (Op.Bin op d a b) h = (h.0.0, h.1.0, h.2.0)
+have_places c most (Op.Zero a) h = h
+have_places c most (Op.LoadGlobal d g) h = h.0.0
+have_places c most (Op.StoreGlobal g s) h = h.1.0
+have_places c most (Op.LoadLocal d a i) h = (h.0.0, h.1, h.2.0)
+have_places c most (Op.LoadArray d a i) h = (h.0.0, h.2.0)
+have_places c most (Op.StoreLocal a i s) h = (h.0, h.1.0, h.2.0)
+have_places c most (Op.StoreArray a i s) h = (h.1.0, h.2.0)
+have_places c most (Op.Jump to) h = tt
+have_places c most (Op.JumpZero s to) h = h.0.0
+have_places c most (Op.Call site d f args) h = (variables c args h.2, rw h.1 (most f), result_place c (signature_at c.signatures f).gives d h.3)
+have_places c most (Op.CallTable site d t i s) h = (h.1.0, h.2.0, result_place c _ d h.3)
+have_places c most (Op.Model site d n args) h = (variables c args h.1, (modelled_small n (length args) h.0).1, (modelled_small n (length args) h.0).0, result_place c _ d h.2)
+have_places c most (Op.Spawn site d f s) h = (h.2.0, result_place c _ d h.3)
+have_places c most (Op.Return s) h = returned_place c s h
+
+pub function_formed : (code : FlatCode) (f : ℕ) → IsWellFormed code → f < length code.functions → IsFunction code (function_at code f)
+function_formed code f formed lt = all_at (IsFunction code) code.functions f _ formed.functions lt
+
+-- an operation of a function of a well-formed program, and as many places as it has variables
+pub operation_places : (code : FlatCode) (f i n : ℕ) (d : Op) → IsWellFormed code → f < length code.functions → i < length (function_at code f).ops → n ≡ length (function_at code f).sizes → HavePlaces n (slice_index_or (function_at code f).ops i d)
+operation_places code f i n d formed lt inside e =
+    let function : IsFunction code (function_at code f) = all_at (IsFunction code) code.functions f _ formed.functions lt in
+    rw e (have_places (context_of code (function_at code f)) (λ g. few code.functions g (λ j x l. (all_at (IsFunction code) code.functions j x formed.functions l).params))
+    (slice_index_or (function_at code f).ops i d) (all_at (IsOperation (context_of code (function_at code f))) (function_at code f).ops i d function.ops inside))
+
+-- an operation of a function of a well-formed program is well formed
+pub operation_formed : (code : FlatCode) (f i : ℕ) (d : Op) → IsWellFormed code → f < length code.functions → i < length (function_at code f).ops → IsOperation (context_of code (function_at code f)) (slice_index_or (function_at code f).ops i d)
+operation_formed code f i d formed lt inside =
+    all_at (IsOperation (context_of code (function_at code f))) (function_at code f).ops i d (function_formed code f formed lt).ops inside
+
+-- what isn't the setting of an array to 0
+pub bounded_unless : (op : Op) → ((a : ℕ) → op ≡ Op.Zero a → ⊥) → IsBounded op
+bounded_unless (Op.Zero a) h = h a refl
+bounded_unless (Op.Const d value) h = tt
+bounded_unless (Op.Copy d s) h = tt
+bounded_unless (Op.Neg d s) h = tt
+bounded_unless (Op.Not d s) h = tt
+bounded_unless (Op.Flip d s) h = tt
+bounded_unless (Op.Bin op d a b) h = tt
+bounded_unless (Op.LoadGlobal d g) h = tt
+bounded_unless (Op.StoreGlobal g s) h = tt
+bounded_unless (Op.LoadLocal d a i) h = tt
+bounded_unless (Op.LoadArray d a i) h = tt
+bounded_unless (Op.StoreLocal a i s) h = tt
+bounded_unless (Op.StoreArray a i s) h = tt
+bounded_unless (Op.Jump to) h = tt
+bounded_unless (Op.JumpZero s to) h = tt
+bounded_unless (Op.Call site d f args) h = tt
+bounded_unless (Op.CallTable site d t i s) h = tt
+bounded_unless (Op.Model site d n args) h = tt
+bounded_unless (Op.Spawn site d f s) h = tt
+bounded_unless (Op.Return s) h = tt
+
+pub same_count : (fs : List FlatFunction) (facts : List FunctionFact) → HasPlaces fs facts → length facts ≡ length fs
+same_count [] [] h = refl
+same_count [] (fact ∷ facts) h = absurd h
+same_count (f ∷ fs) [] h = absurd h
+same_count (f ∷ fs) (fact ∷ facts) h = ap suc (same_count fs facts h.1)
+
+pub same_places : (fs : List FlatFunction) (facts : List FunctionFact) (i : ℕ) (f : FlatFunction) (fact : FunctionFact) → HasPlaces fs facts → i < length fs → length (slice_index_or facts i fact).places ≡ length (slice_index_or fs i f).sizes
+same_places [] facts i f fact h lt = absurd (omega arith)
+same_places (x ∷ xs) [] i f fact h lt = absurd h
+same_places (x ∷ xs) (y ∷ ys) zero f fact h lt = h.0
+same_places (x ∷ xs) (y ∷ ys) (suc i) f fact h lt = same_places xs ys i f fact h.1 (omega arith)
+
+-- an element that is there doesn't depend on what stands for a missing one
+pub any_default : {X : Type 0} (xs : List X) (i : ℕ) (d e : X) → i < length xs → slice_index_or xs i d ≡ slice_index_or xs i e
+any_default [] i d e lt = absurd (omega arith)
+any_default (x ∷ xs) zero d e lt = refl
+any_default (x ∷ xs) (suc i) d e lt = any_default xs i d e (omega arith)

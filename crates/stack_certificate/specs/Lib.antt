@@ -1,0 +1,8 @@
+pub mod Certificates
+pub mod Comparisons
+pub mod Fits
+pub mod InstructionWords
+pub mod Parts
+pub mod Places
+pub mod Registers
+pub mod Templates
