@@ -1,0 +1,6 @@
+// What a CapC program means.
+#![tactic(auto)]
+
+ghost use Rattle.std.specs.Prelude.{◌≡◌};
+
+pub fn nothing() {}
