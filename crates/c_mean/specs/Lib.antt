@@ -5,3 +5,4 @@ pub mod Frames
 pub mod Steps
 pub mod ModelledCalls
 pub mod World
+pub mod Examples
