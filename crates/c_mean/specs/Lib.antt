@@ -6,3 +6,4 @@ pub mod Steps
 pub mod ModelledCalls
 pub mod World
 pub mod Examples
+pub mod Sites
