@@ -32,9 +32,9 @@ functions_alone functions main = record { functions = functions; globals = []; t
 abbrev pub divisions : ProgramTree
 divisions = functions_alone (
     int_function 0 [] (
-        puts 0 (Binary BinaryOperator.Divide (Unary UnaryOperator.Negate (Number 2147483648)) (Unary UnaryOperator.Negate (Number 1)))
-        ∷ puts 1 (Binary BinaryOperator.Divide (Number 5) (Number 0))
-        ∷ returns (Number 0) ∷ [])
+    puts 0 (Binary BinaryOperator.Divide (Unary UnaryOperator.Negate (Number 2147483648)) (Unary UnaryOperator.Negate (Number 1)))
+    ∷ puts 1 (Binary BinaryOperator.Divide (Number 5) (Number 0))
+    ∷ returns (Number 0) ∷ [])
     ∷ []) 0
 
 -- int g(int x) { return x; } int main() { int a; int b; a = g(1); return a; }
@@ -42,9 +42,9 @@ abbrev pub one_call : ProgramTree
 one_call = functions_alone (
     int_function 1 (1 ∷ []) (returns (Local 0) ∷ [])
     ∷ int_function 0 (1 ∷ 1 ∷ []) (
-        Do (DeclareScalar 0) ∷ Do (DeclareScalar 1)
-        ∷ Do (SetLocal 0 (Called (CallFunction 0 0 (Number 1 ∷ []))))
-        ∷ returns (Local 0) ∷ [])
+    Do (DeclareScalar 0) ∷ Do (DeclareScalar 1)
+    ∷ Do (SetLocal 0 (Called (CallFunction 0 0 (Number 1 ∷ []))))
+    ∷ returns (Local 0) ∷ [])
     ∷ []) 1
 
 -- int f(int n) { int r; if (n < 1) return 0; r = f(n - 1); return r + 1; }
@@ -52,28 +52,28 @@ one_call = functions_alone (
 abbrev pub recursion : ProgramTree
 recursion = functions_alone (
     int_function 1 (1 ∷ 1 ∷ []) (
-        Do (DeclareScalar 1)
-        ∷ If (Binary BinaryOperator.Less (Local 0) (Number 1)) (returns (Number 0))
-        ∷ Do (SetLocal 1 (Called (CallFunction 0 0 (Binary BinaryOperator.Subtract (Local 0) (Number 1) ∷ []))))
-        ∷ returns (Binary BinaryOperator.Add (Local 1) (Number 1)) ∷ [])
+    Do (DeclareScalar 1)
+    ∷ If (Binary BinaryOperator.Less (Local 0) (Number 1)) (returns (Number 0))
+    ∷ Do (SetLocal 1 (Called (CallFunction 0 0 (Binary BinaryOperator.Subtract (Local 0) (Number 1) ∷ []))))
+    ∷ returns (Binary BinaryOperator.Add (Local 1) (Number 1)) ∷ [])
     ∷ int_function 0 (1 ∷ []) (
-        Do (DeclareScalar 0)
-        ∷ Do (SetLocal 0 (Called (CallFunction 1 0 (Number 1 ∷ []))))
-        ∷ puts 2 (Local 0)
-        ∷ returns (Number 0) ∷ [])
+    Do (DeclareScalar 0)
+    ∷ Do (SetLocal 0 (Called (CallFunction 1 0 (Number 1 ∷ []))))
+    ∷ puts 2 (Local 0)
+    ∷ returns (Number 0) ∷ [])
     ∷ []) 1
 
 -- int main() { int k = 3; int a[2]; int b = 9; a[1] = k; put(b); a[INDEX] = 7; return 0; }
 abbrev pub index_beyond : ExprTree → ProgramTree
 index_beyond index = functions_alone (
     int_function 0 (1 ∷ 2 ∷ 1 ∷ []) (
-        Do (DeclareWith 0 (Computed (Number 3)))
-        ∷ Do (DeclareArray 1 2)
-        ∷ Do (DeclareWith 2 (Computed (Number 9)))
-        ∷ Do (SetLocalElement 1 (Number 1) (Computed (Local 0)))
-        ∷ puts 0 (Local 2)
-        ∷ Do (SetLocalElement 1 index (Computed (Number 7)))
-        ∷ returns (Number 0) ∷ [])
+    Do (DeclareWith 0 (Computed (Number 3)))
+    ∷ Do (DeclareArray 1 2)
+    ∷ Do (DeclareWith 2 (Computed (Number 9)))
+    ∷ Do (SetLocalElement 1 (Number 1) (Computed (Local 0)))
+    ∷ puts 0 (Local 2)
+    ∷ Do (SetLocalElement 1 index (Computed (Number 7)))
+    ∷ returns (Number 0) ∷ [])
     ∷ []) 0
 
 -- int f(int x) { return x + 1; } int g(int x) { return x * 2; } int (*t[2])(int) = { f, g };
@@ -81,15 +81,15 @@ index_beyond index = functions_alone (
 abbrev pub table_calls : ProgramTree
 table_calls = record {
   functions =
-    int_function 1 (1 ∷ []) (returns (Binary BinaryOperator.Add (Local 0) (Number 1)) ∷ [])
-    ∷ int_function 1 (1 ∷ []) (returns (Binary BinaryOperator.Multiply (Local 0) (Number 2)) ∷ [])
-    ∷ int_function 0 (1 ∷ []) (
-        Do (DeclareScalar 0)
-        ∷ Do (SetLocal 0 (Called (CallTable 0 0 (Number 1) (Number 21))))
-        ∷ puts 1 (Local 0)
-        ∷ Do (SetLocal 0 (Called (CallTable 2 0 (Number 2) (Number 0))))
-        ∷ returns (Local 0) ∷ [])
-    ∷ [];
+      int_function 1 (1 ∷ []) (returns (Binary BinaryOperator.Add (Local 0) (Number 1)) ∷ [])
+      ∷ int_function 1 (1 ∷ []) (returns (Binary BinaryOperator.Multiply (Local 0) (Number 2)) ∷ [])
+      ∷ int_function 0 (1 ∷ []) (
+      Do (DeclareScalar 0)
+      ∷ Do (SetLocal 0 (Called (CallTable 0 0 (Number 1) (Number 21))))
+      ∷ puts 1 (Local 0)
+      ∷ Do (SetLocal 0 (Called (CallTable 2 0 (Number 2) (Number 0))))
+      ∷ returns (Local 0) ∷ [])
+      ∷ [];
   globals = [];
   tables = (0 ∷ 1 ∷ []) ∷ [];
   main = 2;
@@ -99,14 +99,14 @@ table_calls = record {
 abbrev pub deep_yield : ProgramTree
 deep_yield = functions_alone (
     int_function 1 (1 ∷ 1 ∷ []) (
-        Do (DeclareScalar 1)
-        ∷ If (Binary BinaryOperator.Less (Local 0) (Number 1)) (Block (in_order (Do (Calling (CallModelled 0 ModelledCall.Yield [])) ∷ returns (Number 0) ∷ [])))
-        ∷ Do (SetLocal 1 (Called (CallFunction 1 0 (Binary BinaryOperator.Subtract (Local 0) (Number 1) ∷ []))))
-        ∷ returns (Local 1) ∷ [])
+    Do (DeclareScalar 1)
+    ∷ If (Binary BinaryOperator.Less (Local 0) (Number 1)) (Block (in_order (Do (Calling (CallModelled 0 ModelledCall.Yield [])) ∷ returns (Number 0) ∷ [])))
+    ∷ Do (SetLocal 1 (Called (CallFunction 1 0 (Binary BinaryOperator.Subtract (Local 0) (Number 1) ∷ []))))
+    ∷ returns (Local 1) ∷ [])
     ∷ int_function 0 (1 ∷ []) (
-        Do (DeclareScalar 0)
-        ∷ Do (SetLocal 0 (Called (CallFunction 2 0 (Number 9 ∷ []))))
-        ∷ returns (Local 0) ∷ [])
+    Do (DeclareScalar 0)
+    ∷ Do (SetLocal 0 (Called (CallFunction 2 0 (Number 9 ∷ []))))
+    ∷ returns (Local 0) ∷ [])
     ∷ []) 1
 
 -- void worker(int n) { int c; int v; while (1) { c = accept(); take(1, 1); v = wait(c); put(v + n); give(1, 1); } }
@@ -123,9 +123,9 @@ abbrev pub server : ProgramTree
 server = functions_alone (
     record { name = []; params = 1; gives = false; sizes = 1 ∷ 1 ∷ 1 ∷ []; body = in_order (Do (DeclareScalar 1) ∷ Do (DeclareScalar 2) ∷ worker_loop ∷ []) }
     ∷ int_function 0 [] (
-        Do (Calling (CallSpawn 5 0 (Number 100)))
-        ∷ Do (Calling (CallSpawn 6 0 (Number 200)))
-        ∷ returns (Number 0) ∷ [])
+    Do (Calling (CallSpawn 5 0 (Number 100)))
+    ∷ Do (Calling (CallSpawn 6 0 (Number 200)))
+    ∷ returns (Number 0) ∷ [])
     ∷ []) 1
 
 -- ---- what is looked at

@@ -7,3 +7,5 @@ pub mod ModelledCalls
 pub mod World
 pub mod Examples
 pub mod Sites
+pub mod Layout
+pub mod Chains

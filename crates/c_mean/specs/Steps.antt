@@ -108,7 +108,7 @@ abbrev pub called : ProgramTree → Running → Place → CallTree → SourceMov
 called program thread place (CallFunction site f es) = on_value thread (all_valued thread es) (λ arguments. entered program thread site place f arguments)
 called program thread place (CallTable site t i e) =
     on_value thread (valued thread i) (λ index. on_value thread (valued thread e) (λ argument.
-        entered_by (slice_index_or program.tables t []) program thread site place index argument))
+    entered_by (slice_index_or program.tables t []) program thread site place index argument))
 called program thread place (CallSpawn site f e) = on_value thread (valued thread e) (λ argument. asks thread site place (spawn_of f argument))
 called program thread place (CallModelled site m es) = on_value thread (all_valued thread es) (λ arguments. asks_if thread site place (call_of (number_of m) arguments))
 
