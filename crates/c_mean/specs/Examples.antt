@@ -5,7 +5,7 @@ use Rattle.cap_word.specs.declared.calls.Block as block
 use Rattle.c_tree.specs.declared.operators.BinaryOperator.{BinaryOperator}
 use Rattle.c_tree.specs.declared.operators.UnaryOperator.{UnaryOperator}
 use Rattle.c_tree.specs.declared.operators.ModelledCall.{ModelledCall}
-use Rattle.c_tree.specs.Trees.{ExprTree, Number, Local, Unary, Binary, CallFunction, CallTable, CallSpawn, CallModelled, Computed, Called, DeclareScalar, DeclareArray, DeclareWith, SetLocal, SetLocalElement, Calling, StmtTree, StmtTrees, Do, Block, If, While, Return, NoStmts, Then, FunctionTree, ProgramTree}
+use Rattle.c_tree.specs.Trees.{ExprTree, Number, Local, Unary, Binary, CallFunction, CallTable, CallSpawn, CallModelled, Computed, Called, DeclareScalar, DeclareArray, DeclareWith, SetLocal, SetLocalElement, Calling, StmtTree, StmtTrees, Do, Block, If, While, For, Break, Continue, Return, NoStmts, Then, FunctionTree, ProgramTree}
 use Rattle.c_mean.specs.Frames.{Place, Running, key_of}
 use Rattle.c_mean.specs.Steps.{source_machine, started}
 use Rattle.c_mean.specs.World.{Rest, Fresh, Blocked, Ended}
@@ -127,6 +127,46 @@ server = functions_alone (
     ∷ Do (Calling (CallSpawn 6 0 (Number 200)))
     ∷ returns (Number 0) ∷ [])
     ∷ []) 1
+
+-- int main() { int k; for (k = 0; k < 5; k = k + 1) { if (k == 1) continue; if (k == 3) break; int x; put(k + x); x = 9; } return 0; }
+abbrev pub loop_jumps : ProgramTree
+loop_jumps = functions_alone (
+    int_function 0 (1 ∷ 1 ∷ []) (
+        Do (DeclareScalar 0)
+        ∷ For (SetLocal 0 (Computed (Number 0)) ∷ []) (Some (Binary BinaryOperator.Less (Local 0) (Number 5))) (Some (SetLocal 0 (Computed (Binary BinaryOperator.Add (Local 0) (Number 1))))) (Block (in_order (
+            If (Binary BinaryOperator.Equal (Local 0) (Number 1)) Continue
+            ∷ If (Binary BinaryOperator.Equal (Local 0) (Number 3)) Break
+            ∷ Do (DeclareScalar 1)
+            ∷ puts 0 (Binary BinaryOperator.Add (Local 0) (Local 1))
+            ∷ Do (SetLocal 1 (Computed (Number 9))) ∷ [])))
+        ∷ returns (Number 0) ∷ [])
+    ∷ []) 0
+
+-- int main() { int k = 0; while (k < 3) { k = k + 1; if (k == 2) continue; put(k); } return 0; }
+abbrev pub while_jumps : ProgramTree
+while_jumps = functions_alone (
+    int_function 0 (1 ∷ []) (
+        Do (DeclareWith 0 (Computed (Number 0)))
+        ∷ While (Binary BinaryOperator.Less (Local 0) (Number 3)) (Block (in_order (
+            Do (SetLocal 0 (Computed (Binary BinaryOperator.Add (Local 0) (Number 1))))
+            ∷ If (Binary BinaryOperator.Equal (Local 0) (Number 2)) Continue
+            ∷ puts 0 (Local 0) ∷ [])))
+        ∷ returns (Number 0) ∷ [])
+    ∷ []) 0
+
+-- int f() { put(5); return 1; } int main() { int a[2]; a[2] = f(); return 0; }
+abbrev pub late_range_test : ProgramTree
+late_range_test = functions_alone (
+    int_function 0 [] (puts 0 (Number 5) ∷ returns (Number 1) ∷ [])
+    ∷ int_function 0 (2 ∷ []) (
+        Do (DeclareArray 0 2)
+        ∷ Do (SetLocalElement 0 (Number 2) (Called (CallFunction 1 0 [])))
+        ∷ returns (Number 0) ∷ [])
+    ∷ []) 1
+
+-- int main() { CALL; return 0; }, of one modelled call
+abbrev pub one_modelled : ModelledCall → List ExprTree → ProgramTree
+one_modelled call arguments = functions_alone (int_function 0 [] (Do (Calling (CallModelled 0 call arguments)) ∷ returns (Number 0) ∷ []) ∷ []) 0
 
 -- ---- what is looked at
 

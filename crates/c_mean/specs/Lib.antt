@@ -9,3 +9,4 @@ pub mod Examples
 pub mod Sites
 pub mod Layout
 pub mod Chains
+pub mod Kept
