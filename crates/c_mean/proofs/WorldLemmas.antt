@@ -43,7 +43,7 @@ one_run program caps world number one other h k =
     let start = begun program caps world number in
     let turn : h.0 + k.0 ≡ k.0 + h.0 = omega arith in
     let same : ◌≡◌ {A = Option SegmentMove} (Some (Stops one)) (Some (Stops other)) =
-        sym (stays program caps start h.0 k.0 one h.1) ∙ ap (λ n. option_map (moves (segment_machine program caps) n) start) turn ∙ stays program caps start k.0 h.0 other k.1 in
+    sym (stays program caps start h.0 k.0 one h.1) ∙ ap (λ n. option_map (moves (segment_machine program caps) n) start) turn ∙ stays program caps start k.0 h.0 other k.1 in
     cc
 
 one_entry : (program : ProgramTree) (caps : List ℕ) (world : World) (entry : Entry) (one other : World) → IsAfterEntry program caps world entry one → IsAfterEntry program caps world entry other → one ≡ other
@@ -96,12 +96,13 @@ module _ (program : ProgramTree) (caps : List ℕ) (world : World) (t : ℕ) whe
 
   printed_more : (before outputs : List (ℕ × ℕ)) (number : ℕ) (prints : Option ℕ) → number ≡ t → (values : List ℕ) × (outputs ≡ before ++ map (λ v. (t, v)) values) → (values : List ℕ) × (with_printed number outputs prints ≡ before ++ map (λ v. (t, v)) values)
   printed_more before outputs number None own h = h
-  printed_more before outputs number (Some value) own h =
-      (h.0 ++ value ∷ [],
-        ap (λ os. os ++ (number, value) ∷ []) h.1
+  printed_more before outputs number (Some value) own h = (
+    h.0 ++ value ∷ [],
+    ap (λ os. os ++ (number, value) ∷ []) h.1
         ∙ append_assoc before (map (λ v. (t, v)) h.0) ((number, value) ∷ [])
         ∙ ap (λ n. before ++ (map (λ v. (t, v)) h.0 ++ (n, value) ∷ [])) own
-        ∙ ap (λ os. before ++ os) (sym (map-append (λ (v : ℕ). (t, v)) h.0 (value ∷ []))))
+        ∙ ap (λ os. before ++ os) (sym (map-append (λ (v : ℕ). (t, v)) h.0 (value ∷ []))),
+  )
 
   kept_ask : (segment : Segment) (running : Running) (row : ImmediateRow) → length row.after.channels ≡ length segment.world.exchange.channels → Keeps segment → Keeps (record { number = segment.number; running = running; world = after_ask segment.world segment.number row })
   kept_ask segment running row same h = record {

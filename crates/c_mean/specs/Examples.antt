@@ -132,26 +132,26 @@ server = functions_alone (
 abbrev pub loop_jumps : ProgramTree
 loop_jumps = functions_alone (
     int_function 0 (1 ∷ 1 ∷ []) (
-        Do (DeclareScalar 0)
-        ∷ For (SetLocal 0 (Computed (Number 0)) ∷ []) (Some (Binary BinaryOperator.Less (Local 0) (Number 5))) (Some (SetLocal 0 (Computed (Binary BinaryOperator.Add (Local 0) (Number 1))))) (Block (in_order (
-            If (Binary BinaryOperator.Equal (Local 0) (Number 1)) Continue
-            ∷ If (Binary BinaryOperator.Equal (Local 0) (Number 3)) Break
-            ∷ Do (DeclareScalar 1)
-            ∷ puts 0 (Binary BinaryOperator.Add (Local 0) (Local 1))
-            ∷ Do (SetLocal 1 (Computed (Number 9))) ∷ [])))
-        ∷ returns (Number 0) ∷ [])
+    Do (DeclareScalar 0)
+    ∷ For (SetLocal 0 (Computed (Number 0)) ∷ []) (Some (Binary BinaryOperator.Less (Local 0) (Number 5))) (Some (SetLocal 0 (Computed (Binary BinaryOperator.Add (Local 0) (Number 1))))) (Block (in_order (
+    If (Binary BinaryOperator.Equal (Local 0) (Number 1)) Continue
+    ∷ If (Binary BinaryOperator.Equal (Local 0) (Number 3)) Break
+    ∷ Do (DeclareScalar 1)
+    ∷ puts 0 (Binary BinaryOperator.Add (Local 0) (Local 1))
+    ∷ Do (SetLocal 1 (Computed (Number 9))) ∷ [])))
+    ∷ returns (Number 0) ∷ [])
     ∷ []) 0
 
 -- int main() { int k = 0; while (k < 3) { k = k + 1; if (k == 2) continue; put(k); } return 0; }
 abbrev pub while_jumps : ProgramTree
 while_jumps = functions_alone (
     int_function 0 (1 ∷ []) (
-        Do (DeclareWith 0 (Computed (Number 0)))
-        ∷ While (Binary BinaryOperator.Less (Local 0) (Number 3)) (Block (in_order (
-            Do (SetLocal 0 (Computed (Binary BinaryOperator.Add (Local 0) (Number 1))))
-            ∷ If (Binary BinaryOperator.Equal (Local 0) (Number 2)) Continue
-            ∷ puts 0 (Local 0) ∷ [])))
-        ∷ returns (Number 0) ∷ [])
+    Do (DeclareWith 0 (Computed (Number 0)))
+    ∷ While (Binary BinaryOperator.Less (Local 0) (Number 3)) (Block (in_order (
+    Do (SetLocal 0 (Computed (Binary BinaryOperator.Add (Local 0) (Number 1))))
+    ∷ If (Binary BinaryOperator.Equal (Local 0) (Number 2)) Continue
+    ∷ puts 0 (Local 0) ∷ [])))
+    ∷ returns (Number 0) ∷ [])
     ∷ []) 0
 
 -- int f() { put(5); return 1; } int main() { int a[2]; a[2] = f(); return 0; }
@@ -159,9 +159,9 @@ abbrev pub late_range_test : ProgramTree
 late_range_test = functions_alone (
     int_function 0 [] (puts 0 (Number 5) ∷ returns (Number 1) ∷ [])
     ∷ int_function 0 (2 ∷ []) (
-        Do (DeclareArray 0 2)
-        ∷ Do (SetLocalElement 0 (Number 2) (Called (CallFunction 1 0 [])))
-        ∷ returns (Number 0) ∷ [])
+    Do (DeclareArray 0 2)
+    ∷ Do (SetLocalElement 0 (Number 2) (Called (CallFunction 1 0 [])))
+    ∷ returns (Number 0) ∷ [])
     ∷ []) 1
 
 -- int main() { CALL; return 0; }, of one modelled call

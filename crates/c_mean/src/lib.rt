@@ -15,7 +15,11 @@ mod layout;
 mod operators;
 mod values;
 
-pub use examples::{blocked_threads_are_ready, call_pushes_frame, calls_out_of_range_trap, deep_thread_blocks, divisions_have_values, loops_turn, operands_are_evaluated_as_needed, operators_have_edges, range_is_tested_last, recursion_returns, server_serves, stores_beyond_trap, tables_are_called};
+pub use examples::{
+    blocked_threads_are_ready, call_pushes_frame, calls_out_of_range_trap, deep_thread_blocks,
+    divisions_have_values, loops_turn, operands_are_evaluated_as_needed, operators_have_edges,
+    range_is_tested_last, recursion_returns, server_serves, stores_beyond_trap, tables_are_called,
+};
 pub use laws::{
     deliveries_change_one_queue, runs_have_one_end, runs_leave_others_alone,
     scoped_expressions_are_in_range,
