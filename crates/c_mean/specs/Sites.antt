@@ -70,8 +70,8 @@ abbrev mutual
   stmt_calls (While c s) scope rest = stmt_calls s scope (Back (WhileLoop c s) ∷ rest)
   stmt_calls (For init c step s) scope rest =
       simples_calls init scope (turn_before (ForLoop c step s) rest)
-      ++ step_calls step (scope_after_all scope init) (Back (ForLoop c step s) ∷ rest)
-      ++ stmt_calls s (scope_after_all scope init) (step_item step ++ Back (ForLoop c step s) ∷ rest)
+      ++ (step_calls step (scope_after_all scope init) (Back (ForLoop c step s) ∷ rest)
+      ++ stmt_calls s (scope_after_all scope init) (step_item step ++ Back (ForLoop c step s) ∷ rest))
   stmt_calls Break scope rest = []
   stmt_calls Continue scope rest = []
   stmt_calls (Return v) scope rest = returned_calls v scope rest
