@@ -1,3 +1,4 @@
 pub mod WordLemmas
 pub mod WordRange
 pub mod RunLemmas
+pub mod Following

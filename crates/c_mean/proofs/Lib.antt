@@ -1,0 +1,6 @@
+pub mod LayoutLemmas
+pub mod ChainLemmas
+pub mod WorldLemmas
+pub mod TextLemmas
+pub mod StandLemmas
+pub mod WorldStandLemmas

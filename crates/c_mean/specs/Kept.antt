@@ -1,0 +1,19 @@
+-- What a run of one thread leaves as it was.
+use Rattle.std.specs.Prelude.{◌≡◌, ◌≢◌, ℕ, ◌<◌, ◌≤◌, List, ◌++◌, map, length, slice_get}
+use Rattle.c_mean.specs.ModelledCalls.{Exchange, Delivery, Arrival, Message, channel_of}
+use Rattle.c_mean.specs.World.{World}
+
+-- after thread t ran in a world: every other thread that was there rests where it rested, none is gone, what was put
+-- stands, followed only by what t put, and there are as many channels as before
+pub record LeavesAlone (world : World) (t : ℕ) (after : World) : Type 0 where
+  pub others : (u : ℕ) → u ≢ t → u < length world.threads → slice_get after.threads u ≡ slice_get world.threads u
+  pub none_gone : length world.threads ≤ length after.threads
+  pub outputs : (values : List ℕ) × (after.outputs ≡ world.outputs ++ map (λ v. (t, v)) values)
+  pub channels : length after.exchange.channels ≡ length world.exchange.channels
+
+-- after a delivery only its queue has changed
+pub record LeavesOtherQueues (x : Exchange) (delivery : Delivery) (after : Exchange) : Type 0 where
+  pub uses : after.uses ≡ x.uses
+  pub arrivals : (channel value : ℕ) → delivery ≡ Message channel value → after.arrivals ≡ x.arrivals
+  pub channels : (value : ℕ) → delivery ≡ Arrival value → after.channels ≡ x.channels
+  pub other_channels : (channel other value : ℕ) → delivery ≡ Message channel value → other ≢ channel → channel_of after other ≡ channel_of x other

@@ -1,0 +1,12 @@
+pub mod Operators
+pub mod Values
+pub mod ToDo
+pub mod Frames
+pub mod Steps
+pub mod ModelledCalls
+pub mod World
+pub mod Examples
+pub mod Sites
+pub mod Layout
+pub mod Chains
+pub mod Kept

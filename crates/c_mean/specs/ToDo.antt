@@ -1,0 +1,90 @@
+-- What a function's frame has still to do: a list of items, in order. A block, an empty statement and the places where
+-- branches join are no items: a statement stands in the list as the items that it begins with (ISO/IEC 9899:2018, 6.8).
+use Rattle.std.specs.Prelude.{ℕ, List, [], ◌∷◌, ◌++◌, map, Option, Some, None}
+use Rattle.cap_word.specs.declared.traps.TrapKind.{TrapKind}
+use Rattle.c_tree.specs.Trees.{ExprTree, RightTree, SimpleTree, StmtTree, StmtTrees, Do, Empty, Block, If, IfElse, While, For, Break, Continue, Return, NoStmts, Then}
+
+-- a loop: `while (c) s`, or the turns of `for (..; c; step) s`
+pub data Loop : Type 0 where
+  WhileLoop : (c : ExprTree) (s : StmtTree) → Loop
+  ForLoop : (c : Option ExprTree) (step : Option SimpleTree) (s : StmtTree) → Loop
+
+pub data Item : Type 0 where
+  -- a declaration of one name, an assignment or a call
+  Simply : (s : SimpleTree) → Item
+  -- the test of a branch, and its two sides
+  Choose : (c : ExprTree) (s r : StmtTree) → Item
+  -- the test of a loop's condition
+  Test : (c : ExprTree) (loop : Loop) → Item
+  -- the jump back at the end of a loop's turn
+  Back : (loop : Loop) → Item
+  -- `break` and `continue`
+  Leave : Item
+  Skip : Item
+  -- `return`
+  GiveBack : (v : Option RightTree) → Item
+  -- the return of a call's result that came
+  GiveBackWord : (word : ℕ) → Item
+  -- the trap that a result met where it was to be stored
+  Fail : (trap : TrapKind) → Item
+
+-- what stands between the body and the jump back of a loop's turn: the step of a `for`
+abbrev pub step_item : Option SimpleTree → List Item
+step_item None = []
+step_item (Some step) = Simply step ∷ []
+
+abbrev pub loop_step : Loop → List Item
+loop_step (WhileLoop c s) = []
+loop_step (ForLoop c step s) = step_item step
+
+-- a turn begins with the test, or with the body where there is none
+abbrev pub begun : Option ExprTree → Loop → List Item → List Item → List Item
+begun None loop body rest = body
+begun (Some c) loop body rest = Test c loop ∷ rest
+
+-- a statement and then the rest
+abbrev mutual
+  pub before : StmtTree → List Item → List Item
+  before (Do s) rest = Simply s ∷ rest
+  before Empty rest = rest
+  before (Block ss) rest = all_before ss rest
+  before (If c s) rest = Choose c s Empty ∷ rest
+  before (IfElse c s r) rest = Choose c s r ∷ rest
+  before (While c s) rest = Test c (WhileLoop c s) ∷ rest
+  before (For init c step s) rest = map Simply init ++ begun c (ForLoop c step s) (before s (step_item step ++ Back (ForLoop c step s) ∷ rest)) rest
+  before Break rest = Leave ∷ rest
+  before Continue rest = Skip ∷ rest
+  before (Return v) rest = GiveBack v ∷ rest
+
+  pub all_before : StmtTrees → List Item → List Item
+  all_before NoStmts rest = rest
+  all_before (Then s ss) rest = before s (all_before ss rest)
+
+-- the body of a loop, to its end, and then the rest
+abbrev pub body_of : Loop → StmtTree
+body_of (WhileLoop c s) = s
+body_of (ForLoop c step s) = s
+
+abbrev pub body_before : Loop → List Item → List Item
+body_before loop rest = before (body_of loop) (loop_step loop ++ Back loop ∷ rest)
+
+-- a turn of a loop, and then the rest
+abbrev pub turn_before : Loop → List Item → List Item
+turn_before (WhileLoop c s) rest = Test c (WhileLoop c s) ∷ rest
+turn_before (ForLoop c step s) rest = begun c (ForLoop c step s) (body_before (ForLoop c step s) rest) rest
+
+-- what is still to do after a `break`: what follows the innermost loop
+abbrev pub after_leave : List Item → List Item
+after_leave [] = []
+after_leave (Back loop ∷ rest) = rest
+after_leave (item ∷ rest) = after_leave rest
+
+-- what is still to do after a `continue`: of a `while` the next turn, of a `for` its step and the jump back
+abbrev pub skipped : Loop → List Item → List Item
+skipped (WhileLoop c s) rest = turn_before (WhileLoop c s) rest
+skipped (ForLoop c step s) rest = step_item step ++ Back (ForLoop c step s) ∷ rest
+
+abbrev pub after_skip : List Item → List Item
+after_skip [] = []
+after_skip (Back loop ∷ rest) = skipped loop rest
+after_skip (item ∷ rest) = after_skip rest

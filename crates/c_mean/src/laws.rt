@@ -1,0 +1,52 @@
+// What holds of every program, world and schedule.
+ghost use Rattle.std.specs.Prelude.{◌≡◌, ℕ, ◌<◌, ◌++◌, ◌∷◌, [], List, Some, length, slice_get};
+ghost use Rattle.std.specs.List.{AllByRecursion};
+ghost use Rattle.cap_word.specs.Calls.{Answer, Question};
+ghost use Rattle.cap_word.specs.Runs.{Asks, Unfinished, run};
+ghost use Rattle.cap_word.specs.declared.calls.Block.{Block};
+ghost use Rattle.c_tree.specs.Trees.{ExprTree, ProgramTree};
+ghost use Rattle.c_tree.specs.WellScoped.{Context, IsExprScoped};
+ghost use Rattle.c_mean.specs.Kept.{LeavesAlone, LeavesOtherQueues};
+ghost use Rattle.c_mean.specs.Layout.{IsInRange};
+ghost use Rattle.c_mean.specs.ModelledCalls.{Arrival, Delivery, Exchange, Message, queue_of, with_delivery};
+ghost use Rattle.c_mean.specs.Frames.{Running, Waiting};
+ghost use Rattle.c_mean.specs.Sites.{WaitsInText};
+ghost use Rattle.c_mean.specs.Steps.{source_machine, source_step, started};
+ghost use Rattle.c_mean.specs.World.{Blocked, Entry, IsAfter, IsCutAt, Rested, RunsTo, Segment, World, start_world};
+
+/// A run of a thread, a cut of one and a schedule each come to one end at most. It does nothing: the law is the contract.
+pub fn runs_have_one_end()
+    ensures run { (program : ProgramTree) (caps : List ℕ) (world : World) (number : ℕ) (one other : Rested) → RunsTo program caps world number one → RunsTo program caps world number other → one ≡ other }
+    ensures cut { (program : ProgramTree) (caps : List ℕ) (world : World) (number puts : ℕ) (one other : Segment) → IsCutAt program caps world number puts one → IsCutAt program caps world number puts other → one ≡ other }
+    ensures schedule { (program : ProgramTree) (caps : List ℕ) (entries : List Entry) (world one other : World) → IsAfter program caps world entries one → IsAfter program caps world entries other → one ≡ other }
+{}
+
+/// A run of a thread leaves every other thread where it rests, removes none, and adds only its own outputs, at the end;
+/// so does what it has come to when it is cut. It does nothing: the law is the contract.
+pub fn runs_leave_others_alone()
+    ensures run { (program : ProgramTree) (caps : List ℕ) (world : World) (number : ℕ) (rested : Rested) → RunsTo program caps world number rested → LeavesAlone world number rested.world }
+    ensures cut { (program : ProgramTree) (caps : List ℕ) (world : World) (number puts : ℕ) (segment : Segment) → IsCutAt program caps world number puts segment → LeavesAlone world number segment.world }
+{}
+
+/// A delivery joins the end of its queue, if its channel is there, and changes nothing else. It does nothing: the law is
+/// the contract.
+pub fn deliveries_change_one_queue()
+    ensures arrival { (x : Exchange) (value : ℕ) → queue_of (with_delivery x (Arrival value)) (Arrival value) ≡ x.arrivals ++ value ∷ [] }
+    ensures message { (x : Exchange) (channel value : ℕ) → channel < length x.channels → queue_of (with_delivery x (Message channel value)) (Message channel value) ≡ queue_of x (Message channel value) ++ value ∷ [] }
+    ensures others { (x : Exchange) (delivery : Delivery) → LeavesOtherQueues x delivery (with_delivery x delivery) }
+{}
+
+/// An expression that is well scoped in a function has a value or a trap there: it is in the range that `value_of` asks
+/// for. It does nothing: the law is the contract.
+pub fn scoped_expressions_are_in_range()
+    ensures { (context : Context) (scope : List ℕ) (expr : ExprTree) → IsExprScoped context scope expr → IsInRange context.sizes context.globals expr }
+{}
+
+/// Whatever a world answers, every frame of a thread that waits does so at a call of its function's text: its site is that
+/// call's, its result goes where the text says, and what it has still to do is what follows the call there. So it is in
+/// every world that a schedule leads to. It does nothing: the law is the contract.
+pub fn frames_wait_in_text()
+    ensures running { (program : ProgramTree) (function : ℕ) (arguments : List ℕ) (globals : List (List ℕ)) (world : List Question → Answer) (n : ℕ) (asked : List Question) (thread : Running) → run (source_machine program) world n [] (started program function arguments globals) ≡ Unfinished asked thread → AllByRecursion (WaitsInText program) thread.below }
+    ensures asking { (program : ProgramTree) (function : ℕ) (arguments : List ℕ) (globals : List (List ℕ)) (world : List Question → Answer) (n : ℕ) (asked : List Question) (thread : Running) (question : Question) (waiting : Waiting) → run (source_machine program) world n [] (started program function arguments globals) ≡ Unfinished asked thread → source_step program thread ≡ Asks question waiting → AllByRecursion (WaitsInText program) (waiting.front ∷ waiting.below) }
+    ensures blocked { (program : ProgramTree) (caps : List ℕ) (entries : List Entry) (world : World) (number : ℕ) (block : Block) (waiting : Waiting) → IsAfter program caps (start_world program) entries world → slice_get world.threads number ≡ Some (Blocked block waiting) → AllByRecursion (WaitsInText program) (waiting.front ∷ waiting.below) }
+{}
