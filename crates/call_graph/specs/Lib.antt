@@ -1,0 +1,5 @@
+pub mod Callees
+pub mod Graph
+pub mod Index
+pub mod Lists
+pub mod Paths

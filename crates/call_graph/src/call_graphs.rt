@@ -1,0 +1,78 @@
+ghost use Rattle.std.specs.Prelude.{◌≡◌};
+
+use crate::callee_lists::Callees;
+use crate::sites::GraphSite;
+use std::marker::Model;
+
+/// A weighted call graph. What it means is the weights of the functions, the members of the tables, the
+/// call sites and the function that is started. It keeps that every function's number is below the number
+/// of weights, that the sites' numbers rise and that every site has a callee.
+#[derive(Drop)]
+pub struct CallGraph {
+    weights: Vec<u32>,
+    tables: Vec<Callees>,
+    sites: Vec<GraphSite>,
+    main: u32,
+}
+
+impl Model for CallGraph {
+    ghost use Rattle.call_graph.specs.Graph.{CallGraphState, IsCallGraph};
+
+    ghost Value = { CallGraphState };
+
+    ghost view = { λ g. record { weights = g.weights.items; tables = g.tables.items; sites = g.sites.items; main = g.main } };
+
+    ghost invariant = { λ g. IsCallGraph (record { weights = g.weights.items; tables = g.tables.items; sites = g.sites.items; main = g.main }) };
+}
+
+impl CallGraph {
+    ghost use Rattle.call_graph.specs.Graph.{IsCallGraph};
+
+    /// The graph of these weights in bytes, by function, these tables, these sites and this function that
+    /// is started. It takes no memory.
+    pub fn new(
+        weights: Vec<u32>,
+        tables: Vec<Callees>,
+        sites: Vec<GraphSite>,
+        main: u32,
+    ) -> CallGraph
+        requires { IsCallGraph (record { weights = weights.items; tables = tables.items; sites = sites.items; main = main }) }
+        ensures { result ≡ record { weights = weights.items; tables = tables.items; sites = sites.items; main = main } }
+    {
+        CallGraph {
+            weights,
+            tables,
+            sites,
+            main,
+        }
+    }
+
+    /// The weights of the functions in bytes, by number.
+    pub fn weights(&self) -> &[u32]
+        ensures value { result.now ≡ self.now.weights }
+        ensures kept { IsCallGraph self.now }
+    {
+        self.weights.as_slice()
+    }
+
+    /// The members of the tables, by number.
+    pub fn tables(&self) -> &[Callees]
+        ensures { result.now ≡ self.now.tables }
+    {
+        self.tables.as_slice()
+    }
+
+    /// The call sites, in order of their numbers.
+    pub fn sites(&self) -> &[GraphSite]
+        ensures { result.now ≡ self.now.sites }
+    {
+        self.sites.as_slice()
+    }
+
+    /// The number of the function that is started.
+    pub fn main(&self) -> u32
+        ensures { result ≡ self.now.main }
+    {
+        self.main
+    }
+}

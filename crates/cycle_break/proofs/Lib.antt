@@ -1,0 +1,8 @@
+pub mod BottomUpLemmas
+pub mod FinishLemmas
+pub mod NumberLemmas
+pub mod OrderLemmas
+pub mod PathLemmas
+pub mod RankLemmas
+pub mod SiteLemmas
+pub mod WalkLemmas

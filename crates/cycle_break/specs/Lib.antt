@@ -1,0 +1,4 @@
+pub mod BackEdges
+pub mod BottomUp
+pub mod Trail
+pub mod Walk

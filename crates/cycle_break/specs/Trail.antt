@@ -1,0 +1,33 @@
+-- What the walk's code keeps of the functions that were left.
+use Rattle.std.specs.Prelude.{ℕ, ◌≡◌, ◌<◌, ◌+◌, ◌==◌, nat_le, Bool, false, if◌then◌else◌, List, [], ◌∷◌, length}
+use Rattle.std.specs.List.{AllByRecursion, slice_index_or}
+use Rattle.call_graph.specs.Callees.{greatest}
+use Rattle.call_graph.specs.Lists.{has}
+use Rattle.cycle_break.specs.Walk.{Walked}
+
+-- a walk that has left these functions, whatever back edges it found
+abbrev pub come : List ℕ → Walked
+come left = record { left = left; back = [] }
+
+-- whether a function is marked as visited
+abbrev pub is_marked : List Bool → ℕ → Bool
+is_marked visited function = slice_index_or visited function false
+
+-- where no function is on the path, those that are marked are those that were left
+pub record IsMarked (functions : ℕ) (visited : List Bool) (left : List ℕ) : Type 0 where
+  pub each : length visited ≡ functions
+  pub marks : (function : ℕ) → function < functions → is_marked visited function ≡ has function left
+  pub below : AllByRecursion (λ function. function < functions) left
+
+-- the place from 1 of a number in a list, or 0 where it isn't there; the list goes on from a place
+abbrev pub place_from : ℕ → ℕ → List ℕ → ℕ
+place_from place n [] = 0
+place_from place n (x ∷ xs) = if x == n then place + 1 else place_from (place + 1) n xs
+
+-- the place from 1 at which a function was left, where these were left in this order
+abbrev pub rank : List ℕ → ℕ → ℕ
+rank order function = place_from 0 function order
+
+-- whether one of these functions was left no earlier than a function
+abbrev pub is_later : List ℕ → ℕ → List ℕ → Bool
+is_later order function callees = nat_le (rank order function) (greatest (rank order) callees)
