@@ -19,8 +19,8 @@ pub struct CallerIndex<'a> {
     pub next: Vec<usize>,
 }
 
-/// Whether a number is none of these, which rise.
-fn is_kept(number: u32, without: &[u32]) -> bool
+/// Whether a number is none of these, which rise. It takes no memory.
+pub fn is_kept(number: u32, without: &[u32]) -> bool
     requires { IsStrictlyIncreasing without.now }
     ensures { result ≡ not (has number without.now) }
 {

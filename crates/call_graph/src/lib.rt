@@ -15,5 +15,5 @@ mod sites;
 
 pub use call_graphs::CallGraph;
 pub use callee_lists::Callees;
-pub use index::CallerIndex;
+pub use index::{CallerIndex, is_kept};
 pub use sites::{GraphSite, Target};

@@ -77,7 +77,7 @@ has-append f x (y ∷ ys) =
     let rest = has-append f x ys in
     by_test (y == f) (λ t. by_test (x == f) (λ u. rw (t, u) refl) (λ u. rw (t, u) refl)) (λ e. rw e rest)
 
-has-reverse : (f : ℕ) (xs : List ℕ) → has f (reverse xs) ≡ has f xs
+pub has-reverse : (f : ℕ) (xs : List ℕ) → has f (reverse xs) ≡ has f xs
 has-reverse f [] = refl
 has-reverse f (x ∷ xs) =
     let rest = has-reverse f xs in

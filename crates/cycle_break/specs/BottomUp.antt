@@ -1,7 +1,6 @@
 -- An order of functions from the bottom up.
-use Rattle.std.specs.Prelude.{ℕ, ◌≡◌, true, false, ⊤, List, [], ◌∷◌}
+use Rattle.std.specs.Prelude.{ℕ, ◌≡◌, true, ⊤, List, [], ◌∷◌}
 use Rattle.std.specs.List.{AllByRecursion}
-use Rattle.call_graph.specs.declared.sites.GraphSite.{GraphSite}
 use Rattle.call_graph.specs.Callees.{callees}
 use Rattle.call_graph.specs.Graph.{CallGraphState}
 use Rattle.call_graph.specs.Index.{sites_of}

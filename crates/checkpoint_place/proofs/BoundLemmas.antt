@@ -1,0 +1,93 @@
+-- One function more has its bound.
+use Rattle.std.proofs.Common.{◌≡◌, ℕ, ◌+◌, ◌<◌, nat_le, true, false, List, [], ◌∷◌, ◌++◌, length, take, drop, set, get_or, filter, reverse, slice_index, refl, sym, ap, ◌∙◌, subst}
+use Rattle.std.proofs.lemmas.List.{get_or-set_same, get_or-set_other, take_more, reverse-append, take-append-drop}
+use Rattle.std.specs.List.{AllByRecursion}
+use Rattle.call_graph.specs.declared.sites.GraphSite.{GraphSite}
+use Rattle.call_graph.specs.Callees.{callees, greatest}
+use Rattle.call_graph.specs.Graph.{CallGraphState}
+use Rattle.call_graph.specs.Index.{sites_of}
+use Rattle.call_graph.specs.Lists.{has}
+use Rattle.call_graph.proofs.ListLemmas.{by_test}
+use Rattle.call_graph.proofs.IndexLemmas.{by_eq}
+use Rattle.cycle_break.specs.BottomUp.{CallsOnly, IsBottomUp}
+use Rattle.cycle_break.proofs.NumberLemmas.{all-map, has-tail, has-cases, true_false}
+use Rattle.checkpoint_place.specs.Placement.{callee_bound, is_within, bound_over}
+
+-- ---- a bound hangs only on the bounds of the callees
+
+greatest-agree : (p q : ℕ → ℕ) (cs : List ℕ) → AllByRecursion (λ c. p c ≡ q c) cs → greatest p cs ≡ greatest q cs
+greatest-agree p q [] same = refl
+greatest-agree p q (c ∷ cs) same = rw (same.0, greatest-agree p q cs same.1) refl
+
+most-agree : (tables : List (List ℕ)) (p q : ℕ → ℕ) (max_path weight : ℕ) (ss : List GraphSite) → AllByRecursion (λ s. AllByRecursion (λ c. p c ≡ q c) (callees tables s.target)) ss →
+    greatest (callee_bound tables p) (filter (is_within tables p max_path weight) ss) ≡ greatest (callee_bound tables q) (filter (is_within tables q max_path weight) ss)
+most-agree tables p q max_path weight [] same = refl
+most-agree tables p q max_path weight (s ∷ ss) same =
+    let one : callee_bound tables p s ≡ callee_bound tables q s = greatest-agree p q (callees tables s.target) same.0 in
+    let rest = most-agree tables p q max_path weight ss same.1 in
+    let test : is_within tables p max_path weight s ≡ is_within tables q max_path weight s = ap (λ n. nat_le (weight + n) max_path) one in
+    by_test (is_within tables q max_path weight s)
+    (λ t. let t' : is_within tables p max_path weight s ≡ true = test ∙ t in rw (t, t', one, rest) refl)
+    (λ e. let e' : is_within tables p max_path weight s ≡ false = test ∙ e in rw (e, e') rest)
+
+-- ---- an order from the bottom up
+
+pub up-suffix : (graph : CallGraphState) (back xs ys : List ℕ) → IsBottomUp graph back (xs ++ ys) → IsBottomUp graph back ys
+up-suffix graph back [] ys up = up
+up-suffix graph back (x ∷ xs) ys up = up-suffix graph back xs ys up.1
+
+weaker : (graph : CallGraphState) (back xs ys : List ℕ) (f : ℕ) → ((c : ℕ) → has c xs ≡ true → has c ys ≡ true) → CallsOnly graph back xs f → CallsOnly graph back ys f
+weaker graph back xs ys f sub calls =
+    all-map (λ s. AllByRecursion (λ c. has c xs ≡ true) (callees graph.tables s.target)) (λ s. AllByRecursion (λ c. has c ys ≡ true) (callees graph.tables s.target))
+    (λ s all. all-map (λ c. has c xs ≡ true) (λ c. has c ys ≡ true) sub (callees graph.tables s.target) all) (sites_of graph.sites back f) calls
+
+pub calls-within : (graph : CallGraphState) (back xs : List ℕ) (f : ℕ) → IsBottomUp graph back xs → has f xs ≡ true → CallsOnly graph back xs f
+calls-within graph back [] f up h = true_false false h refl
+calls-within graph back (x ∷ xs) f up h =
+    weaker graph back xs (x ∷ xs) f (λ c. has-tail c x xs)
+    (has-cases f x xs h (λ e. subst (CallsOnly graph back xs) e up.0) (λ rest. calls-within graph back xs f up.1 rest))
+
+reverse-more : (order : List ℕ) (i : ℕ) → i < length order → reverse (take (i + 1) order) ≡ get_or order i 0 ∷ reverse (take i order)
+reverse-more order i within = ap reverse (take_more order i 0 within) ∙ reverse-append (take i order) (get_or order i 0 ∷ [])
+
+pub up-front : (graph : CallGraphState) (back order : List ℕ) (i : ℕ) → IsBottomUp graph back (reverse order) → IsBottomUp graph back (reverse (take i order))
+up-front graph back order i up =
+    up-suffix graph back (reverse (drop i order)) (reverse (take i order))
+    (subst (IsBottomUp graph back) (ap reverse (sym (take-append-drop i order)) ∙ reverse-append (take i order) (drop i order)) up)
+
+-- ---- the table of bounds
+
+module _ (graph : CallGraphState) (back : List ℕ) (max_path : ℕ) where
+  -- the bound that a function has by the bounds of others
+  abbrev pub bound_by : (ℕ → ℕ) → ℕ → ℕ
+  bound_by bound f = bound_over graph.tables bound max_path (slice_index graph.weights f) (sites_of graph.sites back f)
+
+  -- these functions have their bounds
+  abbrev pub AreBound : List ℕ → List ℕ → Type 0
+  AreBound done bounds = (f : ℕ) → has f done ≡ true → get_or bounds f 0 ≡ bound_by (slice_index bounds) f
+
+  bound_by-agree : (p q : ℕ → ℕ) (f : ℕ) (others : List ℕ) → ((c : ℕ) → has c others ≡ true → p c ≡ q c) → CallsOnly graph back others f → bound_by p f ≡ bound_by q f
+  bound_by-agree p q f others same calls =
+      ap (λ n. slice_index graph.weights f + n)
+      (most-agree graph.tables p q max_path (slice_index graph.weights f) (sites_of graph.sites back f)
+      (all-map (λ s. AllByRecursion (λ c. has c others ≡ true) (callees graph.tables s.target)) (λ s. AllByRecursion (λ c. p c ≡ q c) (callees graph.tables s.target))
+      (λ s all. all-map (λ c. has c others ≡ true) (λ c. p c ≡ q c) same (callees graph.tables s.target) all) (sites_of graph.sites back f) calls))
+
+  -- the bound of the next function is written
+  pub AreBound-more : (order bounds : List ℕ) (i value : ℕ) → i < length order → get_or order i 0 < length bounds → IsBottomUp graph back (reverse order) →
+      AreBound (reverse (take i order)) bounds → value ≡ bound_by (slice_index bounds) (get_or order i 0) →
+      AreBound (reverse (take (i + 1) order)) (set bounds (get_or order i 0) value)
+  AreBound-more order bounds i value within below up bound is =
+      let f = get_or order i 0 in
+      let done = reverse (take i order) in
+      let new = set bounds f value in
+      let up_more : IsBottomUp graph back (f ∷ done) = subst (IsBottomUp graph back) (reverse-more order i within) (up-front graph back order (i + 1) up) in
+      let kept : (c : ℕ) → has c done ≡ true → get_or bounds c 0 ≡ get_or new c 0 =
+      λ c h. by_eq c f
+      (λ same. let was : has f done ≡ true = rw (← same) h in rw same (bound f was ∙ sym is ∙ sym (get_or-set_same bounds f value 0 below)))
+      (λ ne. sym (get_or-set_other bounds f c value 0 ne)) in
+      λ g h.
+      has-cases g f done (subst (λ l. has g l ≡ true) (reverse-more order i within) h)
+      (λ same. subst (λ n. get_or new n 0 ≡ bound_by (slice_index new) n) same
+      (get_or-set_same bounds f value 0 below ∙ is ∙ bound_by-agree (slice_index bounds) (slice_index new) f done kept up_more.0))
+      (λ was. sym (kept g was) ∙ bound g was ∙ bound_by-agree (slice_index bounds) (slice_index new) g done kept (calls-within graph back done g up_more.1 was))

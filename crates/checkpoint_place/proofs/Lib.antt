@@ -1,0 +1,3 @@
+pub mod BoundLemmas
+pub mod PlanLemmas
+pub mod WeightLemmas

@@ -1,0 +1,32 @@
+use Rattle.std.proofs.Common.{◌≡◌, ◌<◌, length, take, get_or, slice_index, ap, ◌∙◌, arith}
+use Rattle.std.proofs.lemmas.List.{take_all}
+use Rattle.call_graph.specs.Graph.{function_count}
+use Rattle.call_graph.specs.Lists.{has}
+use Rattle.call_graph.proofs.ListLemmas.{all-at}
+use Rattle.cycle_break.proofs.RankLemmas.{has-reverse}
+use Rattle.checkpoint_place.proofs.BoundLemmas.{bound_by, AreBound-more}
+use Rattle.checkpoint_place.proofs.bounds.bounds_of.Goals as goal
+
+pub loop-function-preserved : goal.loop-function-preserved
+loop-function-preserved c =
+    let graph = c.args.graph.now in
+    let back = c.args.index.now.without.now in
+    let order = c.args.order.now in
+    let i = c.loop-function.function-index in
+    let bounds = c.loop-function.bounds.items in
+    let f = get_or order i 0 in
+    let within : i < length order = omega arith in
+    let below : f < function_count graph = all-at (λ n. n < function_count graph) order i 0 c.requires.functions within in
+    let in_bounds : f < length bounds = omega (arith, below, c.loop-function.invariant.each) in
+    let value : c.bound_of.result ≡ bound_by graph back c.args.max_path (slice_index bounds) f =
+    rw (c.tables-tables.ensures, c.as_slice.ensures.value, c.weights-weights.ensures.value, c.requires.sites) at c.bound_of.ensures.bound in
+    record {
+      each = c.loop-function.invariant.each;
+      bound = AreBound-more graph back c.args.max_path order bounds i c.bound_of.result within in_bounds c.requires.bottom_up c.loop-function.invariant.bound value;
+    }
+
+pub returns-clause-bounds : goal.returns-clause-bounds
+returns-clause-bounds c = λ f h.
+    let order = c.args.order.now in
+    let all : take c.loop-function.function-index order ≡ order = take_all c.loop-function.function-index order (omega arith) in
+    c.loop-function.invariant.bound f (has-reverse f (take c.loop-function.function-index order) ∙ ap (has f) all ∙ h)

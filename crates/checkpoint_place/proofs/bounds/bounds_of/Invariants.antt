@@ -1,0 +1,10 @@
+use Rattle.std.proofs.Common.{◌≡◌, reverse, take, vec_len}
+use Rattle.call_graph.specs.Graph.{function_count}
+use Rattle.checkpoint_place.proofs.BoundLemmas.{AreBound}
+use Rattle.checkpoint_place.proofs.bounds.bounds_of.Given as goal
+
+abbrev pub invariant-loop-function : goal.invariant-loop-function
+invariant-loop-function l = record {
+  each : vec_len l.bounds ≡ function_count l.graph;
+  bound : AreBound l.graph l.index.without.now l.max_path (reverse (take l.function-index l.order)) l.bounds.items;
+}

@@ -1,0 +1,63 @@
+ghost use Rattle.std.specs.Prelude.{◌≡◌, ◌<◌, length, map, slice_index, IfOk};
+ghost use Rattle.std.specs.List.{AllByRecursion};
+ghost use Rattle.call_graph.specs.Callees.{callees, greatest};
+ghost use Rattle.call_graph.specs.Graph.{IsTargetOf};
+
+use call_graph::{Callees, Target};
+use std::alloc::{AllocError, Global};
+
+/// The greatest bound of these functions.
+fn greatest_of(functions: &[u32], bounds: &[u32]) -> u32
+    requires { AllByRecursion (λ f. f < length bounds.now) functions.now }
+    ensures { result ≡ greatest (slice_index bounds.now) functions.now }
+{
+    let mut most = 0;
+    for function in functions {
+        most = most.max(bounds[*function as usize]);
+    }
+    most
+}
+
+/// The greatest bound of what a call may enter.
+pub(crate) fn callee_bound(target: Target, tables: &[Callees], bounds: &[u32]) -> u32
+    requires { IsTargetOf (length bounds.now) tables.now target }
+    ensures { result ≡ greatest (slice_index bounds.now) (callees tables.now target) }
+{
+    match target {
+        Target::Function(function) => bounds[function as usize],
+        Target::Table(table) => greatest_of(tables[table as usize].as_slice(), bounds),
+    }
+}
+
+/// The greatest bound of each table's members.
+pub(crate) fn greatest_of_tables(
+    alloc: Global,
+    tables: &[Callees],
+    bounds: &[u32],
+) -> Result<Vec<u32>, AllocError>
+    requires { AllByRecursion (λ members. AllByRecursion (λ f. f < length bounds.now) members) tables.now }
+    ensures { IfOk result (λ most. most.items ≡ map (greatest (slice_index bounds.now)) tables.now) }
+{
+    let mut most = Vec::with_capacity(alloc, tables.len())?;
+    for members in tables {
+        most.push(greatest_of(members.as_slice(), bounds))?;
+    }
+    Ok(most)
+}
+
+/// The greatest bound of what a call may enter, where each table's is known.
+pub(crate) fn known_callee_bound(
+    target: Target,
+    tables: &[Callees],
+    bounds: &[u32],
+    of_tables: &[u32],
+) -> u32
+    requires target { IsTargetOf (length bounds.now) tables.now target }
+    requires tables { of_tables.now ≡ map (greatest (slice_index bounds.now)) tables.now }
+    ensures { result ≡ greatest (slice_index bounds.now) (callees tables.now target) }
+{
+    match target {
+        Target::Function(function) => bounds[function as usize],
+        Target::Table(table) => of_tables[table as usize],
+    }
+}

@@ -1,0 +1,24 @@
+ghost use Rattle.std.specs.Prelude.{◌≡◌};
+ghost use Rattle.checkpoint_place.specs.declared.refusals.PlaceError.TheVariants.{Memory};
+
+use std::alloc::AllocError;
+use thiserror::Error;
+
+/// Why there is no plan.
+#[derive(Clone, Copy, Debug, PartialEq, Eq, Error)]
+pub enum PlaceError {
+    /// The frame of this function, the first such one, exceeds the most bytes of a path or 2,032.
+    #[error("the frame of function {function} is {bytes} bytes, too large")]
+    FrameTooLarge { function: u32, bytes: u32 },
+    /// No memory for the plan.
+    #[error("out of memory")]
+    Memory,
+}
+
+impl From<AllocError> for PlaceError {
+    ghost from_gives = { λ _ error. error ≡ Memory };
+
+    fn from(_error: AllocError) -> PlaceError {
+        PlaceError::Memory
+    }
+}
