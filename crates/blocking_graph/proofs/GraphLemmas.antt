@@ -43,7 +43,7 @@ next_averages-le (a ∷ averages) [] size p q = tt
 next_averages-le (a ∷ averages) (s ∷ samples) size p q =
     (next_average-le a s size p.0 q.0, next_averages-le averages samples size p.1 q.1)
 
-length-next_averages : (averages samples : List ℤ) → length averages ≡ length samples → length (next_averages averages samples) ≡ length averages
+pub length-next_averages : (averages samples : List ℤ) → length averages ≡ length samples → length (next_averages averages samples) ≡ length averages
 length-next_averages [] samples h = refl
 length-next_averages (a ∷ averages) [] h = absurd (omega arith)
 length-next_averages (a ∷ averages) (s ∷ samples) h = omega (arith, length-next_averages averages samples (omega arith))

@@ -2,3 +2,4 @@ pub mod AverageLemmas
 pub mod EdgeLemmas
 pub mod PredictionLemmas
 pub mod GraphLemmas
+pub mod PairLemmas

@@ -2,3 +2,4 @@ pub mod Averages
 pub mod Edges
 pub mod Graph
 pub mod Nodes
+pub mod Pairs

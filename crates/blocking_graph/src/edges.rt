@@ -7,7 +7,7 @@ use std::alloc::AllocError;
 
 /// An edge of the blocking graph: a pair of nodes with records, their count, and the averages of their
 /// cost and of the change of each resource, scaled by 256.
-#[derive(Clone, Copy, Debug, PartialEq, Eq)]
+#[derive(Clone, Copy, PartialEq, Eq)]
 pub struct EdgeLine {
     /// The node that the edge leads from.
     pub from: u32,

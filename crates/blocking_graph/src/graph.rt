@@ -84,6 +84,3 @@ impl Graph {
         self.edges.clone()
     }
 }
-
-#[cfg(test)]
-mod tests;

@@ -5,17 +5,20 @@
 // point to the next gives a record (`Graph::note`); for each pair of nodes the graph keeps the count of
 // records and averages of their cost and of the change of each resource. The scheduler asks what a
 // segment from a node is expected to change (`Graph::predicted`), the log lists the edges
-// (`Graph::edges`). The crates above cite `specs/Edges.antt` and `specs/Nodes.antt`. Source: Capriccio
-// (von Behren et al., SOSP 2003, section "Resource-Aware Scheduling").
+// (`Graph::edges`). The crates above cite `specs/Edges.antt` and `specs/Nodes.antt`; that an edge tells of
+// its pair's records is the law `edges_tell_of_records`. The idea of a graph of blocking points with averages
+// is that of Capriccio (von Behren et al., SOSP 2003); the rule of the averages is our own.
 #![tactic(auto)]
 
 mod adding;
 mod averages;
 mod edges;
 mod graph;
+mod laws;
 mod predicting;
 mod segments;
 
 pub use edges::EdgeLine;
 pub use graph::Graph;
+pub use laws::edges_tell_of_records;
 pub use segments::SegmentRecord;

@@ -19,8 +19,8 @@ pub enum Block {
 pub enum Ask {
     /// `put(value)`: prints the value.
     Put { value: u32 },
-    /// `spawn(function, argument)`: starts a thread. `function` is what stands for the function at
-    /// that level: its number in the program, its entry in the machine.
+    /// `spawn(function, argument)`: starts a thread. `function` is the function's number, in the
+    /// source and in the machine alike.
     Spawn { function: u32, argument: u32 },
     /// `give(resource, amount)`: gives back what was taken.
     Give { resource: u32, amount: u32 },

@@ -5,7 +5,7 @@ use Rattle.std.proofs.Math.Nat.{div-le_of_le-mul, mul-div-le}
 use Rattle.std.proofs.lemmas.Nat.{le-div}
 use Rattle.resource_monitor.specs.declared.curves.Curve.{Curve}
 use Rattle.resource_monitor.specs.declared.curves.Curve.TheVariants.{Linear}
-use Rattle.resource_monitor.specs.Pressure.{pressure, IsPressureCurve}
+use Rattle.resource_monitor.specs.Pressure.{curve_value, pressure, IsReading, IsPressureCurve}
 
 -- a greater number has no smaller quotient
 pub div-mono : (m n k : ℕ) → 0 < k → m ≤ n → m / k ≤ n / k
@@ -18,18 +18,24 @@ pressure_curve Linear = record {
   rises = λ less used cap at h. div-mono (1000 * less) (1000 * used) cap at.some (omega arith);
 }
 
--- where there is a cap, a pressure is the quotient
-some_pressure : (used cap : ℕ) → 0 < cap → pressure used cap ≡ 1000 * used / cap
-some_pressure used cap h = grind (arith, nat_tests)
+-- where there is a cap, a pressure is the curve's value
+some_pressure : (curve : Curve) (used cap : ℕ) → 0 < cap → pressure curve used cap ≡ curve_value curve used cap
+some_pressure curve used cap h = grind (arith, nat_tests)
 
-pub pressure-le : (used cap : ℕ) → used ≤ cap → pressure used cap ≤ 1000
-pressure-le used zero h = omega arith
-pressure-le used (suc cap) h = rw (some_pressure used (suc cap) (omega arith)) (div-le_of_le-mul (suc cap) (omega arith))
+-- a use within a cap that is there
+reading : (used cap : ℕ) → 0 < cap → cap ≤ 1000000 → used ≤ cap → IsReading used cap
+reading used cap some most within = record { some = omega arith; most = most; within = within }
 
-pub pressure-mono : (less used cap : ℕ) → less ≤ used → pressure less cap ≤ pressure used cap
-pressure-mono less used zero h = omega arith
-pressure-mono less used (suc cap) h =
-    rw (some_pressure less (suc cap) (omega arith), some_pressure used (suc cap) (omega arith))
-    (div-mono (1000 * less) (1000 * used) (suc cap) (omega arith) (omega arith))
+pub pressure-le : (curve : Curve) (used cap : ℕ) → used ≤ cap → cap ≤ 1000000 → pressure curve used cap ≤ 1000
+pressure-le curve used zero h most = omega arith
+pressure-le curve used (suc cap) h most =
+    rw (some_pressure curve used (suc cap) (omega arith))
+    ((pressure_curve curve).bounded used (suc cap) (reading used (suc cap) (omega arith) most h))
+
+pub pressure-mono : (curve : Curve) (less used cap : ℕ) → less ≤ used → used ≤ cap → cap ≤ 1000000 → pressure curve less cap ≤ pressure curve used cap
+pressure-mono curve less used zero h within most = omega arith
+pressure-mono curve less used (suc cap) h within most =
+    rw (some_pressure curve less (suc cap) (omega arith), some_pressure curve used (suc cap) (omega arith))
+    ((pressure_curve curve).rises less used (suc cap) (reading used (suc cap) (omega arith) most within) h)
 
 pub ruleset pressures_bounded = (pressure-le)

@@ -1,4 +1,3 @@
 pub mod CurveLemmas
 pub mod GateLemmas
 pub mod MonitorLemmas
-pub mod TestLemmas

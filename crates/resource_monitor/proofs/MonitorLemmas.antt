@@ -1,5 +1,6 @@
 -- What a monitor keeps when it takes new uses.
 use Rattle.std.proofs.Common.{◌≡◌, ℕ, ◌≤◌, ◌<◌, IsTrue, List, length, get_or, arith}
+use Rattle.resource_monitor.specs.declared.curves.Curve.TheVariants.{Linear}
 use Rattle.resource_monitor.specs.Pressure.{pressure, pressures}
 use Rattle.resource_monitor.specs.Gate.{gate_after}
 use Rattle.resource_monitor.specs.Monitor.{MonitorState, IsMonitor, NoneAbove}
@@ -7,8 +8,9 @@ use Rattle.resource_monitor.proofs.CurveLemmas.{pressure-mono}
 use Rattle.resource_monitor.proofs.GateLemmas.{none_from_each, each_from_none, none_where_open, open_where_none}
 
 pub IsMonitor-observe : (m : MonitorState) (uses : List ℕ) → IsMonitor m → length uses ≡ 8 → NoneAbove uses m.caps →
-    IsMonitor (record m { uses = uses; is_open = gate_after m.high m.low m.is_open (pressures uses m.caps) })
+    IsMonitor (record m { uses = uses; is_open = gate_after m.high m.low m.is_open (pressures m.curves uses m.caps) })
 IsMonitor-observe m uses kept eight within = record {
+  eight_curves = kept.eight_curves;
   eight_caps = kept.eight_caps;
   eight_uses = eight;
   small_caps = kept.small_caps;
@@ -16,18 +18,21 @@ IsMonitor-observe m uses kept eight within = record {
   apart = kept.apart;
   most = kept.most;
   calm = λ open_now resource h.
-      each_from_none m.high uses m.caps (omega (arith, kept.eight_caps))
-      (none_where_open m.high m.low m.is_open (pressures uses m.caps) open_now) resource (omega arith);
+      each_from_none m.high m.curves uses m.caps (omega (arith, kept.eight_curves)) (omega (arith, kept.eight_curves, kept.eight_caps))
+      (none_where_open m.high m.low m.is_open (pressures m.curves uses m.caps) open_now) resource (omega (arith, kept.eight_curves));
 }
 
 -- an open gate stays open where no use is higher than before
 pub stays_open : (m : MonitorState) (uses : List ℕ) → IsMonitor m → length uses ≡ 8 → NoneAbove uses m.uses → IsTrue m.is_open →
-    IsTrue (gate_after m.high m.low m.is_open (pressures uses m.caps))
+    IsTrue (gate_after m.high m.low m.is_open (pressures m.curves uses m.caps))
 stays_open m uses kept eight no_higher was_open =
-    open_where_none m.high m.low m.is_open (pressures uses m.caps) was_open
-    (none_from_each m.high uses m.caps (omega (arith, kept.eight_caps)) (λ k h.
-    let small : k < 8 = omega arith in
-    let less : pressure (get_or uses k 0) (get_or m.caps k 0) ≤ pressure (get_or m.uses k 0) (get_or m.caps k 0) =
-    pressure-mono (get_or uses k 0) (get_or m.uses k 0) (get_or m.caps k 0) (no_higher k small) in
-    let calm : pressure (get_or m.uses k 0) (get_or m.caps k 0) < m.high = kept.calm was_open k small in
+    open_where_none m.high m.low m.is_open (pressures m.curves uses m.caps) was_open
+    (none_from_each m.high m.curves uses m.caps (λ k h.
+    let small : k < 8 = omega (arith, kept.eight_curves) in
+    let curve = get_or m.curves k Linear in
+    let within : get_or m.uses k 0 ≤ get_or m.caps k 0 = kept.within k small in
+    let most : get_or m.caps k 0 ≤ 1000000 = kept.small_caps k small in
+    let less : pressure curve (get_or uses k 0) (get_or m.caps k 0) ≤ pressure curve (get_or m.uses k 0) (get_or m.caps k 0) =
+    pressure-mono curve (get_or uses k 0) (get_or m.uses k 0) (get_or m.caps k 0) (no_higher k small) within most in
+    let calm : pressure curve (get_or m.uses k 0) (get_or m.caps k 0) < m.high = kept.calm was_open k small in
     omega arith))

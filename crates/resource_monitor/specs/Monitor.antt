@@ -1,18 +1,26 @@
 -- What a monitor means.
-use Rattle.std.specs.Prelude.{ℕ, ◌≡◌, ◌<◌, ◌≤◌, Bool, true, IsTrue, List, length, replicate, slice_index}
+use Rattle.std.specs.Prelude.{ℕ, ◌≡◌, ◌<◌, ◌≤◌, Bool, true, IsTrue, List, length, replicate, slice_index, slice_index_or}
+use Rattle.resource_monitor.specs.declared.curves.Curve.{Curve}
+use Rattle.resource_monitor.specs.declared.curves.Curve.TheVariants.{Linear}
 use Rattle.resource_monitor.specs.Pressure.{pressure}
 
--- the caps of the eight resources, the two bounds of the gate, the last uses observed and the gate
+-- of the eight resources the curves of their gauges and the caps, the two bounds of the gate, the last uses observed
+-- and the gate
 pub record MonitorState : Type 0 where
+  pub curves : List Curve
   pub caps : List ℕ
   pub high : ℕ
   pub low : ℕ
   pub uses : List ℕ
   pub is_open : Bool
 
--- the pressure of a resource, of the last uses observed
+-- the curve of a resource's gauge
+abbrev pub curve_at : List Curve → ℕ → Curve
+curve_at curves resource = slice_index_or curves resource Linear
+
+-- the pressure of a resource, by its gauge's curve, of the last uses observed
 abbrev pub pressure_at : MonitorState → ℕ → ℕ
-pressure_at monitor resource = pressure (slice_index monitor.uses resource) (slice_index monitor.caps resource)
+pressure_at monitor resource = pressure (curve_at monitor.curves resource) (slice_index monitor.uses resource) (slice_index monitor.caps resource)
 
 -- no resource's use is above its bound in the other list
 abbrev pub NoneAbove : List ℕ → List ℕ → Type 0
@@ -23,12 +31,13 @@ abbrev pub SmallCaps : List ℕ → Type 0
 SmallCaps caps = (resource : ℕ) → resource < 8 → slice_index caps resource ≤ 1000000
 
 -- a monitor to begin with: nothing in use, and the gate open
-abbrev pub started : List ℕ → ℕ → ℕ → MonitorState
-started caps high low = record { caps = caps; high = high; low = low; uses = replicate 8 0; is_open = true }
+abbrev pub started : List Curve → List ℕ → ℕ → ℕ → MonitorState
+started curves caps high low = record { curves = curves; caps = caps; high = high; low = low; uses = replicate 8 0; is_open = true }
 
--- what a monitor keeps of its numbers: eight caps of at most 1,000,000, eight uses within them, bounds of the
--- gate from 0 to 1000, and an open gate only where no pressure is at its upper bound
+-- what a monitor keeps: eight curves, eight caps of at most 1,000,000, eight uses within them, bounds of the gate
+-- from 0 to 1000, and an open gate only where no pressure is at its upper bound
 pub record IsMonitor (monitor : MonitorState) : Type 0 where
+  pub eight_curves : length monitor.curves ≡ 8
   pub eight_caps : length monitor.caps ≡ 8
   pub eight_uses : length monitor.uses ≡ 8
   pub small_caps : SmallCaps monitor.caps

@@ -1,4 +1,4 @@
--- The pressure of a resource: its use, in thousandths of its cap.
+-- The pressure of a resource: its use out of its cap, by a curve from 0 to 1000.
 use Rattle.std.specs.Prelude.{ℕ, ◌≡◌, ◌*◌, ◌/◌, ◌≤◌, ◌==◌, if◌then◌else◌, List, [], ◌∷◌}
 use Rattle.resource_monitor.specs.declared.curves.Curve.{Curve}
 use Rattle.resource_monitor.specs.declared.curves.Curve.TheVariants.{Linear}
@@ -7,14 +7,15 @@ use Rattle.resource_monitor.specs.declared.curves.Curve.TheVariants.{Linear}
 abbrev pub curve_value : Curve → ℕ → ℕ → ℕ
 curve_value Linear used cap = 1000 * used / cap
 
--- the pressure of a resource of which `used` is in use, out of `cap`; a resource with no cap has none
-abbrev pub pressure : ℕ → ℕ → ℕ
-pressure used cap = if cap == 0 then 0 else 1000 * used / cap
+-- the pressure of a resource of which `used` is in use, out of `cap`, by the curve of its gauge; a resource with no
+-- cap has none
+abbrev pub pressure : Curve → ℕ → ℕ → ℕ
+pressure curve used cap = if cap == 0 then 0 else curve_value curve used cap
 
--- the pressure of each resource, from the uses and the caps
-abbrev pub pressures : List ℕ → List ℕ → List ℕ
-pressures (used ∷ uses) (cap ∷ caps) = pressure used cap ∷ pressures uses caps
-pressures _ _ = []
+-- the pressure of each resource, from the curves of the gauges, the uses and the caps
+abbrev pub pressures : List Curve → List ℕ → List ℕ → List ℕ
+pressures (curve ∷ curves) (used ∷ uses) (cap ∷ caps) = pressure curve used cap ∷ pressures curves uses caps
+pressures _ _ _ = []
 
 -- a use and a cap that a closure of a gauge answers for
 pub record IsReading (used cap : ℕ) : Type 0 where

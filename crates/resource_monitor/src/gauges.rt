@@ -41,7 +41,7 @@ impl<C: Measure> Gauge<C> {
     pub(crate) fn reading(&self, used: u32, cap: u32) -> u32
         requires within { used ≤ cap }
         requires most { cap ≤ 1000000 }
-        ensures value { result ≡ pressure used cap }
+        ensures value { result ≡ pressure self.now used cap }
         ensures most { result ≤ 1000 }
     {
         if cap == 0 {

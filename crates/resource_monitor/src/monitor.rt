@@ -21,14 +21,13 @@ pub struct Monitor<C: Measure> {
 }
 
 impl<C: Measure> Model for Monitor<C> {
-    ghost use Rattle.std.specs.Prelude.{◌≡◌, vec_len};
     ghost use Rattle.resource_monitor.specs.Monitor.{MonitorState, IsMonitor};
 
     ghost Value = { MonitorState };
 
-    ghost view = { λ m. record { caps = m.caps; high = m.high; low = m.low; uses = m.uses; is_open = m.is_open } };
+    ghost view = { λ m. record { curves = m.gauges.items; caps = m.caps; high = m.high; low = m.low; uses = m.uses; is_open = m.is_open } };
 
-    ghost invariant = { λ m. (vec_len m.gauges ≡ 8) × IsMonitor (record { caps = m.caps; high = m.high; low = m.low; uses = m.uses; is_open = m.is_open }) };
+    ghost invariant = { λ m. IsMonitor (record { curves = m.gauges.items; caps = m.caps; high = m.high; low = m.low; uses = m.uses; is_open = m.is_open }) };
 }
 
 impl<C: Measure> Monitor<C> {
@@ -39,7 +38,7 @@ impl<C: Measure> Monitor<C> {
         requires small { SmallCaps caps }
         requires apart { low < high }
         requires most { high ≤ 1000 }
-        ensures { result ≡ started caps high low }
+        ensures { result ≡ started gauges.items caps high low }
     {
         Monitor {
             gauges,
@@ -54,7 +53,7 @@ impl<C: Measure> Monitor<C> {
     /// Takes the uses of the eight resources, each at most its cap, and moves the gate.
     pub fn observe(&mut self, uses: [u32; 8])
         requires { NoneAbove uses self.old.caps }
-        ensures seen { self.new ≡ record self.old { uses = uses; is_open = gate_after self.old.high self.old.low self.old.is_open (pressures uses self.old.caps) } }
+        ensures seen { self.new ≡ record self.old { uses = uses; is_open = gate_after self.old.high self.old.low self.old.is_open (pressures self.old.curves uses self.old.caps) } }
         ensures no_higher { NoneAbove uses self.old.uses → IsTrue self.old.is_open → IsTrue self.new.is_open }
     {
         let seen = readings(self.gauges.as_slice(), &self.caps, &uses);
@@ -62,7 +61,8 @@ impl<C: Measure> Monitor<C> {
         self.uses = uses;
     }
 
-    /// The pressure of a resource, from 0 to 1000, of the last uses observed.
+    /// The pressure of a resource, from 0 to 1000: its gauge's curve at the last use observed and the cap, or 0
+    /// where the cap is 0.
     pub fn pressure(&self, resource: u32) -> u32
         requires { resource < 8 }
         ensures value { result ≡ pressure_at self.now resource }
@@ -84,7 +84,7 @@ fn readings<C: Measure>(gauges: &[Gauge<C>], caps: &[u32; 8], uses: &[u32; 8]) -
     requires eight { length gauges.now ≡ 8 }
     requires small { SmallCaps caps.now }
     requires within { NoneAbove uses.now caps.now }
-    ensures value { result ≡ pressures uses.now caps.now }
+    ensures value { result ≡ pressures gauges.now uses.now caps.now }
     ensures eight { length uses.now ≡ 8 }
 {
     let mut seen = [0; 8];
@@ -93,6 +93,3 @@ fn readings<C: Measure>(gauges: &[Gauge<C>], caps: &[u32; 8], uses: &[u32; 8]) -
     }
     seen
 }
-
-#[cfg(test)]
-mod tests;

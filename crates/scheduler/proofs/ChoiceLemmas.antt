@@ -15,10 +15,10 @@ pub by_test : (b : Bool) (P : Type 0) → (b ≡ true → P) → (b ≡ false �
 by_test true P first second = first refl
 by_test false P first second = second refl
 
-same_node : (a b : ℕ) → (a == b) ≡ true → a ≡ b
+pub same_node : (a b : ℕ) → (a == b) ≡ true → a ≡ b
 same_node a b h = grind (arith, nat_tests)
 
-itself : (a : ℕ) → (a == a) ≡ true
+pub itself : (a : ℕ) → (a == a) ≡ true
 itself a = grind (arith, nat_tests)
 
 other_node : (a b : ℕ) → a ≢ b → (a == b) ≡ false

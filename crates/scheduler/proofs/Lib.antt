@@ -2,4 +2,4 @@ pub mod ChoiceLemmas
 pub mod OrderLemmas
 pub mod QueueLemmas
 pub mod ScoreLemmas
-pub mod TestLemmas
+pub mod StateLemmas

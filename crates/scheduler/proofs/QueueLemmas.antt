@@ -5,7 +5,7 @@ use Rattle.std.specs.List.{AllByRecursion, position_or_len, remove}
 use Rattle.cap_word.specs.declared.threads.ThreadId.{ThreadId}
 use Rattle.scheduler.specs.declared.choices.Choice.{Choice}
 use Rattle.scheduler.specs.Queues.{threads_at, without, is_same, is_choice, first_without}
-use Rattle.scheduler.proofs.ChoiceLemmas.{by_test}
+use Rattle.scheduler.proofs.ChoiceLemmas.{by_test, same_node}
 
 zero_place : (b : Bool) (n : ℕ) → cond (not b) (1 + n) 0 ≡ 0 → b ≡ true
 zero_place true n h = refl
@@ -57,9 +57,6 @@ pub first_without-none : (choice : Choice) (ws : List Choice) → position (λ w
 first_without-none choice ws h = none_at choice ws (no_place _ _ h)
 
 -- ---- the queues after it
-
-same_node : (a b : ℕ) → (a == b) ≡ true → a ≡ b
-same_node a b h = grind (arith, nat_tests)
 
 pub threads_at-first_without : (choice : Choice) (ws : List Choice) →
     threads_at (first_without choice ws) choice.node ≡ without choice.thread (threads_at ws choice.node)

@@ -1,5 +1,6 @@
 -- Queues of threads.
 use Rattle.std.specs.Prelude.{ℕ, ◌==◌, ◌&&◌, Bool, if◌then◌else◌, List, [], ◌∷◌, map, filter}
+use Rattle.std.specs.List.{range_with_len}
 use Rattle.cap_word.specs.declared.threads.ThreadId.{ThreadId}
 use Rattle.scheduler.specs.declared.choices.Choice.{Choice}
 
@@ -7,9 +8,13 @@ use Rattle.scheduler.specs.declared.choices.Choice.{Choice}
 abbrev pub is_same : ThreadId → ThreadId → Bool
 is_same thread other = thread.slot == other.slot && thread.number == other.number
 
--- the threads at a node, of all that wait, in order of joining
+-- the threads at a node, of a list of all that wait with their nodes, in order of joining
 abbrev pub threads_at : List Choice → ℕ → List ThreadId
 threads_at waiting node = map (λ w. w.thread) (filter (λ w. w.node == node) waiting)
+
+-- the queues of so many nodes, by number
+abbrev pub queues_of : List Choice → ℕ → List (List ThreadId)
+queues_of waiting count = map (threads_at waiting) (range_with_len 0 count)
 
 -- a queue without a thread
 abbrev pub without : ThreadId → List ThreadId → List ThreadId

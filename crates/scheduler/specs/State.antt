@@ -1,18 +1,19 @@
 -- What a scheduler means: the queue of each node, the choice that last took each node, and the number of choices.
-use Rattle.std.specs.Prelude.{ℕ, ◌≡◌, ◌≢◌, ◌+◌, ◌^◌, ◌<◌, ◌≤◌, List, [], ◌∷◌, ◌++◌, length, slice_index}
+use Rattle.std.specs.Prelude.{ℕ, ◌≡◌, ◌≢◌, ◌+◌, ◌^◌, ◌<◌, ◌≤◌, List, [], ◌∷◌, ◌++◌, length, slice_index, slice_index_or}
 use Rattle.std.specs.List.{AllByRecursion}
 use Rattle.cap_word.specs.declared.threads.ThreadId.{ThreadId}
 use Rattle.scheduler.specs.declared.choices.Choice.{Choice}
-use Rattle.scheduler.specs.Queues.{threads_at, without}
+use Rattle.scheduler.specs.Queues.{without}
 
+-- by the numbers of the nodes, their queues and the choices that last took them, and the number of choices so far
 pub record SchedulerState : Type 0 where
-  pub waiting : List Choice
+  pub queues : List (List ThreadId)
   pub lasts : List ℕ
   pub noted : ℕ
 
 -- the threads that wait at a node, in order of joining
 abbrev pub queue_of : SchedulerState → ℕ → List ThreadId
-queue_of scheduler node = threads_at scheduler.waiting node
+queue_of scheduler node = slice_index_or scheduler.queues node []
 
 -- the number, from 1, of the choice that last took a node, or 0
 abbrev pub last_of : SchedulerState → ℕ → ℕ
@@ -20,13 +21,7 @@ last_of scheduler node = slice_index scheduler.lasts node
 
 -- nothing waits and nothing was chosen
 abbrev pub started : SchedulerState
-started = record { waiting = []; lasts = []; noted = 0 }
-
--- the queues, the choices that last took the nodes and the number of choices are as before
-pub record IsUnchanged (old new : SchedulerState) : Type 0 where
-  pub queues : (node : ℕ) → queue_of new node ≡ queue_of old node
-  pub lasts : (node : ℕ) → last_of new node ≡ last_of old node
-  pub noted : new.noted ≡ old.noted
+started = record { queues = []; lasts = []; noted = 0 }
 
 -- a thread joined the end of a node's queue, and nothing else changed
 pub record IsJoined (old new : SchedulerState) (node : ℕ) (thread : ThreadId) : Type 0 where
@@ -43,7 +38,7 @@ pub record IsNoted (old new : SchedulerState) (choice : Choice) : Type 0 where
   pub other_lasts : (other : ℕ) → other ≢ choice.node → last_of new other ≡ last_of old other
   pub noted : new.noted ≡ old.noted + 1
 
--- what a scheduler keeps: each node at which a thread waits has a place for its last choice
-pub record IsScheduler (scheduler : SchedulerState) : Type 0 where
-  pub placed : AllByRecursion (λ w. w.node < length scheduler.lasts) scheduler.waiting
-  pub counted : scheduler.noted ≤ 2 ^ 40
+-- what a scheduler keeps of its list of all that wait: each of their nodes has a place for its last choice
+pub record IsKept (waiting : List Choice) (lasts : List ℕ) (count : ℕ) : Type 0 where
+  pub placed : AllByRecursion (λ w. w.node < length lasts) waiting
+  pub counted : count ≤ 2 ^ 40

@@ -1,7 +1,7 @@
 use cap_word::ThreadId;
 
 /// A thread with the node at which it waits.
-#[derive(Clone, Copy, Debug, PartialEq, Eq)]
+#[derive(Clone, Copy, PartialEq, Eq)]
 pub struct Choice {
     /// The thread.
     pub thread: ThreadId,

@@ -5,7 +5,8 @@
 // pressure for the better, least score first, and of that node the first thread that may go on. New
 // arrivals wait while the gate is closed and another thread can go on. `Scheduler::note_choice` takes
 // the thread out of its queue. The runner cites `specs/LawfulChoice.antt`, which says what a choice is,
-// and not how it is found. Source: Capriccio (von Behren et al., SOSP 2003, "Resource-Aware Scheduling").
+// and not how it is found, and `specs/State.antt`. The idea, a choice that looks at the use of resources, is
+// that of Capriccio (von Behren et al., SOSP 2003); the order of nodes and the gate are our own.
 #![tactic(auto)]
 
 mod choices;

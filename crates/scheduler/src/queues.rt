@@ -1,4 +1,4 @@
-ghost use Rattle.std.specs.Prelude.{◌≡◌, ◌≢◌, ◌≤◌, ◌<◌, ◌+◌, ℕ, length, vec_len, slice_index, position, OnOk};
+ghost use Rattle.std.specs.Prelude.{◌≡◌, ◌≢◌, ◌≤◌, ◌<◌, ◌+◌, ℕ, length, vec_len, slice_index, position, OnOk, OnErr};
 ghost use Rattle.std.specs.List.{AllByRecursion};
 ghost use Rattle.scheduler.specs.Queues.{first_without, is_choice};
 
@@ -10,6 +10,7 @@ pub(crate) fn make_place(lasts: &mut Vec<u64>, node: u32) -> Result<(), AllocErr
     ensures same { (other : ℕ) → slice_index lasts.new.items other ≡ slice_index lasts.old.items other }
     ensures longer { vec_len lasts.old ≤ vec_len lasts.new }
     ensures place { OnOk result (node < vec_len lasts.new) }
+    ensures err { OnErr result (lasts.new.items ≡ lasts.old.items) }
 {
     let places = node as usize + 1;
     if lasts.len() < places {

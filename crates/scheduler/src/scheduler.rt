@@ -21,17 +21,19 @@ pub struct Scheduler {
 }
 
 impl Model for Scheduler {
-    ghost use Rattle.scheduler.specs.State.{SchedulerState, IsScheduler};
+    ghost use Rattle.std.specs.Prelude.{length};
+    ghost use Rattle.scheduler.specs.Queues.{queues_of};
+    ghost use Rattle.scheduler.specs.State.{SchedulerState, IsKept};
 
     ghost Value = { SchedulerState };
 
-    ghost view = { λ s. record { waiting = s.waiting.items; lasts = s.lasts.items; noted = s.noted } };
+    ghost view = { λ s. record { queues = queues_of s.waiting.items (length s.lasts.items); lasts = s.lasts.items; noted = s.noted } };
 
-    ghost invariant = { λ s. IsScheduler (record { waiting = s.waiting.items; lasts = s.lasts.items; noted = s.noted }) };
+    ghost invariant = { λ s. IsKept s.waiting.items s.lasts.items s.noted };
 }
 
 impl Scheduler {
-    ghost use Rattle.scheduler.specs.State.{started, queue_of, last_of, IsUnchanged, IsJoined, IsNoted};
+    ghost use Rattle.scheduler.specs.State.{started, queue_of, last_of, IsJoined, IsNoted};
 
     /// A scheduler at which nothing waits. It takes no memory.
     pub fn new(alloc: Global) -> Scheduler
@@ -47,8 +49,9 @@ impl Scheduler {
     /// Puts a thread at the end of a node's queue.
     pub fn enqueue(&mut self, node: u32, thread: ThreadId) -> Result<(), AllocError>
         ensures ok { OnOk result (IsJoined self.old self.new node thread) }
-        ensures err { OnErr result (IsUnchanged self.old self.new) }
+        ensures err { OnErr result (self.new ≡ self.old) }
     {
+        self.waiting.reserve(1)?;
         make_place(&mut self.lasts, node)?;
         self.waiting.push(Choice { thread, node })?;
         Ok(())
@@ -88,6 +91,3 @@ impl Scheduler {
         self.lasts[choice.node as usize] = self.noted;
     }
 }
-
-#[cfg(test)]
-mod tests;

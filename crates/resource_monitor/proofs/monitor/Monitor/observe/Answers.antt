@@ -4,13 +4,11 @@ use Rattle.resource_monitor.proofs.monitor.Monitor.observe.Goals as goal
 
 pub invariant_of-self : goal.invariant_of-self
 invariant_of-self g c =
-    let within : NoneAbove c.args.uses c.self.inside.caps = rw (← c.self.view_is) at c.requires in (
-      c.self.invariant.0,
-      rw (c.is_open_after-self-inside.ensures, c.readings-seen.ensures.value)
-          (IsMonitor-observe _ c.args.uses c.self.invariant.1 c.readings-seen.ensures.eight within),
-    )
+    let within : NoneAbove c.args.uses c.self.inside.caps = rw (← c.self.view_is) at c.requires in
+    rw (c.is_open_after-self-inside.ensures, c.readings-seen.ensures.value, c.as_slice.ensures.value)
+    (IsMonitor-observe _ c.args.uses c.self.invariant c.readings-seen.ensures.eight within)
 
 pub returns-clause-no_higher : goal.returns-clause-no_higher
 returns-clause-no_higher g c =
-    rw (← c.self.view_is, c.is_open_after-self-inside.ensures, c.readings-seen.ensures.value)
-    (λ no_higher was_open. stays_open _ c.args.uses c.self.invariant.1 c.readings-seen.ensures.eight no_higher was_open)
+    rw (← c.self.view_is, c.is_open_after-self-inside.ensures, c.readings-seen.ensures.value, c.as_slice.ensures.value)
+    (λ no_higher was_open. stays_open _ c.args.uses c.self.invariant c.readings-seen.ensures.eight no_higher was_open)

@@ -1,5 +1,0 @@
-use Rattle.std.proofs.Common.{◌≡◌, vec_len}
-use Rattle.scheduler.proofs.scheduler.tests.full_monitor.Given as goal
-
-abbrev pub invariant-loop : goal.invariant-loop
-invariant-loop g l = vec_len l.gauges ≡ l.counter
