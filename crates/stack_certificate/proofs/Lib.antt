@@ -2,5 +2,6 @@ pub mod AddressLemmas
 pub mod FitsLemmas
 pub mod PartLemmas
 pub mod PlaceLemmas
+pub mod SizeLemmas
 pub mod SlotLemmas
 pub mod WordLemmas
