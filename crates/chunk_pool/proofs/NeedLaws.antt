@@ -1,9 +1,11 @@
 -- What a need takes of the free list, and when it takes nothing.
-use Rattle.std.proofs.Common.{◌≡◌, ℕ, List, [], ◌∷◌, refl, sym, ap, subst, inl, inr, arith, nat_eq, All, Some, None, IsTrue, Bool, true, false, cond, count_by, Contains}
+use Rattle.std.proofs.Common.{◌≡◌, ℕ, List, [], ◌∷◌, drop, refl, sym, ◌∙◌, ap, subst, inl, inr, arith, nat_eq, All, Some, None, IsTrue, Bool, true, false, cond, count_by, Contains}
 use Rattle.std.proofs.lemmas.Bool.{cases_Bool}
 use Rattle.std.proofs.lemmas.List.Elements.{All-head}
 use Rattle.std.specs.Prelude.{◌↔◌}
-use Rattle.chunk_pool.specs.Pool.{Pool, Taken, fits, taken_of, taken_for, IsFree}
+use Rattle.chunk_pool.specs.Pool.{Pool, Taken, fits, taken_of, taken_for, after_take, IsFree, IsHeld, IsPool}
+use Rattle.chunk_pool.proofs.FreeLaws.{taken_is_held}
+use Rattle.chunk_pool.proofs.PoolLaws.{IsPool-after_take}
 
 -- what a test of the first free chunk comes to
 tested : (p : Pool) (need id : ℕ) (ids : List ℕ) (fit : Bool) → fits p need id ≡ fit → taken_of p need (id ∷ ids) ≡ cond fit (Some (record { chunk = id; pool = record p { free = ids } })) None
@@ -49,3 +51,13 @@ taken_for-leaves p need taken e id = ap (count_by (λ other. nat_eq other id)) (
 
 pub taken_for-keeps : (p : Pool) (need : ℕ) (taken : Taken) → taken_for p need ≡ Some taken → taken.pool ≡ record p { free = taken.pool.free }
 taken_for-keeps p need taken e = (is_first p need p.free taken e).pool
+
+-- the pool after a need took its chunk is sound, and the chunk is held
+pub taken_for-sound : (p : Pool) (need : ℕ) (taken : Taken) → IsPool p → taken_for p need ≡ Some taken → IsPool taken.pool × IsHeld taken.pool taken.chunk
+taken_for-sound p need taken sound e =
+    let first = is_first p need p.free taken e in
+    let rest : drop 1 p.free ≡ taken.pool.free = ap (drop 1) first.free in
+    let same : after_take p ≡ taken.pool = ap (λ (free : List ℕ). record p { free = free }) rest ∙ sym first.pool in (
+      subst IsPool same (IsPool-after_take p sound),
+      subst (λ (q : Pool). IsHeld q taken.chunk) same (taken_is_held p taken.chunk taken.pool.free sound first.free).1,
+    )

@@ -5,3 +5,8 @@ pub mod Run
 pub mod Frames
 pub mod Partition
 pub mod Good
+pub mod Areas
+pub mod Local
+pub mod Held
+pub mod Links
+pub mod Examples

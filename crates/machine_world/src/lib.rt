@@ -1,15 +1,21 @@
 // The machine world: live threads over one pool of chunks, as definitions that the crates above speak of.
 //
-// specs/ has the world (World), the start of a thread (Start), what one instruction does (Effect), runs by their number
-// of steps (Run), frames in place (Frames), the partition of the chunks into held and free (Partition), and good
-// stretches (Good). The rows of the instruction table are those that a main that puts numbers uses; one thread with one
-// chunk is what frames speak of so far. Sources: RISC-V unprivileged manual, chapter "RV32I"; Capriccio (von Behren et
-// al., SOSP 2003), "Linked Stack Management". The crate above uses these definitions and `runs_compose`.
+// New, for the whole language, one thread so far: the memory of the threads (Areas), what one instruction of a thread
+// leads to, with the calls of the run time (Local), chunks that no step loses (Held), what an UNLINK restores (Links), and
+// small threads whose runs are computed (Examples). The first path's, for a main that puts numbers: World, Start, Effect,
+// Run, Frames, Partition, Good. Sources: RISC-V unprivileged manual, chapters "RV32I" and "M"; Capriccio (von Behren et
+// al., SOSP 2003), "Linked Stack Management". The crate above uses these definitions and the laws.
 #![tactic(auto)]
+
+mod examples;
+mod laws;
 
 ghost use Rattle.std.specs.Prelude.{◌≡◌, ℕ, ◌+◌, List};
 ghost use Rattle.machine_world.specs.World.{World};
 ghost use Rattle.machine_world.specs.Run.{world_after, and_then_after};
+
+pub use examples::local_examples;
+pub use laws::{area_laws, chunk_laws};
 
 /// A run of `m` steps and then `n` steps is a run of `m + n` steps, for any code and any world.
 pub fn runs_compose()

@@ -1,4 +1,4 @@
-use Rattle.chunk_pool.proofs.NeedLaws.{taken_for-none, taken_for-fits, taken_for-leaves, taken_for-keeps}
+use Rattle.chunk_pool.proofs.NeedLaws.{taken_for-none, taken_for-fits, taken_for-leaves, taken_for-keeps, taken_for-sound}
 use Rattle.chunk_pool.proofs.laws.need_laws.Goals as goal
 
 pub returns-clause-none : goal.returns-clause-none
@@ -12,3 +12,6 @@ returns-clause-leaves c = taken_for-leaves
 
 pub returns-clause-keeps : goal.returns-clause-keeps
 returns-clause-keeps c = taken_for-keeps
+
+pub returns-clause-sound : goal.returns-clause-sound
+returns-clause-sound c = taken_for-sound

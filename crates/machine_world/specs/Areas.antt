@@ -1,0 +1,79 @@
+-- The memory of the threads: the pool of chunks, the globals and the tables, each at its place of the map.
+--
+--   globals            from 0x10000000, readable and writable
+--   tables             from 0x20000000, readable
+--   payloads of chunks from 0x80000000, readable and writable, of free chunks too
+--
+-- Every other byte, and so every header, is neither. The free list is no memory.
+use Rattle.std.specs.Prelude.{ℕ, ◌+◌, ◌-◌, ◌*◌, ◌/◌, ◌%◌, ◌&&◌, Bool, true, false, List, length, Option, Some, None, if◌then◌else◌, nat_le, nat_lt}
+use Rattle.chunk_pool.specs.Pool.{Pool, chunk_of, word_of, with_word, place_of, payload_place_of, chunk_at}
+use Rattle.rv_machine.specs.WordBytes.{word_with, byte_in, words_with}
+
+pub record Areas : Type 0 where
+  pub pool : Pool
+  pub globals : List ℕ
+  pub tables : List ℕ
+
+-- the addresses of the first global word and of the first table word
+abbrev pub globals_place : ℕ
+globals_place = 0x1000_0000
+
+abbrev pub tables_place : ℕ
+tables_place = 0x2000_0000
+
+-- where a byte of the map lies: so many bytes from the start of the globals, of the tables, or of a chunk
+pub data Spot : Type 0 where
+  InGlobals : (offset : ℕ) → Spot
+  InTables : (offset : ℕ) → Spot
+  InPayload : (chunk offset : ℕ) → Spot
+
+-- the address is that of a byte of so many words that begin at a place
+abbrev pub is_within : ℕ → List ℕ → ℕ → Bool
+is_within place words address = nat_le place address && nat_lt address (place + 4 * length words)
+
+-- an address in a chunk is a byte of the map where it lies behind the header
+abbrev pub payload_spot : Pool → ℕ → Option ℕ → Option Spot
+payload_spot pool address None = None
+payload_spot pool address (Some chunk) =
+    if nat_le (payload_place_of pool chunk) address then Some (InPayload chunk (address - place_of pool chunk)) else None
+
+-- the spot of an address, if it is on the map
+unfoldable pub spot_of : Areas → ℕ → Option Spot
+spot_of areas address =
+    if is_within globals_place areas.globals address then Some (InGlobals (address - globals_place)) else
+    if is_within tables_place areas.tables address then Some (InTables (address - tables_place)) else
+    payload_spot areas.pool address (chunk_at areas.pool address)
+
+-- the byte at a spot
+abbrev pub byte_on : Areas → Option Spot → Option ℕ
+byte_on areas None = None
+byte_on areas (Some (InGlobals offset)) = Some (byte_in areas.globals offset)
+byte_on areas (Some (InTables offset)) = Some (byte_in areas.tables offset)
+byte_on areas (Some (InPayload chunk offset)) = Some (byte_in (chunk_of areas.pool chunk) offset)
+
+abbrev pub is_writable_on : Option Spot → Bool
+is_writable_on None = false
+is_writable_on (Some (InGlobals offset)) = true
+is_writable_on (Some (InTables offset)) = false
+is_writable_on (Some (InPayload chunk offset)) = true
+
+-- the areas after a byte is written at a spot that is writable; nothing else changes, and no other spot is written
+abbrev pub with_byte_on : Areas → Option Spot → ℕ → Areas
+with_byte_on areas None byte = areas
+with_byte_on areas (Some (InGlobals offset)) byte = record areas { globals = words_with areas.globals offset byte }
+with_byte_on areas (Some (InTables offset)) byte = areas
+with_byte_on areas (Some (InPayload chunk offset)) byte =
+    record areas { pool = with_word areas.pool chunk (offset / 4) (word_with (word_of areas.pool chunk (offset / 4)) (offset % 4) byte) }
+
+-- ---- the areas as memory by bytes
+
+-- the byte at an address, where it is readable
+abbrev pub byte_at : Areas → ℕ → Option ℕ
+byte_at areas address = byte_on areas (spot_of areas address)
+
+abbrev pub is_writable : Areas → ℕ → Bool
+is_writable areas address = is_writable_on (spot_of areas address)
+
+-- the areas after a byte is written
+abbrev pub with_byte : Areas → ℕ → ℕ → Areas
+with_byte areas address byte = with_byte_on areas (spot_of areas address) byte
