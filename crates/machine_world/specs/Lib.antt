@@ -10,3 +10,14 @@ pub mod Local
 pub mod Held
 pub mod Links
 pub mod Examples
+pub mod Places
+pub mod InPlace
+pub mod Rests
+pub mod Threads
+pub mod Runs
+pub mod Chains
+pub mod Numbered
+pub mod Stretches
+pub mod Counted
+pub mod Alone
+pub mod Descending

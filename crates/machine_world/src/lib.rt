@@ -1,14 +1,16 @@
-// The machine world: live threads over one pool of chunks, as definitions that the crates above speak of.
+// The machine world: live threads over one pool of linked chunks, as definitions that the crates above speak of.
 //
-// New, for the whole language, one thread so far: the memory of the threads (Areas), what one instruction of a thread
-// leads to, with the calls of the run time (Local), chunks that no step loses (Held), what an UNLINK restores (Links), and
-// small threads whose runs are computed (Examples). The first path's, for a main that puts numbers: World, Start, Effect,
-// Run, Frames, Partition, Good. Sources: RISC-V unprivileged manual, chapters "RV32I" and "M"; Capriccio (von Behren et
-// al., SOSP 2003), "Linked Stack Management". The crate above uses these definitions and the laws.
+// Memory of the threads: Areas. One thread: Local (its steps and the calls of the run time), Held and Links (chunks under
+// them). All threads: Threads (a step), Runs, Numbered, Chains and Counted (held and free chunks), Alone (what stays).
+// Frames in place: Places, InPlace, Rests, Stretches. Computed: Examples, Descending. The first path's: World, Start,
+// Effect, Run, Frames, Partition, Good. Sources: RISC-V unprivileged manual, chapters "RV32I" and "M"; Capriccio (von
+// Behren et al., SOSP 2003), "Linked Stack Management". The crate above uses the definitions and the laws in src/.
 #![tactic(auto)]
 
 mod examples;
 mod laws;
+mod linked;
+mod world_laws;
 
 ghost use Rattle.std.specs.Prelude.{◌≡◌, ℕ, ◌+◌, List};
 ghost use Rattle.machine_world.specs.World.{World};
@@ -16,6 +18,8 @@ ghost use Rattle.machine_world.specs.Run.{world_after, and_then_after};
 
 pub use examples::local_examples;
 pub use laws::{area_laws, chunk_laws};
+pub use linked::linked_example;
+pub use world_laws::{alone_laws, partition_laws, run_laws};
 
 /// A run of `m` steps and then `n` steps is a run of `m + n` steps, for any code and any world.
 pub fn runs_compose()

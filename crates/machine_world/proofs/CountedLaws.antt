@@ -1,0 +1,262 @@
+-- Each step of the world keeps it counted: numbers rise, and held and free chunks are exactly the pool.
+use Rattle.std.proofs.Common.{◌≡◌, ℕ, zero, suc, ◌+◌, ◌<◌, ◌≤◌, Bool, ltb, nat_eq, not, List, [], ◌∷◌, ◌++◌, length, Option, Some, None, refl, sym, ap, subst, ◌∙◌, arith, cond, ⊎_elim}
+use Rattle.std.specs.List.{range_with_len}
+use Rattle.std.proofs.lemmas.Bool.{cond_both, cases_eq, cases_lt, lt-ltb, le-ltb, cond-true, cond-false, eq-eqb, ne_eqb, eqb-true}
+use Rattle.std.specs.Prelude.{nat_le}
+use Rattle.cap_word.specs.Calls.{Call, Blocking, Immediate}
+use Rattle.cap_word.specs.Runs as runs
+use Rattle.cap_word.specs.declared.stops.Stop.{Stop}
+use Rattle.cap_word.specs.declared.traps.TrapKind.{TrapKind}
+use Rattle.c_mean.specs.ModelledCalls.{blocking_row, immediate_row, is_dropped, with_delivery}
+use Rattle.chunk_pool.specs.Pool.{Pool, Taken, taken_for, start_pool}
+use Rattle.chunk_pool.proofs.NeedLaws.{taken_for-leaves, taken_for-keeps}
+use Rattle.machine_world.specs.Areas.{Areas}
+use Rattle.machine_world.specs.Local as local
+use Rattle.machine_world.specs.Local.{Local, LocalMove, local_step, passed, with_result}
+use Rattle.machine_world.specs.Held.{copies, KeepsCopies, size_of, KeepsSize}
+use Rattle.machine_world.specs.Threads.{Blocked, Thread, World, Setting, first_with, thread_of, replaced, without, with_thread, start_core, most_threads, Move, Goes, Puts, Spawns, Blocks, Ends, Stops, Wrong, retired, resumed, unless_trap, printed, result_of, package_call, spawned, asked, stopped, moved, step_of, step_on, step}
+use Rattle.machine_world.specs.Threads.{result_on}
+use Rattle.machine_world.specs.Runs.{empty_world, started_on, start_world, Action, Deliver, Advance, Pick, Step, picked_at, picked, world_of, after_action, and_then, after_actions}
+use Rattle.machine_world.specs.Chains.{held_copies}
+use Rattle.machine_world.specs.Numbered.{RiseBetween}
+use Rattle.machine_world.specs.Counted.{IsCounted, KeepsCounted, IsCountedIf}
+use Rattle.machine_world.proofs.HeldLaws.{copies-cons, KeepsCopies-step, KeepsSize-step}
+use Rattle.machine_world.proofs.WorldLaws.{held_copies-replaced, held_copies-without, held_copies-append}
+
+-- ---- numbers
+
+RiseBetween-weaken : (from lower next : ℕ) (threads : List Thread) → lower ≤ from → RiseBetween from next threads → RiseBetween lower next threads
+RiseBetween-weaken from lower next [] below rise = omega arith
+RiseBetween-weaken from lower next (t ∷ ts) below rise = (omega (arith, rise.0), rise.1)
+
+RiseBetween-replaced : (new : Thread) (from next : ℕ) (threads : List Thread) → RiseBetween from next threads → RiseBetween from next (replaced new threads)
+RiseBetween-replaced new from next [] rise = rise
+RiseBetween-replaced new from next (t ∷ ts) rise =
+    let rest = RiseBetween-replaced new (t.number + 1) next ts rise.1 in
+    cond_both (nat_eq t.number new.number) new t (λ (u : Thread). (from ≤ u.number) × RiseBetween (u.number + 1) next (replaced new ts))
+    (λ same. let equal : t.number ≡ new.number = eqb-true t.number new.number same in
+    (omega (arith, rise.0), subst (λ (n : ℕ). RiseBetween (n + 1) next (replaced new ts)) equal rest))
+    (λ _. (rise.0, rest))
+
+RiseBetween-without : (number from next : ℕ) (threads : List Thread) → RiseBetween from next threads → RiseBetween from next (without number threads)
+RiseBetween-without number from next [] rise = rise
+RiseBetween-without number from next (t ∷ ts) rise =
+    let rest = RiseBetween-without number (t.number + 1) next ts rise.1 in
+    cond_both (not (nat_eq t.number number)) (t ∷ without number ts) (without number ts) (RiseBetween from next)
+    (λ _. (rise.0, rest))
+    (λ _. RiseBetween-weaken (t.number + 1) from next (without number ts) (omega (arith, rise.0)) rest)
+
+RiseBetween-append : (from next : ℕ) (threads : List Thread) (t : Thread) → RiseBetween from next threads → t.number ≡ next → RiseBetween from (next + 1) (threads ++ t ∷ [])
+RiseBetween-append from next [] t rise is_next = (omega arith, omega arith)
+RiseBetween-append from next (u ∷ us) t rise is_next = (rise.0, RiseBetween-append (u.number + 1) next us t rise.1 is_next)
+
+first_with-number : (number : ℕ) (threads : List Thread) (t : Thread) → first_with number threads ≡ Some t → t.number ≡ number
+first_with-number number [] t found = absurd (cc)
+first_with-number number (u ∷ us) t found = ⊎_elim
+    (λ (same : u.number ≡ number).
+    let here : Some u ≡ Some t = sym (cond-true (nat_eq u.number number) (Some u) (first_with number us) (eq-eqb u.number number same)) ∙ found in
+    let equal : u ≡ t = cc in
+    ap (λ (v : Thread). v.number) (sym equal) ∙ same)
+    (λ apart. first_with-number number us t (sym (cond-false (nat_eq u.number number) (Some u) (first_with number us) (ne_eqb u.number number apart)) ∙ found))
+    (cases_eq u.number number)
+
+-- ---- worlds
+
+-- a thread of the world, by its number
+record IsLive (w : World) (thread : Thread) : Type 0 where
+  found : first_with thread.number w.threads ≡ Some thread
+
+counted_retired : (w : World) (thread new : Thread) (areas : Areas) → IsCounted w → IsLive w thread → new.number ≡ thread.number →
+    ((chunk : ℕ) → copies chunk new.core.chain + copies chunk areas.pool.free ≡ copies chunk thread.core.chain + copies chunk w.areas.pool.free) →
+    size_of areas.pool ≡ size_of w.areas.pool → IsCounted (retired w new areas)
+counted_retired w thread new areas counted live number same size = record {
+  numbered = RiseBetween-replaced new 0 w.next w.threads counted.numbered;
+  partition = λ chunk.
+      let found : first_with new.number w.threads ≡ Some thread = ap (λ (n : ℕ). first_with n w.threads) number ∙ live.found in
+      let held = held_copies-replaced chunk new thread 0 w.next w.threads counted.numbered found in
+      let count : cond (ltb chunk areas.pool.count) 1 0 ≡ cond (ltb chunk w.areas.pool.count) 1 0 = ap (λ (s : ℕ × ℕ). cond (ltb chunk s.0) 1 0) size in
+      let before = counted.partition chunk in
+      (let sum : held_copies chunk (replaced new w.threads) + copies chunk areas.pool.free ≡ held_copies chunk w.threads + copies chunk w.areas.pool.free = omega (arith, held, same chunk) in sum)
+      ∙ before ∙ sym count;
+}
+
+counted_ended : (w : World) (thread : Thread) (areas : Areas) (clock cost : ℕ) → IsCounted w → IsLive w thread →
+    ((chunk : ℕ) → copies chunk areas.pool.free ≡ copies chunk thread.core.chain + copies chunk w.areas.pool.free) →
+    size_of areas.pool ≡ size_of w.areas.pool →
+    IsCounted (record w { threads = without thread.number w.threads; areas = areas; clock = clock; cost = cost; running = None })
+counted_ended w thread areas clock cost counted live same size = record {
+  numbered = RiseBetween-without thread.number 0 w.next w.threads counted.numbered;
+  partition = λ chunk.
+      let held = held_copies-without chunk thread.number thread 0 w.next w.threads counted.numbered live.found in
+      let count : cond (ltb chunk areas.pool.count) 1 0 ≡ cond (ltb chunk w.areas.pool.count) 1 0 = ap (λ (s : ℕ × ℕ). cond (ltb chunk s.0) 1 0) size in
+      (let sum : held_copies chunk (without thread.number w.threads) + copies chunk areas.pool.free ≡ held_copies chunk w.threads + copies chunk w.areas.pool.free = omega (arith, held, same chunk) in sum)
+      ∙ counted.partition chunk ∙ sym count;
+}
+
+pub counted_started : (w : World) (taken : Taken) (need entry argument : ℕ) → IsCounted w → taken_for w.areas.pool need ≡ Some taken → IsCounted (with_thread w taken entry argument)
+counted_started w taken need entry argument counted some = record {
+  numbered = RiseBetween-append 0 w.next w.threads _ counted.numbered refl;
+  partition = λ chunk.
+      let held = held_copies-append chunk w.threads (record { number = w.next; core = start_core taken entry argument; blocked = None }) in
+      let left = taken_for-leaves w.areas.pool need taken some chunk in
+      let moved_free = copies-cons chunk taken.chunk taken.pool.free in
+      let chain = copies-cons chunk taken.chunk [] in
+      let count : cond (ltb chunk taken.pool.count) 1 0 ≡ cond (ltb chunk w.areas.pool.count) 1 0 = ap (λ (p : Pool). cond (ltb chunk p.count) 1 0) (taken_for-keeps w.areas.pool need taken some) in
+      (let sum : held_copies chunk (w.threads ++ record { number = w.next; core = start_core taken entry argument; blocked = None } ∷ []) + copies chunk taken.pool.free ≡ held_copies chunk w.threads + copies chunk w.areas.pool.free = omega (arith, held, left, moved_free, chain) in sum)
+      ∙ counted.partition chunk ∙ sym count;
+}
+
+-- ---- moves
+
+counted_trap : (trap : Option TrapKind) (move : Move) → KeepsCounted move → KeepsCounted (unless_trap trap move)
+counted_trap (Some kind) move kept = tt
+counted_trap None move kept = kept
+
+counted_printed : (value : Option ℕ) (after : World) → IsCounted after → KeepsCounted (printed value after)
+counted_printed None after counted = counted
+counted_printed (Some value) after counted = counted
+
+-- a thread that only passes its ECALL
+counted_resumed : (w : World) (thread : Thread) (result : Option ℕ) → IsCounted w → IsLive w thread → IsCounted (retired w (resumed thread result) w.areas)
+counted_resumed w thread result counted live = counted_retired w thread (resumed thread result) w.areas counted live refl (λ chunk. refl) refl
+
+counted_call : (s : Setting) (w : World) (thread : Thread) (call : Call) → IsCounted w → IsLive w thread → KeepsCounted (package_call s w thread call)
+counted_call s w thread (Blocking block) counted live =
+    let after = counted_retired w thread (record thread { core = passed thread.core None; blocked = Some (record { block = block; since = w.clock + 1 }) }) w.areas counted live refl (λ chunk. refl) refl in
+    counted_trap (blocking_row s.caps w.exchange block).trap _ (record { numbered = after.numbered; partition = after.partition })
+counted_call s w thread (Immediate ask) counted live =
+    let row = immediate_row s.caps w.exchange thread.number w.next ask in
+    let after = counted_resumed w thread (result_of ask row.result) counted live in
+    counted_trap row.trap _ (counted_printed row.prints _ (record { numbered = after.numbered; partition = after.partition }))
+
+counted_spawned : (w : World) (thread : Thread) (entry argument need : ℕ) (found : Option Taken) → IsCounted w → IsLive w thread → taken_for w.areas.pool need ≡ found → KeepsCounted (spawned w thread entry argument found)
+counted_spawned w thread entry argument need None counted live e = tt
+counted_spawned w thread entry argument need (Some taken) counted live e =
+    counted_started (retired w (resumed thread (Some w.next)) w.areas) taken need entry argument (counted_resumed w thread (Some w.next) counted live) e
+
+counted_asked : (s : Setting) (w : World) (thread : Thread) (question : local.Question) → IsCounted w → IsLive w thread → KeepsCounted (asked s w thread question)
+counted_asked s w thread (local.Calls call) counted live = counted_call s w thread call counted live
+counted_asked s w thread (local.Starts entry argument need) counted live =
+    cond_both (nat_le most_threads (length w.threads)) (Stops Stop.Threads) (spawned w thread entry argument (taken_for w.areas.pool need)) KeepsCounted
+    (λ _. tt)
+    (λ _. counted_spawned w thread entry argument need (taken_for w.areas.pool need) counted live refl)
+
+abbrev local_of : World → Thread → Local
+local_of w thread = record { areas = w.areas; core = thread.core }
+
+counted_stopped : (w : World) (thread : Thread) (end : local.End) → IsCounted w → IsLive w thread → ((chunk : ℕ) → KeepsCopies chunk (local_of w thread) (runs.Stops end)) → KeepsSize (local_of w thread) (runs.Stops end) → KeepsCounted (stopped w thread end)
+counted_stopped w thread (local.Ended areas) counted live same size = counted_ended w thread areas (w.clock + 1) (w.cost + 1) counted live same size
+counted_stopped w thread (local.Trapped kind) counted live same size = tt
+counted_stopped w thread local.NoRoom counted live same size = tt
+counted_stopped w thread local.Wrong counted live same size = tt
+
+counted_moved : (s : Setting) (w : World) (thread : Thread) (move : LocalMove) → IsCounted w → IsLive w thread → ((chunk : ℕ) → KeepsCopies chunk (local_of w thread) move) → KeepsSize (local_of w thread) move → KeepsCounted (moved s w thread move)
+counted_moved s w thread (runs.Goes after) counted live same size = counted_retired w thread (record thread { core = after.core }) after.areas counted live refl same size
+counted_moved s w thread (runs.Asks question waiting) counted live same size = counted_asked s w thread question counted live
+counted_moved s w thread (runs.Stops end) counted live same size = counted_stopped w thread end counted live same size
+
+counted_step_of : (s : Setting) (w : World) (number : ℕ) (found : Option Thread) → IsCounted w → thread_of w number ≡ found → KeepsCounted (step_of s w found)
+counted_step_of s w number None counted e = tt
+counted_step_of s w number (Some thread) counted e =
+    let live : IsLive w thread = record { found = ap (λ (n : ℕ). first_with n w.threads) (first_with-number number w.threads thread e) ∙ e } in
+    let l = local_of w thread in
+    cond_both (nat_eq w.cost s.fuel) (Stops Stop.Fuel) (moved s w thread (local_step s.code l)) KeepsCounted
+    (λ _. tt)
+    (λ _. counted_moved s w thread (local_step s.code l) counted live (λ chunk. KeepsCopies-step s.code l chunk) (KeepsSize-step s.code l))
+
+counted_step_on : (s : Setting) (w : World) (running : Option ℕ) → IsCounted w → KeepsCounted (step_on s w running)
+counted_step_on s w None counted = tt
+counted_step_on s w (Some number) counted = counted_step_of s w number (thread_of w number) counted refl
+
+pub counted_step : (s : Setting) (w : World) → IsCounted w → KeepsCounted (step s w)
+unfolding step
+counted_step s w counted = counted_step_on s w w.running counted
+
+-- ---- the start
+
+copies-below : (chunk from n : ℕ) → chunk < from → copies chunk (range_with_len from n) ≡ 0
+copies-below chunk from zero below = refl
+copies-below chunk from (suc n) below =
+    copies-cons chunk from (range_with_len (from + 1) n)
+    ∙ (λ i. cond (ne_eqb from chunk (λ same. omega arith) i) 1 0 + copies-below chunk (from + 1) n (omega arith) i)
+
+copies-past : (chunk from n : ℕ) → from + n ≤ chunk → copies chunk (range_with_len from n) ≡ 0
+copies-past chunk from zero past = refl
+copies-past chunk from (suc n) past =
+    copies-cons chunk from (range_with_len (from + 1) n)
+    ∙ (λ i. cond (ne_eqb from chunk (λ same. omega arith) i) 1 0 + copies-past chunk (from + 1) n (omega arith) i)
+
+copies-range : (chunk from n : ℕ) → from ≤ chunk → chunk < from + n → copies chunk (range_with_len from n) ≡ 1
+copies-range chunk from zero low high = absurd (omega arith)
+copies-range chunk from (suc n) low high = ⊎_elim
+    (λ (same : from ≡ chunk).
+    copies-cons chunk from (range_with_len (from + 1) n)
+    ∙ (λ i. cond (eq-eqb from chunk same i) 1 0 + copies-below chunk (from + 1) n (omega arith) i))
+    (λ apart.
+    let later : copies chunk (range_with_len (from + 1) n) ≡ 1 = copies-range chunk (from + 1) n (omega arith) (omega arith) in
+    copies-cons chunk from (range_with_len (from + 1) n)
+    ∙ (λ i. cond (ne_eqb from chunk apart i) 1 0 + later i))
+    (cases_eq from chunk)
+
+free_once : (chunk count : ℕ) → 0 + copies chunk (range_with_len 0 count) ≡ cond (ltb chunk count) 1 0
+free_once chunk count = ⊎_elim
+    (λ (within : chunk < count).
+    (let one : 0 + copies chunk (range_with_len 0 count) ≡ 1 = omega (arith, copies-range chunk 0 count (omega arith) (omega arith)) in one)
+    ∙ sym (ap (λ (b : Bool). cond b 1 0) (lt-ltb chunk count within)))
+    (λ (past : count ≤ chunk).
+    (let none : 0 + copies chunk (range_with_len 0 count) ≡ 0 = omega (arith, copies-past chunk 0 count (omega arith)) in none)
+    ∙ sym (ap (λ (b : Bool). cond b 1 0) (le-ltb chunk count past)))
+    (cases_lt chunk count)
+
+counted_started_on : (w : World) (entry need : ℕ) (found : Option Taken) → IsCounted w → taken_for w.areas.pool need ≡ found → IsCountedIf (started_on w entry found)
+counted_started_on w entry need None counted e = tt
+counted_started_on w entry need (Some taken) counted e = counted_started w taken need entry 0 counted e
+
+pub counted_start : (chunks words : ℕ) (globals tables : List ℕ) (entry need : ℕ) → IsCountedIf (start_world chunks words globals tables entry need)
+unfolding start_world
+counted_start chunks words globals tables entry need =
+    let areas : Areas = record { pool = start_pool chunks words; globals = globals; tables = tables } in
+    counted_started_on (empty_world areas) entry need (taken_for areas.pool need)
+    (record { numbered = omega arith; partition = λ chunk. free_once chunk chunks }) refl
+
+-- ---- actions
+
+counted_picked_at : (s : Setting) (w : World) (thread : Thread) (blocked : Option Blocked) → IsCounted w → IsLive w thread → IsCounted (picked_at s w thread blocked)
+counted_picked_at s w thread None counted live = record { numbered = counted.numbered; partition = counted.partition }
+counted_picked_at s w thread (Some blocked) counted live =
+    let row = blocking_row s.caps w.exchange blocked.block in
+    let after = counted_retired w thread (record thread { core = record thread.core { x = with_result thread.core.x (result_on blocked.block row.result) }; blocked = None }) w.areas counted live refl (λ chunk. refl) refl in
+    record { numbered = after.numbered; partition = after.partition }
+
+counted_picked : (s : Setting) (w : World) (number : ℕ) (found : Option Thread) → IsCounted w → thread_of w number ≡ found → IsCountedIf (picked s w found)
+counted_picked s w number None counted e = tt
+counted_picked s w number (Some thread) counted e =
+    counted_picked_at s w thread thread.blocked counted
+    (record { found = ap (λ (n : ℕ). first_with n w.threads) (first_with-number number w.threads thread e) ∙ e })
+
+counted_world_of : (move : Move) → KeepsCounted move → IsCountedIf (world_of move)
+counted_world_of (Goes after) kept = kept
+counted_world_of (Puts value after) kept = kept
+counted_world_of (Spawns number after) kept = kept
+counted_world_of (Blocks after) kept = kept
+counted_world_of (Ends after) kept = kept
+counted_world_of (Stops stop) kept = tt
+counted_world_of Wrong kept = tt
+
+counted_action : (s : Setting) (w : World) (action : Action) → IsCounted w → IsCountedIf (after_action s w action)
+counted_action s w (Deliver delivery) counted =
+    cond_both (is_dropped s.backlog w.exchange delivery) w (record w { exchange = with_delivery w.exchange delivery }) IsCounted
+    (λ _. counted)
+    (λ _. record { numbered = counted.numbered; partition = counted.partition })
+counted_action s w (Advance to) counted = record { numbered = counted.numbered; partition = counted.partition }
+counted_action s w (Pick number) counted = counted_picked s w number (thread_of w number) counted refl
+counted_action s w Step counted = counted_world_of (step s w) (counted_step s w counted)
+
+counted_then : (found : Option World) (rest : World → Option World) → IsCountedIf found → ((w : World) → IsCounted w → IsCountedIf (rest w)) → IsCountedIf (and_then found rest)
+counted_then None rest counted after = tt
+counted_then (Some w) rest counted after = after w counted
+
+pub counted_actions : (s : Setting) (actions : List Action) (w : World) → IsCounted w → IsCountedIf (after_actions s actions w)
+counted_actions s [] w counted = counted
+counted_actions s (action ∷ actions) w counted =
+    counted_then (after_action s w action) (after_actions s actions) (counted_action s w action counted) (counted_actions s actions)

@@ -1,0 +1,11 @@
+use Rattle.machine_world.proofs.CountedLaws.{counted_start, counted_step, counted_actions}
+use Rattle.machine_world.proofs.world_laws.partition_laws.Goals as goal
+
+pub returns-clause-start : goal.returns-clause-start
+returns-clause-start c = counted_start
+
+pub returns-clause-step : goal.returns-clause-step
+returns-clause-step c = counted_step
+
+pub returns-clause-actions : goal.returns-clause-actions
+returns-clause-actions c = counted_actions

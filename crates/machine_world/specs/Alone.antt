@@ -1,0 +1,35 @@
+-- What a step leaves alone: of one thread the chunks that it neither holds nor finds free nor accesses, and of the world
+-- the other threads.
+use Rattle.std.specs.Prelude.{◌≡◌, ◌≢◌, ℕ, List, Some}
+use Rattle.cap_word.specs.Runs as runs
+use Rattle.chunk_pool.specs.Pool.{chunk_of}
+use Rattle.rv_machine.specs.Access.{IsAccessed}
+use Rattle.machine_world.specs.Areas.{InPayload, spot_of}
+use Rattle.machine_world.specs.Held.{copies_in}
+use Rattle.machine_world.specs.Local.{Local, LocalMove, Ended, Trapped, NoRoom, Wrong, access_at}
+use Rattle.machine_world.specs.Threads as world
+use Rattle.machine_world.specs.Threads.{World, Move, thread_of}
+
+-- the chunk is neither in the thread's chain nor free, and no byte of the next access lies in it
+pub record IsApart (code : List ℕ) (l : Local) (chunk : ℕ) : Type 0 where
+  pub elsewhere : copies_in chunk l ≡ 0
+  pub unaccessed : (at offset : ℕ) → IsAccessed (access_at code l) at → spot_of l.areas at ≢ Some (InPayload chunk offset)
+
+-- a move leaves the words of the chunk
+abbrev pub KeepsChunk : ℕ → Local → LocalMove → Type 0
+KeepsChunk chunk l (runs.Goes after) = chunk_of after.areas.pool chunk ≡ chunk_of l.areas.pool chunk
+KeepsChunk chunk l (runs.Asks question waiting) = waiting ≡ l
+KeepsChunk chunk l (runs.Stops (Ended areas)) = chunk_of areas.pool chunk ≡ chunk_of l.areas.pool chunk
+KeepsChunk chunk l (runs.Stops (Trapped kind)) = Unit {0}
+KeepsChunk chunk l (runs.Stops NoRoom) = Unit {0}
+KeepsChunk chunk l (runs.Stops Wrong) = Unit {0}
+
+-- a move leaves the thread of that number
+abbrev pub KeepsThread : ℕ → World → Move → Type 0
+KeepsThread number w (world.Goes after) = thread_of after number ≡ thread_of w number
+KeepsThread number w (world.Puts value after) = thread_of after number ≡ thread_of w number
+KeepsThread number w (world.Spawns started after) = thread_of after number ≡ thread_of w number
+KeepsThread number w (world.Blocks after) = thread_of after number ≡ thread_of w number
+KeepsThread number w (world.Ends after) = thread_of after number ≡ thread_of w number
+KeepsThread number w (world.Stops stop) = Unit {0}
+KeepsThread number w world.Wrong = Unit {0}

@@ -1,0 +1,17 @@
+-- Held and free chunks are exactly the pool.
+use Rattle.std.specs.Prelude.{◌≡◌, ℕ, ◌+◌, List, [], ◌∷◌, nat_eq, if◌then◌else◌, nat_lt}
+use Rattle.std.specs.List.{count_by}
+use Rattle.machine_world.specs.Threads.{Thread, World}
+
+-- how often a chunk stands in a list of chunks
+abbrev pub copies : ℕ → List ℕ → ℕ
+copies chunk chunks = count_by (λ other. nat_eq other chunk) chunks
+
+-- and in the chains of threads
+abbrev pub held_copies : ℕ → List Thread → ℕ
+held_copies chunk [] = 0
+held_copies chunk (thread ∷ threads) = copies chunk thread.core.chain + held_copies chunk threads
+
+-- the chains of all live threads and the free list hold each number below the count once, and no other number
+abbrev pub IsPartition : World → Type 0
+IsPartition w = (chunk : ℕ) → held_copies chunk w.threads + copies chunk w.areas.pool.free ≡ (if nat_lt chunk w.areas.pool.count then 1 else 0)

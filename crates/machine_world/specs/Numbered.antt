@@ -1,0 +1,11 @@
+-- The numbers of live threads: they rise, and are below the next one.
+use Rattle.std.specs.Prelude.{ℕ, ◌+◌, ◌≤◌, List, [], ◌∷◌}
+use Rattle.machine_world.specs.Threads.{Thread, World}
+
+-- the numbers rise from the first of these two on and stay below the second
+abbrev pub RiseBetween : ℕ → ℕ → List Thread → Type 0
+RiseBetween from next [] = from ≤ next
+RiseBetween from next (thread ∷ threads) = (from ≤ thread.number) × RiseBetween (thread.number + 1) next threads
+
+abbrev pub IsNumbered : World → Type 0
+IsNumbered w = RiseBetween 0 w.next w.threads

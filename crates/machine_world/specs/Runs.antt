@@ -1,0 +1,92 @@
+-- Runs of the machine world: what comes from outside, the choice of a thread, and steps, one action after another.
+use Rattle.std.specs.Prelude.{ℕ, zero, suc, List, [], ◌∷◌, Option, Some, None, if◌then◌else◌}
+use Rattle.cap_word.specs.declared.calls.Block.{Block}
+use Rattle.c_mean.specs.ModelledCalls.{BlockingRow, blocking_row, Delivery, is_dropped, with_delivery}
+use Rattle.c_mean.specs.World.{empty_exchange}
+use Rattle.chunk_pool.specs.Pool.{Taken, taken_for, start_pool}
+use Rattle.machine_world.specs.Areas.{Areas}
+use Rattle.machine_world.specs.Local.{with_result}
+use Rattle.machine_world.specs.Threads.{Blocked, Thread, World, Setting, thread_of, replaced, with_thread, result_on, Move, Goes, Puts, Spawns, Blocks, Ends, Stops, Wrong, step}
+
+-- ---- the start
+
+abbrev pub empty_world : Areas → World
+empty_world areas = record { threads = []; areas = areas; exchange = empty_exchange; clock = 0; cost = 0; next = 0; running = None }
+
+abbrev pub started_on : World → ℕ → Option Taken → Option World
+started_on w entry None = None
+started_on w entry (Some taken) = Some (with_thread w taken entry 0)
+
+-- the world in which a run starts: so many chunks of so many words, the globals and tables of an image, and thread 0 at
+-- the entry of main on a chunk for its need; none where no chunk fits
+unfoldable pub start_world : ℕ → ℕ → List ℕ → List ℕ → ℕ → ℕ → Option World
+start_world chunks words globals tables entry need =
+    let areas : Areas = record { pool = start_pool chunks words; globals = globals; tables = tables } in
+    started_on (empty_world areas) entry (taken_for areas.pool need)
+
+-- ---- actions
+
+pub data Action : Type 0 where
+  -- something comes from outside
+  Deliver : (delivery : Delivery) → Action
+  -- the clock goes to a time
+  Advance : (to : ℕ) → Action
+  -- a segment of a thread begins
+  Pick : (number : ℕ) → Action
+  -- one step of the running thread
+  Step : Action
+
+-- a delivery joins its queue, or is dropped
+abbrev pub delivered : Setting → World → Delivery → World
+delivered s w delivery =
+    if is_dropped s.backlog w.exchange delivery then w else record w { exchange = with_delivery w.exchange delivery }
+
+abbrev pub advanced : World → ℕ → World
+advanced w to = record w { clock = to }
+
+-- the effect of resuming: the result of the call at which the thread was blocked, and the exchange after it
+abbrev pub picked_row : World → Thread → Block → BlockingRow → World
+picked_row w thread block row = record w {
+  threads = replaced (record thread { core = record thread.core { x = with_result thread.core.x (result_on block row.result) }; blocked = None }) w.threads;
+  exchange = row.after;
+  running = Some thread.number;
+}
+
+abbrev pub picked_at : Setting → World → Thread → Option Blocked → World
+picked_at s w thread None = record w { running = Some thread.number }
+picked_at s w thread (Some blocked) = picked_row w thread blocked.block (blocking_row s.caps w.exchange blocked.block)
+
+abbrev pub picked : Setting → World → Option Thread → Option World
+picked s w None = None
+picked s w (Some thread) = Some (picked_at s w thread thread.blocked)
+
+-- the world that a move leads to; none where the run stops or is wrong
+abbrev pub world_of : Move → Option World
+world_of (Goes after) = Some after
+world_of (Puts value after) = Some after
+world_of (Spawns number after) = Some after
+world_of (Blocks after) = Some after
+world_of (Ends after) = Some after
+world_of (Stops stop) = None
+world_of Wrong = None
+
+-- the world after an action; none where it can't be done
+abbrev pub after_action : Setting → World → Action → Option World
+after_action s w (Deliver delivery) = Some (delivered s w delivery)
+after_action s w (Advance to) = Some (advanced w to)
+after_action s w (Pick number) = picked s w (thread_of w number)
+after_action s w Step = world_of (step s w)
+
+abbrev pub and_then : Option World → (World → Option World) → Option World
+and_then None rest = None
+and_then (Some w) rest = rest w
+
+-- the world after these actions, one after another
+abbrev pub after_actions : Setting → List Action → World → Option World
+after_actions s [] w = Some w
+after_actions s (action ∷ actions) w = and_then (after_action s w action) (after_actions s actions)
+
+-- the world after so many steps of the running thread
+abbrev pub after_steps : Setting → ℕ → World → Option World
+after_steps s zero w = Some w
+after_steps s (suc n) w = and_then (world_of (step s w)) (after_steps s n)
