@@ -4,3 +4,4 @@ pub mod WorldLemmas
 pub mod TextLemmas
 pub mod StandLemmas
 pub mod WorldStandLemmas
+pub mod SegmentLemmas

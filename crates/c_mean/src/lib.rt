@@ -22,6 +22,6 @@ pub use examples::{
 };
 pub use laws::{
     deliveries_change_one_queue, frames_wait_in_text, runs_have_one_end, runs_leave_others_alone,
-    scoped_expressions_are_in_range,
+    scoped_expressions_are_in_range, segments_run_threads,
 };
 pub use values::value_of;
