@@ -5,3 +5,4 @@ pub mod TextLemmas
 pub mod StandLemmas
 pub mod WorldStandLemmas
 pub mod SegmentLemmas
+pub mod CallLemmas
