@@ -4,3 +4,5 @@ pub mod WorldLemmas
 pub mod TextLemmas
 pub mod StandLemmas
 pub mod WorldStandLemmas
+pub mod SegmentLemmas
+pub mod CallLemmas

@@ -1,9 +1,11 @@
 // What holds of every program, world and schedule.
-ghost use Rattle.std.specs.Prelude.{◌≡◌, ℕ, ◌<◌, ◌++◌, ◌∷◌, [], List, Some, length, slice_get};
+ghost use Rattle.std.specs.Prelude.{◌≡◌, ℕ, ◌<◌, ◌≤◌, ◌++◌, ◌∷◌, [], IsSome, List, Ok, Some, length, slice_get};
 ghost use Rattle.std.specs.List.{AllByRecursion};
-ghost use Rattle.cap_word.specs.Calls.{Answer, Question};
-ghost use Rattle.cap_word.specs.Runs.{Asks, Unfinished, run};
+ghost use Rattle.cap_word.specs.Calls.{Answer, Finish, Question, call_of};
+ghost use Rattle.cap_word.specs.Runs.{Asks, Goes, Stops, Unfinished, moves, run};
 ghost use Rattle.cap_word.specs.declared.calls.Block.{Block};
+ghost use Rattle.c_tree.specs.Modelled.{number_of, parameters_of};
+ghost use Rattle.c_tree.specs.declared.operators.ModelledCall.{ModelledCall};
 ghost use Rattle.c_tree.specs.Trees.{ExprTree, ProgramTree};
 ghost use Rattle.c_tree.specs.WellScoped.{Context, IsExprScoped};
 ghost use Rattle.c_mean.specs.Kept.{LeavesAlone, LeavesOtherQueues};
@@ -12,7 +14,8 @@ ghost use Rattle.c_mean.specs.ModelledCalls.{Arrival, Delivery, Exchange, Messag
 ghost use Rattle.c_mean.specs.Frames.{Running, Waiting};
 ghost use Rattle.c_mean.specs.Sites.{WaitsInText};
 ghost use Rattle.c_mean.specs.Steps.{source_machine, source_step, started};
-ghost use Rattle.c_mean.specs.World.{Blocked, Entry, IsAfter, IsCutAt, Rested, RunsTo, Segment, World, start_world};
+ghost use Rattle.c_mean.specs.Values.{values};
+ghost use Rattle.c_mean.specs.World.{Blocked, Ended, Entry, IsAfter, IsCutAt, Rested, RunsTo, Segment, World, calls, rests, segment_machine, start_world, unless_trap};
 
 /// A run of a thread, a cut of one and a schedule each come to one end at most. It does nothing: the law is the contract.
 pub fn runs_have_one_end()
@@ -49,4 +52,21 @@ pub fn frames_wait_in_text()
     ensures running { (program : ProgramTree) (function : ℕ) (arguments : List ℕ) (globals : List (List ℕ)) (world : List Question → Answer) (n : ℕ) (asked : List Question) (thread : Running) → run (source_machine program) world n [] (started program function arguments globals) ≡ Unfinished asked thread → AllByRecursion (WaitsInText program) thread.below }
     ensures asking { (program : ProgramTree) (function : ℕ) (arguments : List ℕ) (globals : List (List ℕ)) (world : List Question → Answer) (n : ℕ) (asked : List Question) (thread : Running) (question : Question) (waiting : Waiting) → run (source_machine program) world n [] (started program function arguments globals) ≡ Unfinished asked thread → source_step program thread ≡ Asks question waiting → AllByRecursion (WaitsInText program) (waiting.front ∷ waiting.below) }
     ensures blocked { (program : ProgramTree) (caps : List ℕ) (entries : List Entry) (world : World) (number : ℕ) (block : Block) (waiting : Waiting) → IsAfter program caps (start_world program) entries world → slice_get world.threads number ≡ Some (Blocked block waiting) → AllByRecursion (WaitsInText program) (waiting.front ∷ waiting.below) }
+{}
+
+/// A thread that runs in a world makes the steps that it makes alone: as long as these are silent only the thread changes;
+/// where they come to a modelled call the world does what its row says, and where they stop the thread has ended or
+/// trapped. It does nothing: the law is the contract.
+pub fn segments_run_threads()
+    ensures silent { (program : ProgramTree) (caps : List ℕ) (segment : Segment) (n : ℕ) (thread : Running) → moves (source_machine program) n segment.running ≡ Goes thread → moves (segment_machine program caps) n segment ≡ Goes (record segment { running = thread }) }
+    ensures asks { (program : ProgramTree) (caps : List ℕ) (segment : Segment) (n : ℕ) (question : Question) (waiting : Waiting) → moves (source_machine program) n segment.running ≡ Asks question waiting → (m : ℕ) × (m ≤ n) × (moves (segment_machine program caps) m segment ≡ calls caps segment question.globals waiting question.call) }
+    ensures stops { (program : ProgramTree) (caps : List ℕ) (segment : Segment) (n : ℕ) (finish : Finish) → moves (source_machine program) n segment.running ≡ Stops finish → (m : ℕ) × (m ≤ n) × (moves (segment_machine program caps) m segment ≡ unless_trap segment finish.globals finish.trap (rests segment finish.globals Ended)) }
+{}
+
+/// A modelled call with as many arguments as it takes is one that a world knows, and a list of arguments has as many values
+/// as it has expressions: in a program that is well scoped a modelled call always asks. It does nothing: the law is the
+/// contract.
+pub fn modelled_calls_are_known()
+    ensures known { (call : ModelledCall) (arguments : List ℕ) → length arguments ≡ parameters_of call → IsSome (call_of (number_of call) arguments) }
+    ensures counted { (names globals : List (List ℕ)) (exprs : List ExprTree) (words : List ℕ) → values names globals exprs ≡ Ok words → length words ≡ length exprs }
 {}

@@ -21,7 +21,7 @@ pub use examples::{
     range_is_tested_last, recursion_returns, server_serves, stores_beyond_trap, tables_are_called,
 };
 pub use laws::{
-    deliveries_change_one_queue, frames_wait_in_text, runs_have_one_end, runs_leave_others_alone,
-    scoped_expressions_are_in_range,
+    deliveries_change_one_queue, frames_wait_in_text, modelled_calls_are_known, runs_have_one_end,
+    runs_leave_others_alone, scoped_expressions_are_in_range, segments_run_threads,
 };
 pub use values::value_of;
