@@ -1,2 +1,3 @@
+pub mod FlatLemmas
 pub mod IndexLemmas
 pub mod ListLemmas

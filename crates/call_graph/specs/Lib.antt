@@ -1,4 +1,5 @@
 pub mod Callees
+pub mod FlatCalls
 pub mod Graph
 pub mod Index
 pub mod Lists

@@ -10,10 +10,13 @@
 
 mod call_graphs;
 mod callee_lists;
+mod flat_calls;
+mod flat_graphs;
 mod index;
 mod sites;
 
 pub use call_graphs::CallGraph;
 pub use callee_lists::Callees;
+pub use flat_graphs::graph;
 pub use index::{CallerIndex, is_kept};
 pub use sites::{GraphSite, Target};

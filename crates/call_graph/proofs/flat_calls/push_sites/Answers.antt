@@ -1,0 +1,7 @@
+use Rattle.std.proofs.Common.{arith}
+use Rattle.std.proofs.lemmas.Grind.{common_steps}
+use Rattle.std.proofs.lemmas.List.Elements.{filter_map-append}
+use Rattle.call_graph.proofs.flat_calls.push_sites.Goals as goal
+
+pub loop-op-preserved : goal.loop-op-preserved
+loop-op-preserved c = grind (arith, common_steps, filter_map-append)
