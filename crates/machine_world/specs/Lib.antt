@@ -21,3 +21,4 @@ pub mod Stretches
 pub mod Counted
 pub mod Alone
 pub mod Descending
+pub mod Keys

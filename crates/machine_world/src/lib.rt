@@ -2,12 +2,13 @@
 //
 // Memory of the threads: Areas. One thread: Local (its steps and the calls of the run time), Held and Links (chunks under
 // them). All threads: Threads (a step), Runs, Numbered, Chains and Counted (held and free chunks), Alone (what stays).
-// Frames in place: Places, InPlace, Rests, Stretches. Computed: Examples, Descending. The first path's: World, Start,
+// Frames in place: Places, InPlace, Keys, Rests, Stretches. Computed: Examples, Descending. The first path's: World, Start,
 // Effect, Run, Frames, Partition, Good. Sources: RISC-V unprivileged manual, chapters "RV32I" and "M"; Capriccio (von
 // Behren et al., SOSP 2003), "Linked Stack Management". The crate above uses the definitions and the laws in src/.
 #![tactic(auto)]
 
 mod examples;
+mod frame_laws;
 mod laws;
 mod linked;
 mod world_laws;
@@ -17,6 +18,7 @@ ghost use Rattle.machine_world.specs.World.{World};
 ghost use Rattle.machine_world.specs.Run.{world_after, and_then_after};
 
 pub use examples::local_examples;
+pub use frame_laws::chain_law;
 pub use laws::{area_laws, chunk_laws};
 pub use linked::linked_example;
 pub use world_laws::{alone_laws, partition_laws, run_laws};

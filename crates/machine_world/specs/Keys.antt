@@ -1,0 +1,57 @@
+-- What is read from the frames of a thread: its key, and how long its chain may be.
+use Rattle.std.specs.Prelude.{ℕ, ◌+◌, Bool, true, false, List, [], ◌∷◌, take, Option, Some, None, if◌then◌else◌}
+use Rattle.flat_code.specs.declared.operations.Op.{Op}
+use Rattle.flat_code.specs.Codes.{operation_at, site_of}
+use Rattle.stack_certificate.specs.declared.sites.LinkKind.{LinkKind}
+use Rattle.stack_certificate.specs.Templates.{kind_of}
+use Rattle.machine_world.specs.InPlace.{Frame}
+use Rattle.machine_world.specs.Places.{Checked, Row, NoFrame, Empty, Fresh, Linking, Whole}
+
+-- the operation at which a frame stands
+abbrev pub standing : Checked → Frame → Option Op
+standing c frame = operation_at c.flat frame.function frame.operation
+
+-- ---- keys
+
+abbrev pub site_in : Option Op → Option ℕ
+site_in None = None
+site_in (Some op) = site_of op
+
+abbrev pub with_site : Option ℕ → List ℕ → List ℕ
+with_site None sites = sites
+with_site (Some site) sites = site ∷ sites
+
+-- the sites at which the frames stand, innermost first
+abbrev pub sites_of : Checked → List Frame → List ℕ
+sites_of c [] = []
+sites_of c (frame ∷ frames) = with_site (site_in (standing c frame)) (sites_of c frames)
+
+-- the key of a thread at a modelled call: its site, and those of the up to seven innermost calls, innermost first
+abbrev pub key_of : Checked → List Frame → List ℕ
+key_of c frames = take 8 (sites_of c frames)
+
+-- ---- chains
+
+abbrev pub is_linked : LinkKind → Bool
+is_linked LinkKind.Plain = false
+is_linked (LinkKind.Linked need) = true
+is_linked (LinkKind.Spawned need) = false
+
+-- the frame stands at a linked site
+abbrev pub stands_at_link : Checked → Option Op → Bool
+stands_at_link c None = false
+stands_at_link c (Some op) = is_linked (kind_of c.certificate op)
+
+-- how many frames were called at a linked site
+abbrev pub called_at_links : Checked → List Frame → ℕ
+called_at_links c [] = 0
+called_at_links c (frame ∷ []) = 0
+called_at_links c (frame ∷ below ∷ frames) = (if stands_at_link c (standing c below) then 1 else 0) + called_at_links c (below ∷ frames)
+
+-- one chunk more while a link has no frame in its chunk
+abbrev pub chunk_ahead : Row → ℕ
+chunk_ahead NoFrame = 0
+chunk_ahead Empty = 0
+chunk_ahead Fresh = 0
+chunk_ahead Linking = 1
+chunk_ahead Whole = 0
