@@ -10,7 +10,7 @@ use Rattle.c_tree.specs.Modelled.{number_of}
 use Rattle.c_tree.specs.Sizes.{below}
 use Rattle.c_tree.specs.TextOrder.{call_site}
 use Rattle.c_tree.specs.Trees.{CallTree, CallFunction, CallTable, CallSpawn, CallModelled, RightTree, Computed, Called, SimpleTree, DeclareScalar, DeclareArray, DeclareWith, SetLocal, SetGlobal, SetLocalElement, SetGlobalElement, Calling, ProgramTree}
-use Rattle.c_mean.specs.ToDo.{Item, Simply, Choose, Test, Back, Leave, Skip, GiveBack, GiveBackWord, Fail, all_before}
+use Rattle.c_mean.specs.ToDo.{Item, Simply, Choose, Test, Enter, Back, Leave, Skip, GiveBack, GiveBackWord, Fail, all_before}
 use Rattle.c_mean.specs.Frames.{Place, Nowhere, InLocal, InGlobal, InLocalElement, InGlobalElement, Returned, WaitingFrame, Running, Waiting, function_at}
 use Rattle.c_mean.specs.Steps.{SourceMove, to_do, valued, all_valued, on_value, stored_where, stored, assigned, delivered_or, delivered, waits_at, entered, entered_where, asks_if, called, assigns, does, branched, returned, gives_back, performs, performs_first, source_step, source_resume, source_machine, started}
 use Rattle.c_mean.specs.Sites.{target_of, CallInText, right_calls, simple_calls, returned_calls, function_calls, WaitsInText}
@@ -154,16 +154,26 @@ module _ (program : ProgramTree) where
       value_stands thread (valued thread c) _ (λ word. branched_stands thread _ _ word (before_rest (text_of thread.frame.function) s k.0 thread.frame.to_do k.1 h.running) (before_rest (text_of thread.frame.function) r k.0 thread.frame.to_do k.2 h.running) h)
   performs_stands thread (Test c loop) k h =
       value_stands thread (valued thread c) _ (λ word. branched_stands thread _ _ word (body_rest (text_of thread.frame.function) loop k.0 thread.frame.to_do k.1 h.running) h.running h)
+  performs_stands thread Enter k h = record { running = h.running; below = h.below }
   performs_stands thread (Back loop) k h = record { running = turn_rest (text_of thread.frame.function) loop k.0 thread.frame.to_do k.1 h.running; below = h.below }
-  performs_stands thread Leave k h = record { running = leave_rest (text_of thread.frame.function) thread.frame.to_do h.running; below = h.below }
-  performs_stands thread Skip k h = record { running = skip_rest (text_of thread.frame.function) thread.frame.to_do h.running; below = h.below }
+  performs_stands thread Leave k h = record { running = leave_rest (text_of thread.frame.function) 0 thread.frame.to_do h.running; below = h.below }
+  performs_stands thread Skip k h = record { running = skip_rest (text_of thread.frame.function) 0 thread.frame.to_do h.running; below = h.below }
   performs_stands thread (GiveBack v) k h = gives_back_stands thread v k.0 k.1 h
   performs_stands thread (GiveBackWord word) k h = returned_stands thread thread.below word h.below
   performs_stands thread (Fail trap) k h = tt
 
   first_stands : (thread : Running) (items : List Item) → IsRest (text_of thread.frame.function) items → AllByRecursion (WaitsInText program) thread.below → MoveStands (performs_first program thread items)
   first_stands thread [] k h = returned_stands thread thread.below 0 h
-  first_stands thread (item ∷ rest) k h = performs_stands (to_do thread rest) item k.0 (record { running = k.1; below = h })
+  first_stands thread (Enter ∷ rest) k h = first_stands thread rest k.1 h
+  first_stands thread (Simply s ∷ rest) k h = performs_stands (to_do thread rest) (Simply s) k.0 (record { running = k.1; below = h })
+  first_stands thread (Choose c s r ∷ rest) k h = performs_stands (to_do thread rest) (Choose c s r) k.0 (record { running = k.1; below = h })
+  first_stands thread (Test c loop ∷ rest) k h = performs_stands (to_do thread rest) (Test c loop) k.0 (record { running = k.1; below = h })
+  first_stands thread (Back loop ∷ rest) k h = performs_stands (to_do thread rest) (Back loop) k.0 (record { running = k.1; below = h })
+  first_stands thread (Leave ∷ rest) k h = performs_stands (to_do thread rest) Leave k.0 (record { running = k.1; below = h })
+  first_stands thread (Skip ∷ rest) k h = performs_stands (to_do thread rest) Skip k.0 (record { running = k.1; below = h })
+  first_stands thread (GiveBack v ∷ rest) k h = performs_stands (to_do thread rest) (GiveBack v) k.0 (record { running = k.1; below = h })
+  first_stands thread (GiveBackWord word ∷ rest) k h = performs_stands (to_do thread rest) (GiveBackWord word) k.0 (record { running = k.1; below = h })
+  first_stands thread (Fail trap ∷ rest) k h = performs_stands (to_do thread rest) (Fail trap) k.0 (record { running = k.1; below = h })
 
   pub step_stands : (thread : Running) → Stands thread → MoveStands (source_step program thread)
   step_stands thread h = first_stands thread thread.frame.to_do h.running h.below

@@ -1,10 +1,10 @@
 -- What a frame has still to do is always a rest of its function's text, so every frame that waits does so at a call of it.
-use Rattle.std.proofs.Common.{ℕ, List, [], ◌∷◌, ◌++◌, map, Option, Some, None}
+use Rattle.std.proofs.Common.{ℕ, zero, suc, List, [], ◌∷◌, ◌++◌, map, Option, Some, None}
 use Rattle.std.specs.List.{Contains}
 use Rattle.c_tree.specs.Trees.{ExprTree, RightTree, Computed, Called, SimpleTree, DeclareScalar, DeclareArray, DeclareWith, SetLocal, SetGlobal, SetLocalElement, SetGlobalElement, Calling, StmtTree, StmtTrees, Do, Empty, Block, If, IfElse, While, For, Break, Continue, Return, NoStmts, Then}
 use Rattle.c_tree.specs.TextOrder.{simple_names}
 use Rattle.c_tree.specs.WellScoped.{with_names, scope_after, scope_after_all}
-use Rattle.c_mean.specs.ToDo.{Item, Simply, Choose, Test, Back, Leave, Skip, GiveBack, GiveBackWord, Fail, Loop, WhileLoop, ForLoop, step_item, begun, before, all_before, body_before, turn_before, after_leave, after_skip, skipped}
+use Rattle.c_mean.specs.ToDo.{Item, Simply, Choose, Test, Enter, Back, Leave, Skip, GiveBack, GiveBackWord, Fail, Loop, WhileLoop, ForLoop, step_item, begun, before, all_before, body_before, turn_before, after_leave, after_skip, skipped}
 use Rattle.c_mean.specs.Sites.{Target, ToLocal, ToGlobal, ToLocalElement, ToGlobalElement, ToCaller, CallInText, right_calls, simple_calls, simples_calls, step_calls, returned_calls, stmt_calls, stmts_calls}
 
 -- each of these calls is one of the text
@@ -23,6 +23,7 @@ module _ (text : List CallInText) where
   ItemIn (Simply s) rest = (scope : List ℕ) × AllIn text (simple_calls s scope rest)
   ItemIn (Choose c s r) rest = (scope : List ℕ) × AllIn text (stmt_calls s scope rest) × AllIn text (stmt_calls r scope rest)
   ItemIn (Test c loop) rest = (scope : List ℕ) × AllIn text (loop_calls loop scope rest)
+  ItemIn Enter rest = Unit {0}
   ItemIn (Back loop) rest = (scope : List ℕ) × AllIn text (loop_calls loop scope rest)
   ItemIn Leave rest = Unit {0}
   ItemIn Skip rest = Unit {0}
@@ -54,7 +55,7 @@ module _ (text : List CallInText) where
   step_rest (Some s) scope rest h k = ((scope, h), k)
 
   begun_rest : (c : Option ExprTree) (loop : Loop) (scope : List ℕ) (body rest : List Item) → AllIn text (loop_calls loop scope rest) → IsRest body → IsRest rest → IsRest (begun c loop body rest)
-  begun_rest None loop scope body rest h k r = k
+  begun_rest None loop scope body rest h k r = (tt, k)
   begun_rest (Some c) loop scope body rest h k r = ((scope, h), r)
 
   mutual
@@ -169,17 +170,19 @@ module _ (text : List CallInText) where
   turn_rest (WhileLoop c s) scope rest h k = ((scope, h), k)
   turn_rest (ForLoop c step s) scope rest h k = begun_rest c (ForLoop c step s) scope (body_before (ForLoop c step s) rest) rest h (body_rest (ForLoop c step s) scope rest h k) k
 
-  pub leave_rest : (items : List Item) → IsRest items → IsRest (after_leave items)
-  leave_rest [] h = tt
-  leave_rest (Back loop ∷ rest) h = h.1
-  leave_rest (Simply s ∷ rest) h = leave_rest rest h.1
-  leave_rest (Choose c s r ∷ rest) h = leave_rest rest h.1
-  leave_rest (Test c loop ∷ rest) h = leave_rest rest h.1
-  leave_rest (Leave ∷ rest) h = leave_rest rest h.1
-  leave_rest (Skip ∷ rest) h = leave_rest rest h.1
-  leave_rest (GiveBack v ∷ rest) h = leave_rest rest h.1
-  leave_rest (GiveBackWord word ∷ rest) h = leave_rest rest h.1
-  leave_rest (Fail trap ∷ rest) h = leave_rest rest h.1
+  pub leave_rest : (n : ℕ) (items : List Item) → IsRest items → IsRest (after_leave n items)
+  leave_rest n [] h = tt
+  leave_rest n (Enter ∷ rest) h = leave_rest (suc n) rest h.1
+  leave_rest zero (Back loop ∷ rest) h = h.1
+  leave_rest (suc n) (Back loop ∷ rest) h = leave_rest n rest h.1
+  leave_rest n (Simply s ∷ rest) h = leave_rest n rest h.1
+  leave_rest n (Choose c s r ∷ rest) h = leave_rest n rest h.1
+  leave_rest n (Test c loop ∷ rest) h = leave_rest n rest h.1
+  leave_rest n (Leave ∷ rest) h = leave_rest n rest h.1
+  leave_rest n (Skip ∷ rest) h = leave_rest n rest h.1
+  leave_rest n (GiveBack v ∷ rest) h = leave_rest n rest h.1
+  leave_rest n (GiveBackWord word ∷ rest) h = leave_rest n rest h.1
+  leave_rest n (Fail trap ∷ rest) h = leave_rest n rest h.1
 
   skipped_rest : (loop : Loop) (scope : List ℕ) (rest : List Item) → AllIn text (loop_calls loop scope rest) → IsRest rest → IsRest (skipped loop rest)
   skipped_rest (WhileLoop c s) scope rest h k = turn_rest (WhileLoop c s) scope rest h k
@@ -187,14 +190,16 @@ module _ (text : List CallInText) where
       let both = all_in_parts (step_calls step scope (Back (ForLoop c step s) ∷ rest)) (stmt_calls s scope (step_item step ++ Back (ForLoop c step s) ∷ rest)) h in
       step_rest step scope (Back (ForLoop c step s) ∷ rest) both.0 ((scope, h), k)
 
-  pub skip_rest : (items : List Item) → IsRest items → IsRest (after_skip items)
-  skip_rest [] h = tt
-  skip_rest (Back loop ∷ rest) h = skipped_rest loop h.0.0 rest h.0.1 h.1
-  skip_rest (Simply s ∷ rest) h = skip_rest rest h.1
-  skip_rest (Choose c s r ∷ rest) h = skip_rest rest h.1
-  skip_rest (Test c loop ∷ rest) h = skip_rest rest h.1
-  skip_rest (Leave ∷ rest) h = skip_rest rest h.1
-  skip_rest (Skip ∷ rest) h = skip_rest rest h.1
-  skip_rest (GiveBack v ∷ rest) h = skip_rest rest h.1
-  skip_rest (GiveBackWord word ∷ rest) h = skip_rest rest h.1
-  skip_rest (Fail trap ∷ rest) h = skip_rest rest h.1
+  pub skip_rest : (n : ℕ) (items : List Item) → IsRest items → IsRest (after_skip n items)
+  skip_rest n [] h = tt
+  skip_rest n (Enter ∷ rest) h = skip_rest (suc n) rest h.1
+  skip_rest zero (Back loop ∷ rest) h = skipped_rest loop h.0.0 rest h.0.1 h.1
+  skip_rest (suc n) (Back loop ∷ rest) h = skip_rest n rest h.1
+  skip_rest n (Simply s ∷ rest) h = skip_rest n rest h.1
+  skip_rest n (Choose c s r ∷ rest) h = skip_rest n rest h.1
+  skip_rest n (Test c loop ∷ rest) h = skip_rest n rest h.1
+  skip_rest n (Leave ∷ rest) h = skip_rest n rest h.1
+  skip_rest n (Skip ∷ rest) h = skip_rest n rest h.1
+  skip_rest n (GiveBack v ∷ rest) h = skip_rest n rest h.1
+  skip_rest n (GiveBackWord word ∷ rest) h = skip_rest n rest h.1
+  skip_rest n (Fail trap ∷ rest) h = skip_rest n rest h.1

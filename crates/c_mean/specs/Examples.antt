@@ -154,6 +154,53 @@ while_jumps = functions_alone (
     ∷ returns (Number 0) ∷ [])
     ∷ []) 0
 
+-- a `for` with nothing in its parentheses
+abbrev pub forever : List StmtTree → StmtTree
+forever ss = For [] None None (Block (in_order ss))
+
+-- int main() { while (1) { put(1); break; for (;;) { put(2); } } put(3); return 0; }
+abbrev pub leave_before_turns : ProgramTree
+leave_before_turns = functions_alone (
+    int_function 0 [] (
+    While (Number 1) (Block (in_order (
+    puts 0 (Number 1)
+    ∷ Break
+    ∷ forever (puts 1 (Number 2) ∷ []) ∷ [])))
+    ∷ puts 2 (Number 3)
+    ∷ returns (Number 0) ∷ [])
+    ∷ []) 0
+
+-- int main() { int k = 0; while (k < 2) { k = k + 1; put(k); if (1) continue; for (;;) { put(99); break; } } put(3); return 0; }
+abbrev pub skip_before_turns : ProgramTree
+skip_before_turns = functions_alone (
+    int_function 0 (1 ∷ []) (
+    Do (DeclareWith 0 (Computed (Number 0)))
+    ∷ While (Binary BinaryOperator.Less (Local 0) (Number 2)) (Block (in_order (
+    Do (SetLocal 0 (Computed (Binary BinaryOperator.Add (Local 0) (Number 1))))
+    ∷ puts 0 (Local 0)
+    ∷ If (Number 1) Continue
+    ∷ forever (puts 1 (Number 99) ∷ Break ∷ []) ∷ [])))
+    ∷ puts 2 (Number 3)
+    ∷ returns (Number 0) ∷ [])
+    ∷ []) 0
+
+-- int main() { int k = 0; for (;;) { k = k + 1; if (k == 3) break; for (;;) { put(k); break; } } put(9); return 0; }
+abbrev pub turns_without_condition : ProgramTree
+turns_without_condition = functions_alone (
+    int_function 0 (1 ∷ []) (
+    Do (DeclareWith 0 (Computed (Number 0)))
+    ∷ forever (
+    Do (SetLocal 0 (Computed (Binary BinaryOperator.Add (Local 0) (Number 1))))
+    ∷ If (Binary BinaryOperator.Equal (Local 0) (Number 3)) Break
+    ∷ forever (puts 0 (Local 0) ∷ Break ∷ []) ∷ [])
+    ∷ puts 1 (Number 9)
+    ∷ returns (Number 0) ∷ [])
+    ∷ []) 0
+
+-- int main() { for (;;) break; return 0; }
+abbrev pub one_turn : ProgramTree
+one_turn = functions_alone (int_function 0 [] (For [] None None Break ∷ returns (Number 0) ∷ []) ∷ []) 0
+
 -- int f() { put(5); return 1; } int main() { int a[2]; a[2] = f(); return 0; }
 abbrev pub late_range_test : ProgramTree
 late_range_test = functions_alone (

@@ -9,7 +9,7 @@ use Rattle.cap_word.specs.declared.traps.TrapKind.{TrapKind}
 use Rattle.c_tree.specs.Modelled.{number_of}
 use Rattle.c_tree.specs.Trees.{ExprTree, CallTree, CallFunction, CallTable, CallSpawn, CallModelled, RightTree, Computed, Called, SimpleTree, DeclareScalar, DeclareArray, DeclareWith, SetLocal, SetGlobal, SetLocalElement, SetGlobalElement, Calling, ProgramTree}
 use Rattle.c_mean.specs.Values.{Value, value, values}
-use Rattle.c_mean.specs.ToDo.{Item, Simply, Choose, Test, Back, Leave, Skip, GiveBack, GiveBackWord, Fail, before, body_before, turn_before, after_leave, after_skip}
+use Rattle.c_mean.specs.ToDo.{Item, Simply, Choose, Test, Enter, Back, Leave, Skip, GiveBack, GiveBackWord, Fail, before, body_before, turn_before, after_leave, after_skip}
 use Rattle.c_mean.specs.Frames.{Place, Nowhere, InLocal, InGlobal, InLocalElement, InGlobalElement, Returned, WaitingFrame, Running, Waiting, pushed}
 
 -- what a step of a source thread leads to
@@ -146,21 +146,25 @@ gives_back program thread None = returned thread thread.below 0
 gives_back program thread (Some (Computed e)) = on_value thread (valued thread e) (returned thread thread.below)
 gives_back program thread (Some (Called call)) = called program thread Returned call
 
--- an item, where the thread has only the items after it still to do
+-- An item, where the thread has only the items after it still to do. The mark of a turn is never met here, since it is no
+-- step (see `performs_first`); its row is there so that each item has one.
 abbrev pub performs : ProgramTree → Running → Item → List Item → SourceMove
 performs program thread (Simply s) rest = does program thread s
 performs program thread (Choose c s r) rest = on_value thread (valued thread c) (branched thread (before s rest) (before r rest))
 performs program thread (Test c loop) rest = on_value thread (valued thread c) (branched thread (body_before loop rest) rest)
+performs program thread Enter rest = Goes (to_do thread rest)
 performs program thread (Back loop) rest = Goes (to_do thread (turn_before loop rest))
-performs program thread Leave rest = Goes (to_do thread (after_leave rest))
-performs program thread Skip rest = Goes (to_do thread (after_skip rest))
+performs program thread Leave rest = Goes (to_do thread (after_leave 0 rest))
+performs program thread Skip rest = Goes (to_do thread (after_skip 0 rest))
 performs program thread (GiveBack v) rest = gives_back program thread v
 performs program thread (GiveBackWord word) rest = returned thread thread.below word
 performs program thread (Fail trap) rest = trapped thread trap
 
--- a function that reaches its end returns 0 if it is an `int` function
+-- The first item. Marks of turns before it are passed over within the same step. A function that reaches its end returns 0
+-- if it is an `int` function.
 abbrev pub performs_first : ProgramTree → Running → List Item → SourceMove
 performs_first program thread [] = returned thread thread.below 0
+performs_first program thread (Enter ∷ rest) = performs_first program thread rest
 performs_first program thread (item ∷ rest) = performs program (to_do thread rest) item rest
 
 -- a step

@@ -1,6 +1,6 @@
 -- What a function's frame has still to do: a list of items, in order. A block, an empty statement and the places where
 -- branches join are no items: a statement stands in the list as the items that it begins with (ISO/IEC 9899:2018, 6.8).
-use Rattle.std.specs.Prelude.{ℕ, List, [], ◌∷◌, ◌++◌, map, Option, Some, None}
+use Rattle.std.specs.Prelude.{ℕ, zero, suc, List, [], ◌∷◌, ◌++◌, map, Option, Some, None}
 use Rattle.cap_word.specs.declared.traps.TrapKind.{TrapKind}
 use Rattle.c_tree.specs.Trees.{ExprTree, RightTree, SimpleTree, StmtTree, StmtTrees, Do, Empty, Block, If, IfElse, While, For, Break, Continue, Return, NoStmts, Then}
 
@@ -16,6 +16,8 @@ pub data Item : Type 0 where
   Choose : (c : ExprTree) (s r : StmtTree) → Item
   -- the test of a loop's condition
   Test : (c : ExprTree) (loop : Loop) → Item
+  -- a turn of a `for` without a condition begins here; it is no step
+  Enter : Item
   -- the jump back at the end of a loop's turn
   Back : (loop : Loop) → Item
   -- `break` and `continue`
@@ -37,9 +39,10 @@ abbrev pub loop_step : Loop → List Item
 loop_step (WhileLoop c s) = []
 loop_step (ForLoop c step s) = step_item step
 
--- a turn begins with the test, or with the body where there is none
+-- a turn begins with the test, or where there is none with the body, whose jump back stands in the list then: the mark
+-- before it says that this jump back is of a loop that isn't entered yet
 abbrev pub begun : Option ExprTree → Loop → List Item → List Item → List Item
-begun None loop body rest = body
+begun None loop body rest = Enter ∷ body
 begun (Some c) loop body rest = Test c loop ∷ rest
 
 -- a statement and then the rest
@@ -73,18 +76,25 @@ abbrev pub turn_before : Loop → List Item → List Item
 turn_before (WhileLoop c s) rest = Test c (WhileLoop c s) ∷ rest
 turn_before (ForLoop c step s) rest = begun c (ForLoop c step s) (body_before (ForLoop c step s) rest) rest
 
--- what is still to do after a `break`: what follows the innermost loop
-abbrev pub after_leave : List Item → List Item
-after_leave [] = []
-after_leave (Back loop ∷ rest) = rest
-after_leave (item ∷ rest) = after_leave rest
+-- What is still to do after a `break`: what follows the innermost loop. The loops without a condition that follow in its
+-- body aren't entered yet: the jump passes over each of them, from its mark to its jump back. The number is of those that
+-- have been begun and not ended on the way, 0 at the jump itself.
+abbrev pub after_leave : ℕ → List Item → List Item
+after_leave n [] = []
+after_leave n (Enter ∷ rest) = after_leave (suc n) rest
+after_leave zero (Back loop ∷ rest) = rest
+after_leave (suc n) (Back loop ∷ rest) = after_leave n rest
+after_leave n (item ∷ rest) = after_leave n rest
 
--- what is still to do after a `continue`: of a `while` the next turn, of a `for` its step and the jump back
+-- What is still to do after a `continue`: of a `while` the next turn, of a `for` its step and the jump back. Loops that
+-- aren't entered yet are passed over as above.
 abbrev pub skipped : Loop → List Item → List Item
 skipped (WhileLoop c s) rest = turn_before (WhileLoop c s) rest
 skipped (ForLoop c step s) rest = step_item step ++ Back (ForLoop c step s) ∷ rest
 
-abbrev pub after_skip : List Item → List Item
-after_skip [] = []
-after_skip (Back loop ∷ rest) = skipped loop rest
-after_skip (item ∷ rest) = after_skip rest
+abbrev pub after_skip : ℕ → List Item → List Item
+after_skip n [] = []
+after_skip n (Enter ∷ rest) = after_skip (suc n) rest
+after_skip zero (Back loop ∷ rest) = skipped loop rest
+after_skip (suc n) (Back loop ∷ rest) = after_skip n rest
+after_skip n (item ∷ rest) = after_skip n rest

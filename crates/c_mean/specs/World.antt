@@ -112,7 +112,8 @@ segment_machine program caps = record { step = segment_step program caps; resume
 
 -- ---- runs of a thread
 
--- the effect of resuming, which is no step; none where the thread can't run
+-- The effect of resuming, which is no step; none where there is no such thread or it has ended. A blocked thread is run
+-- only where it is ready (`is_ready`, which needs a clock): elsewhere the answer to its call means nothing.
 abbrev pub begun_at : ProgramTree → List ℕ → World → ℕ → Option Rest → Option Segment
 begun_at program caps world number None = None
 begun_at program caps world number (Some Ended) = None

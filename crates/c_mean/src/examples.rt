@@ -8,7 +8,7 @@ ghost use Rattle.c_tree.specs.Trees.{Conditional, LocalElement, LogicalAnd, Logi
 ghost use Rattle.c_tree.specs.declared.operators.BinaryOperator.{BinaryOperator};
 ghost use Rattle.c_tree.specs.declared.operators.ModelledCall.{ModelledCall};
 ghost use Rattle.c_tree.specs.declared.operators.UnaryOperator.{UnaryOperator};
-ghost use Rattle.c_mean.specs.Examples.{divisions, one_call, recursion, index_beyond, table_calls, deep_yield, server, loop_jumps, while_jumps, late_range_test, one_modelled, HasFrames, rests_in};
+ghost use Rattle.c_mean.specs.Examples.{divisions, one_call, recursion, index_beyond, table_calls, deep_yield, server, loop_jumps, while_jumps, leave_before_turns, skip_before_turns, turns_without_condition, one_turn, late_range_test, one_modelled, HasFrames, rests_in};
 ghost use Rattle.c_mean.specs.Frames.{InLocal};
 ghost use Rattle.c_mean.specs.ModelledCalls.{Arrival, Message, is_ready, wakes_at, with_delivery, with_use};
 ghost use Rattle.c_mean.specs.Operators.{binary_value, unary_value};
@@ -61,6 +61,16 @@ pub fn server_serves()
 pub fn loops_turn()
     ensures in_for { RunsTo loop_jumps [] (start_world loop_jumps) 0 (record { trap = None; world = record { threads = Ended ∷ []; globals = []; exchange = empty_exchange; outputs = (0, 0) ∷ (0, 2) ∷ [] } }) }
     ensures in_while { RunsTo while_jumps [] (start_world while_jumps) 0 (record { trap = None; world = record { threads = Ended ∷ []; globals = []; exchange = empty_exchange; outputs = (0, 1) ∷ (0, 3) ∷ [] } }) }
+{}
+
+/// `break` and `continue` are those of the innermost loop that they stand in: a `for` without a condition that follows them
+/// in its body is passed over. Such a `for` turns until it is left, and its beginning is no step: `for (;;) break;` is left
+/// in the first step.
+pub fn turns_without_condition_are_left()
+    ensures left { RunsTo leave_before_turns [] (start_world leave_before_turns) 0 (record { trap = None; world = record { threads = Ended ∷ []; globals = []; exchange = empty_exchange; outputs = (0, 1) ∷ (0, 3) ∷ [] } }) }
+    ensures skipped { RunsTo skip_before_turns [] (start_world skip_before_turns) 0 (record { trap = None; world = record { threads = Ended ∷ []; globals = []; exchange = empty_exchange; outputs = (0, 1) ∷ (0, 2) ∷ (0, 3) ∷ [] } }) }
+    ensures turns { RunsTo turns_without_condition [] (start_world turns_without_condition) 0 (record { trap = None; world = record { threads = Ended ∷ []; globals = []; exchange = empty_exchange; outputs = (0, 1) ∷ (0, 2) ∷ (0, 9) ∷ [] } }) }
+    ensures two_steps { thread_moves one_turn [] (start_world one_turn) 0 2 ≡ Some (Stops (record { trap = None; world = record { threads = Ended ∷ []; globals = []; exchange = empty_exchange; outputs = [] } })) }
 {}
 
 /// In `a[2] = f()` the call comes before the range test, and the trap after what the call put.
