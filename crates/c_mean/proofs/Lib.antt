@@ -6,3 +6,4 @@ pub mod StandLemmas
 pub mod WorldStandLemmas
 pub mod SegmentLemmas
 pub mod CallLemmas
+pub mod JumpLemmas

@@ -6,7 +6,7 @@ ghost use Rattle.cap_word.specs.Runs.{Asks, Goes, Stops, Unfinished, moves, run}
 ghost use Rattle.cap_word.specs.declared.calls.Block.{Block};
 ghost use Rattle.c_tree.specs.Modelled.{number_of, parameters_of};
 ghost use Rattle.c_tree.specs.declared.operators.ModelledCall.{ModelledCall};
-ghost use Rattle.c_tree.specs.Trees.{ExprTree, ProgramTree};
+ghost use Rattle.c_tree.specs.Trees.{ExprTree, ProgramTree, StmtTree};
 ghost use Rattle.c_tree.specs.WellScoped.{Context, IsExprScoped};
 ghost use Rattle.c_mean.specs.Kept.{LeavesAlone, LeavesOtherQueues};
 ghost use Rattle.c_mean.specs.Layout.{IsInRange};
@@ -14,6 +14,7 @@ ghost use Rattle.c_mean.specs.ModelledCalls.{Arrival, Delivery, Exchange, Messag
 ghost use Rattle.c_mean.specs.Frames.{Running, Waiting};
 ghost use Rattle.c_mean.specs.Sites.{WaitsInText};
 ghost use Rattle.c_mean.specs.Steps.{source_machine, source_step, started};
+ghost use Rattle.c_mean.specs.ToDo.{Item, Loop, after_leave, after_skip, before, body_before, skipped};
 ghost use Rattle.c_mean.specs.Values.{values};
 ghost use Rattle.c_mean.specs.World.{Blocked, Ended, Entry, IsAfter, IsCutAt, Rested, RunsTo, Segment, World, calls, rests, segment_machine, start_world, unless_trap};
 
@@ -43,6 +44,16 @@ pub fn deliveries_change_one_queue()
 /// for. It does nothing: the law is the contract.
 pub fn scoped_expressions_are_in_range()
     ensures { (context : Context) (scope : List ℕ) (expr : ExprTree) → IsExprScoped context scope expr → IsInRange context.sizes context.globals expr }
+{}
+
+/// A jump out of or to the end of a loop passes over each statement that follows it, with all loops in it, so it comes to
+/// the end of the loop in whose body it stands: from there a `break` leaves what follows the loop, a `continue` the rest of
+/// the turn. It does nothing: the law is the contract.
+pub fn jumps_pass_statements()
+    ensures left { (loops : ℕ) (statement : StmtTree) (rest : List Item) → after_leave loops (before statement rest) ≡ after_leave loops rest }
+    ensures skipped { (loops : ℕ) (statement : StmtTree) (rest : List Item) → after_skip loops (before statement rest) ≡ after_skip loops rest }
+    ensures loop_left { (loop : Loop) (rest : List Item) → after_leave 0 (body_before loop rest) ≡ rest }
+    ensures loop_skipped { (loop : Loop) (rest : List Item) → after_skip 0 (body_before loop rest) ≡ skipped loop rest }
 {}
 
 /// Whatever a world answers, every frame of a thread that waits does so at a call of its function's text: its site is that

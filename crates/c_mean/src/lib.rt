@@ -22,7 +22,8 @@ pub use examples::{
     turns_without_condition_are_left,
 };
 pub use laws::{
-    deliveries_change_one_queue, frames_wait_in_text, modelled_calls_are_known, runs_have_one_end,
-    runs_leave_others_alone, scoped_expressions_are_in_range, segments_run_threads,
+    deliveries_change_one_queue, frames_wait_in_text, jumps_pass_statements,
+    modelled_calls_are_known, runs_have_one_end, runs_leave_others_alone,
+    scoped_expressions_are_in_range, segments_run_threads,
 };
 pub use values::value_of;
