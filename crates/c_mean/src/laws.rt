@@ -47,8 +47,8 @@ pub fn scoped_expressions_are_in_range()
 {}
 
 /// A jump out of or to the end of a loop passes over each statement that follows it, with all loops in it, so it comes to
-/// the end of the loop in whose body it stands: from there a `break` leaves what follows the loop, a `continue` the rest of
-/// the turn. It does nothing: the law is the contract.
+/// the end of the loop in whose body it stands. After a `break` what follows that loop is still to do, after a `continue`
+/// the next turn of a `while` and the step of a `for`. It does nothing: the law is the contract.
 pub fn jumps_pass_statements()
     ensures left { (loops : ℕ) (statement : StmtTree) (rest : List Item) → after_leave loops (before statement rest) ≡ after_leave loops rest }
     ensures skipped { (loops : ℕ) (statement : StmtTree) (rest : List Item) → after_skip loops (before statement rest) ≡ after_skip loops rest }
