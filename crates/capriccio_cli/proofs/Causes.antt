@@ -7,7 +7,7 @@ use Rattle.cap_io.specs.Files.{Files}
 use Rattle.capriccio_cli.specs.declared.refusals.Refusal.{Refusal}
 use Rattle.capriccio_cli.specs.declared.refusals.Refusal.TheVariants.{UsageNotBuilt, SourceAbsent, SourceTooLong, SourceNotBuilt, TraceNotBuilt, ReadFault, WriteFault, Memory}
 use Rattle.capriccio_cli.specs.Command.{IsSourceRefusal, IsEmptyTrace, HasFile, most_bytes}
-use Rattle.capriccio_cli.specs.Answer.{Objects, IsCause, NoFault, IsExact, Answers}
+use Rattle.capriccio_cli.specs.Answer.{Objects, IsCause, LeavesTrace, NoFault, IsExact, Answers}
 use Rattle.capriccio_cli.specs.Grammar.{Spells, IsSource}
 use Rattle.capriccio_cli.specs.Words.{IsServe}
 
@@ -15,12 +15,23 @@ pub keeps_itself : (bytes : Option (List ℕ)) → Keeps bytes bytes
 keeps_itself None = tt
 keeps_itself (Some xs) = refl
 
+-- where a source is refused the trace is left as it is
+pub source_leaves : (files : Option Files) (name : List ℕ) (old new : ℕ) (refusal : Refusal) (left : Option (List ℕ)) → IsSourceRefusal files name old new refusal → LeavesTrace left left (Err refusal)
+source_leaves files name old new UsageNotBuilt left h = keeps_itself left
+source_leaves files name old new SourceAbsent left h = keeps_itself left
+source_leaves files name old new SourceTooLong left h = keeps_itself left
+source_leaves files name old new SourceNotBuilt left h = keeps_itself left
+source_leaves files name old new TraceNotBuilt left h = absurd h
+source_leaves files name old new ReadFault left h = keeps_itself left
+source_leaves files name old new WriteFault left h = keeps_itself left
+source_leaves files name old new Memory left h = keeps_itself left
+
 -- a refused source is the cause of that answer
 pub source_cause : (words : List (List ℕ)) (before after : Objects) (name : List ℕ) (refusal : Refusal) → IsServe words name → IsSourceRefusal before.files name before.loads after.loads refusal → Keeps before.taken after.taken → after.reads ≡ before.reads → after.writes ≡ before.writes → IsCause words before after (Err refusal)
 source_cause words before after name SourceAbsent serve h keeps r w = ((name, serve, h.0), keeps, record { loads = h.1; reads = r; writes = w })
 source_cause words before after name SourceTooLong serve h keeps r w = ((name, serve, h.0), keeps, record { loads = h.1; reads = r; writes = w })
 source_cause words before after name SourceNotBuilt serve h keeps r w = ((name, serve, h.0), keeps, record { loads = h.1; reads = r; writes = w })
-source_cause words before after name ReadFault serve h keeps r w = ((name, serve), inl h, keeps, w)
+source_cause words before after name ReadFault serve h keeps r w = ((name, serve, inl (h, r)), keeps, w)
 source_cause words before after name Memory serve h keeps r w = ((name, serve), inl keeps, record { loads = h; reads = r; writes = w })
 source_cause words before after name UsageNotBuilt serve h keeps r w = absurd h
 source_cause words before after name TraceNotBuilt serve h keeps r w = absurd h
@@ -74,7 +85,7 @@ module _ (words : List (List ℕ)) (before after : Objects) (no_fault : NoFault 
   found (Err TraceNotBuilt) c =
       let l = c.0.3 in
       (l.bytes, c.0.1, file_of c.0.0 l.bytes c.0.2 l.file, l.fits, l.spells, c.0.4)
-  found (Err ReadFault) c = ⊎_elim (λ h. not_risen before.loads after.loads h no_fault.loads) (λ h. not_risen before.reads after.reads h no_fault.reads) c.1
+  found (Err ReadFault) c = ⊎_elim (λ h. not_risen before.loads after.loads h.0 no_fault.loads) (λ h. not_risen before.reads after.reads h.2 no_fault.reads) c.0.2
   found (Err WriteFault) c = not_risen before.writes after.writes c.1 no_fault.writes
   found (Err Memory) c = tt
 

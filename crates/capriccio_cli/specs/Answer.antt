@@ -1,6 +1,6 @@
 -- What the command `serve` does: each answer only where its cause stands, and exactly there.
-use Rattle.std.specs.Prelude.{◌≡◌, ◌≢◌, ℕ, ◌<◌, ◌≤◌, ◌⊎◌, List, [], length, Option, IfSome, IsSomeAnd, Result, Ok, Err, Some, None}
-use Rattle.std.specs.Io.KnownBytes.{Keeps, Appends}
+use Rattle.std.specs.Prelude.{◌≡◌, ◌≢◌, ℕ, ◌<◌, ◌≤◌, ◌⊎◌, List, [], ◌∷◌, length, Option, IfSome, IsSomeAnd, Result, Ok, Err, Some, None}
+use Rattle.std.specs.Io.KnownBytes.{Keeps, Appends, Consumes}
 use Rattle.cap_io.specs.Faults.{Rose, Stayed}
 use Rattle.cap_io.specs.Files.{Files, KeepsFiles}
 use Rattle.capriccio_cli.specs.declared.refusals.Refusal.{Refusal}
@@ -53,7 +53,9 @@ IsCause words before after (Err TraceNotBuilt) =
     ((name numbers : List ℕ) × IsServe words name × IsLoaded before.files name numbers × IfSome before.left (λ bytes. bytes ≢ []))
     × Keeps before.taken after.taken × CountsStay before after
 IsCause words before after (Err ReadFault) =
-    ((name : List ℕ) × IsServe words name) × (Rose before.loads after.loads ⊎ Rose before.reads after.reads)
+    ((name : List ℕ) × IsServe words name
+    × ((Rose before.loads after.loads × (after.reads ≡ before.reads))
+    ⊎ ((numbers : List ℕ) × IsLoaded before.files name numbers × Rose before.reads after.reads × (after.loads ≡ before.loads))))
     × Keeps before.taken after.taken × (after.writes ≡ before.writes)
 IsCause words before after (Err WriteFault) =
     ((name numbers : List ℕ) × IsReady words before name numbers × ((text : List ℕ) × IsServed numbers text × TakesPrefix before.taken after.taken text))
@@ -63,6 +65,11 @@ IsCause words before after (Err Memory) =
     × (Keeps before.taken after.taken
     ⊎ ((name numbers : List ℕ) × IsReady words before name numbers × ((text : List ℕ) × IsServed numbers text × TakesPrefix before.taken after.taken text)))
     × CountsStay before after
+
+-- what is left of the trace, where told: all of it, but where it is refused, which takes its first byte
+abbrev pub LeavesTrace : (left left' : Option (List ℕ)) → Result (Unit {0}) Refusal → Type 0
+LeavesTrace left left' (Err TraceNotBuilt) = (byte : ℕ) × Consumes left left' (byte ∷ [])
+LeavesTrace left left' _ = Keeps left left'
 
 -- no file changes, no store is made, and no count falls
 pub record LeavesFiles (before after : Objects) : Type 0 where

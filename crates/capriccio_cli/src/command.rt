@@ -2,7 +2,7 @@
 ghost use Rattle.std.specs.Prelude.{ℕ, ◌≡◌, ◌≤◌, List, map, Result};
 ghost use Rattle.std.specs.String.{string_bytes};
 ghost use Rattle.capriccio_cli.specs.declared.refusals.Refusal.{Refusal};
-ghost use Rattle.capriccio_cli.specs.Answer.{Objects, IsCause, LeavesFiles, IsExact, IsReported};
+ghost use Rattle.capriccio_cli.specs.Answer.{Objects, IsCause, LeavesTrace, LeavesFiles, IsExact, IsReported};
 
 use crate::refusals::Refusal;
 use crate::steps::{load_numbers, look_at_trace, write_log};
@@ -23,7 +23,7 @@ pub fn capriccio<F: Shelf, S: Source, K: Sink, E: Sink>(
     ensures answer { let texts = map (λ word. string_bytes word) words.now.items in
         let before : Objects = record { files = F.files shelf.old; loads = F.load_faults shelf.old; stores = F.store_faults shelf.old; left = S.left trace.old; reads = S.faults trace.old; taken = K.taken out.old; writes = K.faults out.old } in
         let after : Objects = record { files = F.files shelf.new; loads = F.load_faults shelf.new; stores = F.store_faults shelf.new; left = S.left trace.new; reads = S.faults trace.new; taken = K.taken out.new; writes = K.faults out.new } in
-        (given : Result (Unit {0}) Refusal) × IsCause texts before after given × IsExact texts before after given × LeavesFiles before after × IsReported given (E.taken err.old) (E.taken err.new) (E.faults err.old) (E.faults err.new) result }
+        (given : Result (Unit {0}) Refusal) × IsCause texts before after given × LeavesTrace before.left after.left given × IsExact texts before after given × LeavesFiles before after × IsReported given (E.taken err.old) (E.taken err.new) (E.faults err.old) (E.faults err.new) result }
 {
     match serve(alloc, words, shelf, trace, out) {
         Ok(()) => 0,
@@ -42,7 +42,7 @@ fn serve<F: Shelf, S: Source, K: Sink>(
     ensures cause { let texts = map (λ word. string_bytes word) words.now.items in
         let before : Objects = record { files = F.files shelf.old; loads = F.load_faults shelf.old; stores = F.store_faults shelf.old; left = S.left trace.old; reads = S.faults trace.old; taken = K.taken out.old; writes = K.faults out.old } in
         let after : Objects = record { files = F.files shelf.new; loads = F.load_faults shelf.new; stores = F.store_faults shelf.new; left = S.left trace.new; reads = S.faults trace.new; taken = K.taken out.new; writes = K.faults out.new } in
-        IsCause texts before after result × LeavesFiles before after }
+        IsCause texts before after result × LeavesTrace before.left after.left result × LeavesFiles before after }
 {
     let Some(name) = served_name(words) else {
         return Err(Refusal::UsageNotBuilt);
@@ -56,7 +56,7 @@ fn serve<F: Shelf, S: Source, K: Sink>(
 }
 
 /// Writes a refusal's line, and answers its status.
-fn report<E: Sink>(err: &mut E, refusal: Refusal) -> u8
+pub(crate) fn report<E: Sink>(err: &mut E, refusal: Refusal) -> u8
     ensures { IsReported (Err refusal) (E.taken err.old) (E.taken err.new) (E.faults err.old) (E.faults err.new) result }
 {
     match put_all(err, refusal.line()) {

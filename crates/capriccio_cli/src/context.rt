@@ -4,7 +4,7 @@ ghost use Rattle.std.specs.Prelude.{◌≡◌, ◌+◌, ◌^◌, ◌<◌, [], �
 use rv_code::Register;
 
 /// A thread's pc, its registers, and the one chunk that it holds.
-#[derive(Clone, Copy, Debug)]
+#[derive(Clone, Copy)]
 pub(crate) struct Context {
     pub(crate) pc: u32,
     pub(crate) registers: [u32; 32],

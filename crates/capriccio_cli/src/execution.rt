@@ -10,7 +10,7 @@ use chunk_pool::ChunkPool;
 use rv_code::{Immediate, Instr, Register};
 
 /// What an instruction did.
-#[derive(Clone, Copy, Debug)]
+#[derive(Clone, Copy)]
 pub(crate) enum Execution {
     /// The thread goes on in this context.
     Next(Context),

@@ -12,7 +12,7 @@ use std::alloc::AllocError;
 const SCALE: i128 = 256;
 
 /// One line of a log.
-#[derive(Clone, Copy, Debug, PartialEq, Eq)]
+#[derive(Clone, Copy)]
 pub(crate) enum Entry {
     /// At a clock, in instructions, a thread is taken from a node of the blocking graph.
     Run {

@@ -13,7 +13,7 @@ use std::alloc::{AllocError, Global};
 const CHUNK_BYTES: u32 = 4096;
 
 /// What one step of the machine did.
-#[derive(Clone, Copy, Debug, PartialEq, Eq)]
+#[derive(Clone, Copy)]
 pub(crate) enum Step {
     /// The thread goes on.
     Went,

@@ -22,21 +22,23 @@ mod words;
 
 use cap_io::{DirShelf, StdSink, StdSource};
 pub use command::capriccio;
+use command::report;
 pub use refusals::Refusal;
 use std::alloc::{AllocError, Global};
+use std::env;
+use std::io::ErrorKind;
 use std::process::ExitCode;
 use std::rt::Env;
-use std::{env, io};
 
 fn main(rt: HostRuntime) -> ExitCode {
-    let words = match words_of(&rt, rt.alloc()) {
-        Ok(words) => words,
-        Err(_) => return ExitCode::from(Refusal::Memory.code()),
-    };
     let mut shelf = DirShelf::new(&rt);
     let mut trace = StdSource::new(rt.stdin());
     let mut out = StdSink::new(rt.stdout());
     let mut err = StdSink::new(rt.stderr());
+    let words = match words_of(&rt, rt.alloc()) {
+        Ok(words) => words,
+        Err(AllocError) => return ExitCode::from(report(&mut err, Refusal::Memory)),
+    };
     ExitCode::from(capriccio(
         rt.alloc(),
         &words,
@@ -47,13 +49,20 @@ fn main(rt: HostRuntime) -> ExitCode {
     ))
 }
 
-/// The words after the program's name.
-fn words_of<R: Env + AllocGlobal>(rt: &R, alloc: Global) -> io::Result<Vec<String>> {
+/// The words after the program's name. Where they can't be had, as where one is not UTF-8, the answer is no word at
+/// all, which is a faulty command line too. Refused only where memory is wanting.
+fn words_of<E: Env>(environment: &E, alloc: Global) -> Result<Vec<String>, AllocError> {
     let mut words = Vec::new(alloc);
-    for word in env::args(rt)?.skip(1) {
-        words.push(word).map_err(AllocError::from)?;
+    match env::args(&(environment, alloc)) {
+        Ok(all) => {
+            for word in all.skip(1) {
+                words.push(word)?;
+            }
+            Ok(words)
+        }
+        Err(error) if error.kind() == ErrorKind::OutOfMemory => Err(AllocError),
+        Err(_) => Ok(words),
     }
-    Ok(words)
 }
 
 #[cfg(test)]

@@ -3,7 +3,7 @@ ghost use Rattle.std.specs.Prelude.{◌≡◌, ◌<◌};
 ghost use Rattle.capriccio_cli.specs.Refusal.{code_of, line_of};
 
 /// Why the command did not write its log, or not all of it.
-#[derive(Clone, Copy, Debug, PartialEq, Eq)]
+#[derive(Clone, Copy)]
 pub enum Refusal {
     /// The words are not `serve` and a name.
     UsageNotBuilt,

@@ -7,7 +7,7 @@ use crate::machine::{Machine, Step};
 use std::alloc::{AllocError, Global};
 
 /// Why a run ended.
-#[derive(Clone, Copy, Debug, PartialEq, Eq)]
+#[derive(Clone, Copy)]
 pub(crate) enum Ending {
     /// The thread ended.
     Ended,
@@ -18,7 +18,7 @@ pub(crate) enum Ending {
 }
 
 /// What a run did: the numbers that were put, in order, and the number of instructions that retired.
-#[derive(Debug, Drop)]
+#[derive(Drop)]
 pub(crate) struct Segment {
     pub(crate) puts: Vec<u32>,
     pub(crate) cost: u64,

@@ -1,6 +1,7 @@
 // The steps of serving a source: it is loaded and read, the trace is looked at, and the log is written.
 ghost use Rattle.std.specs.Prelude.{◌≡◌, ◌≤◌, length, IfOk, IfErr, MatchResult};
 ghost use Rattle.cap_io.specs.Files.{KeepsFiles};
+ghost use Rattle.capriccio_cli.specs.Answer.{LeavesTrace};
 ghost use Rattle.capriccio_cli.specs.Command.{IsLoaded, IsSourceRefusal, IsTraceRefusal, IsEmptyTrace, IsLogged};
 
 use crate::grammar::read_source;
@@ -39,10 +40,11 @@ pub(crate) fn load_numbers<F: Shelf>(
     }
 }
 
-/// Looks at the trace, with one read of one byte.
+/// Looks at the trace, with one read of one byte. A byte that is there is taken.
 pub(crate) fn look_at_trace<S: Source>(trace: &mut S) -> Result<(), Refusal>
     ensures cases { MatchResult result (λ _. IsEmptyTrace (S.left trace.old) × (S.faults trace.new ≡ S.faults trace.old))
         (IsTraceRefusal (S.left trace.old) (S.faults trace.old) (S.faults trace.new)) }
+    ensures left { LeavesTrace (S.left trace.old) (S.left trace.new) result }
     ensures never_falls { S.faults trace.old ≤ S.faults trace.new }
 {
     let mut byte = [0; 1];

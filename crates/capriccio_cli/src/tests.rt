@@ -1,8 +1,12 @@
 // The command over objects in memory, with ample memory.
-use super::capriccio;
+ghost use Rattle.std.specs.Io.{WritesAtMost};
+
 use super::code::compile;
+use super::{capriccio, words_of as given_words};
 use cap_io::{CleanShelf, CleanSink, CleanSource, MemShelf, MemSink, MemSource};
 use std::alloc::{AllocError, Global};
+use std::env::FillError;
+use std::rt::Env;
 use std::test::Fail;
 
 const PUT_SEVEN: &[u8] = b"int main() { put(7); return 0; }\n";
@@ -253,5 +257,50 @@ const CODE_OF_SEVEN: [u32; 24] = [
 fn code_words(rt: HostRuntime) -> Result<(), Fail> {
     let code = compile(rt.alloc(), &[7])?;
     assert_eq!(rt; code.as_slice(), CODE_OF_SEVEN.as_slice());
+    Ok(())
+}
+
+/// A command line of three words: the program's name, `serve` and a last word.
+#[derive(Drop)]
+struct CommandLine {
+    last: &'static [u8],
+}
+
+impl Env for CommandLine {
+    fn arg(&self, i: usize, buf: &mut [u8]) -> Result<usize, FillError> {
+        match i {
+            0 => fill(buf, b"capriccio"),
+            1 => fill(buf, b"serve"),
+            2 => fill(buf, self.last),
+            _ => Err(FillError::NotPresent),
+        }
+    }
+
+    fn var(&self, _name: &str, _buf: &mut [u8]) -> Result<usize, FillError> {
+        Err(FillError::NotPresent)
+    }
+
+    fn var_at(&self, _i: usize, _buf: &mut [u8]) -> Result<usize, FillError> {
+        Err(FillError::NotPresent)
+    }
+}
+
+/// Copies a word to the front of a buffer.
+fn fill(buf: &mut [u8], word: &[u8]) -> Result<usize, FillError>
+    ensures { WritesAtMost result buf.new }
+{
+    if buf.len() < word.len() {
+        return Err(FillError::TooLong);
+    }
+    buf[..word.len()].copy_from_slice(word);
+    Ok(word.len())
+}
+
+#[test]
+fn words_of_the_command_line(rt: HostRuntime) -> Result<(), Fail> {
+    let two = given_words(&CommandLine { last: b"put.c" }, rt.alloc())?;
+    assert_eq!(rt; two.len(), 2);
+    let bad = given_words(&CommandLine { last: b"put\xff.c" }, rt.alloc())?;
+    assert_eq!(rt; bad.len(), 0);
     Ok(())
 }
