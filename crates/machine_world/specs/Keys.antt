@@ -26,9 +26,12 @@ abbrev pub sites_of : Checked → List Frame → List ℕ
 sites_of c [] = []
 sites_of c (frame ∷ frames) = with_site (site_in (standing c frame)) (sites_of c frames)
 
--- the key of a thread at a modelled call: its site, and those of the up to seven innermost calls, innermost first
-abbrev pub key_of : Checked → List Frame → List ℕ
-key_of c frames = take 8 (sites_of c frames)
+-- the key of a thread that rests at or just after the ECALL of operation i of function f, with these frames: that
+-- operation's site, and those of the up to seven innermost calls below, innermost first. Just after the ECALL the running
+-- frame may stand at the operation that follows.
+abbrev pub key_of : Checked → ℕ → ℕ → List Frame → List ℕ
+key_of c f i [] = []
+key_of c f i (frame ∷ below) = take 8 (with_site (site_in (operation_at c.flat f i)) (sites_of c below))
 
 -- ---- chains
 

@@ -3,8 +3,8 @@ use Rattle.std.specs.Prelude.{◌≡◌, ℕ, ◌+◌, ◌*◌, ◌<◌, List, [
 use Rattle.chunk_pool.specs.Pool.{Pool}
 use Rattle.rv_machine.specs.Registers.{read}
 use Rattle.flat_code.specs.declared.operations.Op.{Op}
-use Rattle.flat_code.specs.Codes.{operation_at}
-use Rattle.flat_code.specs.Frames.{FlatFrame, variable}
+use Rattle.flat_code.specs.Codes.{function_at, operation_at}
+use Rattle.flat_code.specs.Frames.{FlatFrame, variable, pushed}
 use Rattle.stack_certificate.specs.Certificates.{fact_at, need_of}
 use Rattle.stack_certificate.specs.Templates.{kind_of, begin}
 use Rattle.machine_world.specs.Local.{Core, a0, a1, a2}
@@ -72,10 +72,16 @@ abbrev pub HoldsVariables : Checked → Pool → Frame → FlatFrame → Type 0
 HoldsVariables c pool frame flat =
     (x : ℕ) (words : List ℕ) → variable flat x ≡ Some words → (k : ℕ) → k < length words → variable_word c pool frame x k ≡ slice_index words k
 
+-- a frame has the variables of its function, and each that is set has as many words as it says
+pub record IsShaped (c : Checked) (flat : FlatFrame) : Type 0 where
+  pub count : length flat.variables ≡ length (function_at c.flat flat.function).sizes
+  pub words : (x : ℕ) (row : List ℕ) → variable flat x ≡ Some row → length row ≡ slice_index (function_at c.flat flat.function).sizes x
+
 -- the same function at the same operation, with the same variables
 pub record IsFlatFrame (c : Checked) (pool : Pool) (frame : Frame) (flat : FlatFrame) : Type 0 where
   pub function : frame.function ≡ flat.function
   pub operation : frame.operation ≡ flat.next
+  pub shape : IsShaped c flat
   pub variables : HoldsVariables c pool frame flat
 
 abbrev pub AreFlatFrames : Checked → Pool → List Frame → List FlatFrame → Type 0
@@ -83,20 +89,23 @@ AreFlatFrames c pool [] [] = Unit {0}
 AreFlatFrames c pool (frame ∷ frames) (flat ∷ flats) = IsFlatFrame c pool frame flat × AreFlatFrames c pool frames flats
 AreFlatFrames c pool _ _ = ⊥
 
--- at a function's first word its parameters stand in the argument registers
-pub record IsFlatStart (core : Core) (frame : Frame) (flat : FlatFrame) : Type 0 where
-  pub function : frame.function ≡ flat.function
-  pub first : flat.next ≡ 0
-  pub arguments : (x : ℕ) (words : List ℕ) → variable flat x ≡ Some words → words ≡ read core.x (a0 + x) ∷ []
+-- at a function's first word its frame is the one that a call with these arguments pushes, and they stand in the argument
+-- registers
+pub record IsFlatStart (c : Checked) (core : Core) (frame : Frame) (flat : FlatFrame) : Type 0 where
+  pub arguments : List ℕ
+  pub count : length arguments ≡ (function_at c.flat frame.function).params
+  pub pushed_so : flat ≡ pushed c.flat frame.function arguments
+  pub registers : (k : ℕ) → k < length arguments → slice_index arguments k ≡ read core.x (a0 + k)
 
 abbrev pub AreFlatAtStart : Checked → Pool → Core → List Frame → List FlatFrame → Type 0
-AreFlatAtStart c pool core (frame ∷ frames) (flat ∷ flats) = IsFlatStart core frame flat × AreFlatFrames c pool frames flats
+AreFlatAtStart c pool core (frame ∷ frames) (flat ∷ flats) = IsFlatStart c core frame flat × AreFlatFrames c pool frames flats
 AreFlatAtStart c pool core _ _ = ⊥
 
 -- just after the ECALL of operation i its frame stands at that operation still, whose result is to come
 pub record IsFlatPast (c : Checked) (pool : Pool) (i : ℕ) (frame : Frame) (flat : FlatFrame) : Type 0 where
   pub function : frame.function ≡ flat.function
   pub operation : flat.next ≡ i
+  pub shape : IsShaped c flat
   pub variables : HoldsVariables c pool frame flat
 
 abbrev pub AreFlatPast : Checked → Pool → ℕ → List Frame → List FlatFrame → Type 0
