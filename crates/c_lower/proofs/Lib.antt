@@ -1,0 +1,4 @@
+pub mod Glue
+pub mod CodeSizes
+pub mod ChainCode
+pub mod ExprGlue

@@ -34,11 +34,11 @@ expr_code (Binary op l r) p k =
     expr_code l p k ++ expr_code r right (k + 1) ++ (Op.Bin (operator_of op) k k (k + 1) ∷ [])
 expr_code (LogicalAnd l r) p k =
     let right = p + expr_size l + 1 in
-    let zero = right + expr_size r + 3 in
+    let otherwise = right + expr_size r + 3 in
     expr_code l p k
-    ++ (Op.JumpZero k zero ∷ [])
+    ++ (Op.JumpZero k otherwise ∷ [])
     ++ expr_code r right k
-    ++ (Op.JumpZero k zero ∷ Op.Const k 1 ∷ Op.Jump (zero + 1) ∷ Op.Const k 0 ∷ [])
+    ++ (Op.JumpZero k otherwise ∷ Op.Const k 1 ∷ Op.Jump (otherwise + 1) ∷ Op.Const k 0 ∷ [])
 expr_code (LogicalOr l r) p k =
     let right = p + expr_size l + 2 in
     let one = right + expr_size r + 1 in
