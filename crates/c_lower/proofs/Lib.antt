@@ -2,3 +2,4 @@ pub mod Glue
 pub mod CodeSizes
 pub mod ChainCode
 pub mod ExprGlue
+pub mod CallGlue
