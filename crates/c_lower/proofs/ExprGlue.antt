@@ -76,3 +76,9 @@ chain_turn c1 c2 all o r os k h e =
     ∙ ap (λ x. x ++ operands_code os (length c1 + (expr_size r + infix_size o)) k) e
     ∙ append_assoc c1 (operand_code o r (length c1) k) (operands_code os (length c1 + (expr_size r + infix_size o)) k)
     ∙ h
+
+-- an expression, then code whose jumps go by its place, and then the rest
+pub expr_then_glued : (c0 c1 c2 c3 : List Op) (e : ExprTree) (k : ℕ) (code : ℕ → List Op) (rest : List Op) → c1 ≡ c0 ++ expr_code e (length c0) k → c2 ≡ c1 ++ code (length c1) → c3 ≡ c2 ++ rest → c3 ≡ c0 ++ ((expr_code e (length c0) k ++ code (length c0 + expr_size e)) ++ rest)
+expr_then_glued c0 c1 c2 c3 e k code rest e1 e2 e3 =
+    let after : length c1 ≡ length c0 + expr_size e = grown c0 c1 (expr_code e (length c0) k) (expr_size e) e1 (expr_length e (length c0) k) in
+    glued3 c0 c1 c2 c3 _ _ _ e1 (e2 ∙ ap (λ n. c1 ++ code n) after) e3
