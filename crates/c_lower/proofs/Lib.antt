@@ -3,3 +3,4 @@ pub mod CodeSizes
 pub mod ChainCode
 pub mod ExprGlue
 pub mod CallGlue
+pub mod StmtGlue

@@ -1,6 +1,6 @@
 // How many operations the code of a tree has, so that a jump over it can be written before it.
 
-ghost use Rattle.std.specs.Prelude.{◌≡◌, ◌+◌, IfOk, map, option_map};
+ghost use Rattle.std.specs.Prelude.{◌≡◌, IfOk, map, option_map};
 ghost use Rattle.c_tree.specs.Views.{expr_tree, call_tree, right_tree, simple_tree, stmt_tree, stmt_trees};
 ghost use Rattle.c_lower.specs.ExprCode.{expr_size};
 ghost use Rattle.c_lower.specs.CallCode.{arguments_size, call_size, set_size, held_size};
@@ -135,19 +135,6 @@ fn size_of_return(value: &Option<RightSide>) -> Result<u32, AllocError>
     }
 }
 
-// The turns of a `for`: its test, its body, its step and the jump back.
-#[cycle(sizes)]
-fn size_of_turns(
-    condition: &Option<Expr>,
-    step: &Option<Simple>,
-    body: &Stmt,
-) -> Result<u32, AllocError>
-    ensures { IfOk result (λ n. n ≡ test_size (option_map expr_tree condition.now) + stmt_size (stmt_tree body.now) + step_size (option_map simple_tree step.now) + 1) }
-{
-    let tested = sum(size_of_test(condition)?, size_of_stmt(body)?)?;
-    sum(sum(tested, size_of_step(step)?)?, 1)
-}
-
 #[cycle(sizes)]
 pub fn size_of_stmt(stmt: &Stmt) -> Result<u32, AllocError>
     ensures { IfOk result (λ n. n ≡ stmt_size (stmt_tree stmt.now)) }
@@ -175,10 +162,11 @@ pub fn size_of_stmt(stmt: &Stmt) -> Result<u32, AllocError>
             condition,
             step,
             body,
-        } => sum(
-            size_of_simples(init)?,
-            size_of_turns(condition, step, body)?,
-        ),
+        } => {
+            let tested = sum(size_of_test(condition)?, size_of_stmt(body)?)?;
+            let turn = sum(sum(tested, size_of_step(step)?)?, 1)?;
+            sum(size_of_simples(init)?, turn)
+        }
         Stmt::Break | Stmt::Continue => Ok(1),
         Stmt::Return(value) => size_of_return(value),
     }

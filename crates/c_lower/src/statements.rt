@@ -1,15 +1,16 @@
 // The operations of statements.
 
-ghost use Rattle.std.specs.Prelude.{◌≡◌, ◌<◌, ◌+◌, ◌^◌, ◌++◌, OnOk, length, map, option_map};
-ghost use Rattle.c_tree.specs.Temporaries.{stmt_temporaries, stmts_temporaries};
-ghost use Rattle.c_tree.specs.Trees.{If, IfElse, While, For};
+ghost use Rattle.std.specs.Prelude.{◌≡◌, ◌<◌, ◌+◌, ◌^◌, [], ◌∷◌, ◌++◌, IfOk, OnOk, length, option_map};
+ghost use Rattle.c_tree.specs.Temporaries.{expr_temporaries, stmt_temporaries, stmts_temporaries};
 ghost use Rattle.c_tree.specs.Views.{expr_tree, simple_tree, stmt_tree, stmt_trees};
-ghost use Rattle.c_lower.specs.StmtCode.{stmt_code, stmts_code};
+ghost use Rattle.flat_code.specs.declared.operations.Op.{Op};
+ghost use Rattle.c_lower.specs.ExprCode.{expr_size, expr_code};
+ghost use Rattle.c_lower.specs.StmtCode.{step_size, test_size, stmt_code, stmts_code};
 
 use crate::expressions::put_expr;
 use crate::places::{place_after, put, sum};
 use crate::simples::{put_return, put_simple, put_simples, put_step, put_test};
-use crate::sizes::{size_of_expr, size_of_simples, size_of_step, size_of_stmt, size_of_test};
+use crate::sizes::{size_of_step, size_of_stmt, size_of_test};
 use c_tree::{Expr, Simple, Stmt};
 use flat_code::Op;
 use std::alloc::{AllocError, Global};
@@ -24,6 +25,49 @@ pub struct Context {
     pub skip: u32,
 }
 
+// A condition, and a jump past `size` and `more` operations where it is 0. The answer is where that leads.
+fn put_condition(
+    code: &mut Vec<Op>,
+    t: u32,
+    condition: &Expr,
+    size: u32,
+    more: u32,
+) -> Result<u32, AllocError>
+    requires { t + expr_temporaries (expr_tree condition.now) < 2 ^ 32 }
+    ensures code { IfOk result (λ to. code.new.items ≡ code.old.items ++ (expr_code (expr_tree condition.now) (length code.old.items) t ++ Op.JumpZero t to ∷ [])) }
+    ensures to { IfOk result (λ to. to ≡ length code.old.items + expr_size (expr_tree condition.now) + size + more) }
+{
+    put_expr(code, t, condition)?;
+    let to = place_after(code, size, more)?;
+    put(code, Op::JumpZero { s: t, to })?;
+    Ok(to)
+}
+
+// A jump past as many operations.
+fn put_jump(code: &mut Vec<Op>, size: u32) -> Result<(), AllocError>
+    ensures { OnOk result (code.new.items ≡ code.old.items ++ Op.Jump (length code.old.items + size + 1) ∷ []) }
+{
+    let to = place_after(code, size, 1)?;
+    put(code, Op::Jump { to })
+}
+
+// What the body of a `for` knows, whose turns begin at the end of the code.
+fn in_turn(
+    code: &Vec<Op>,
+    t: u32,
+    condition: &Option<Expr>,
+    body_size: u32,
+    step: &Option<Simple>,
+) -> Result<Context, AllocError>
+    ensures t { IfOk result (λ inside. inside.t ≡ t) }
+    ensures skip { IfOk result (λ inside. inside.skip ≡ length code.now.items + test_size (option_map expr_tree condition.now) + body_size) }
+    ensures leave { IfOk result (λ inside. inside.leave ≡ inside.skip + step_size (option_map simple_tree step.now) + 1) }
+{
+    let skip = place_after(code, size_of_test(condition)?, body_size)?;
+    let leave = sum(sum(skip, size_of_step(step)?)?, 1)?;
+    Ok(Context { t, leave, skip })
+}
+
 #[cycle(statements)]
 fn put_stmt(
     alloc: Global,
@@ -34,130 +78,49 @@ fn put_stmt(
     requires { context.t + stmt_temporaries (stmt_tree stmt.now) < 2 ^ 32 }
     ensures { OnOk result (code.new.items ≡ code.old.items ++ stmt_code (stmt_tree stmt.now) (length code.old.items) context.t context.leave context.skip) }
 {
+    let t = context.t;
     match stmt {
-        Stmt::Simple(simple) => put_simple(alloc, code, context.t, simple),
+        Stmt::Simple(simple) => put_simple(alloc, code, t, simple),
         Stmt::Empty => Ok(()),
         Stmt::Block(stmts) => put_stmts(alloc, code, context, stmts),
-        Stmt::If { condition, then } => put_if(alloc, code, context, condition, then),
+        Stmt::If { condition, then } => {
+            put_condition(code, t, condition, size_of_stmt(then)?, 1)?;
+            put_stmt(alloc, code, context, then)
+        }
         Stmt::IfElse {
             condition,
             then,
             otherwise,
-        } => put_if_else(alloc, code, context, condition, then, otherwise),
-        Stmt::While { condition, body } => put_while(alloc, code, context.t, condition, body),
+        } => {
+            put_condition(code, t, condition, size_of_stmt(then)?, 2)?;
+            put_stmt(alloc, code, context, then)?;
+            put_jump(code, size_of_stmt(otherwise)?)?;
+            put_stmt(alloc, code, context, otherwise)
+        }
+        Stmt::While { condition, body } => {
+            let skip = place_after(code, 0, 0)?;
+            let leave = put_condition(code, t, condition, size_of_stmt(body)?, 2)?;
+            put_stmt(alloc, code, Context { t, leave, skip }, body)?;
+            put(code, Op::Jump { to: skip })
+        }
         Stmt::For {
             init,
             condition,
             step,
             body,
-        } => put_for(alloc, code, context.t, init, condition, step, body),
+        } => {
+            put_simples(alloc, code, t, init)?;
+            let turn = place_after(code, 0, 0)?;
+            let inside = in_turn(code, t, condition, size_of_stmt(body)?, step)?;
+            put_test(code, t, inside.leave, condition)?;
+            put_stmt(alloc, code, inside, body)?;
+            put_step(alloc, code, t, step)?;
+            put(code, Op::Jump { to: turn })
+        }
         Stmt::Break => put(code, Op::Jump { to: context.leave }),
         Stmt::Continue => put(code, Op::Jump { to: context.skip }),
-        Stmt::Return(value) => put_return(alloc, code, context.t, value),
+        Stmt::Return(value) => put_return(alloc, code, t, value),
     }
-}
-
-#[cycle(statements)]
-fn put_if(
-    alloc: Global,
-    code: &mut Vec<Op>,
-    context: Context,
-    condition: &Expr,
-    then: &Stmt,
-) -> Result<(), AllocError>
-    requires { context.t + stmt_temporaries (If (expr_tree condition.now) (stmt_tree then.now)) < 2 ^ 32 }
-    ensures { OnOk result (code.new.items ≡ code.old.items ++ stmt_code (If (expr_tree condition.now) (stmt_tree then.now)) (length code.old.items) context.t context.leave context.skip) }
-{
-    put_expr(code, context.t, condition)?;
-    let end = place_after(code, size_of_stmt(then)?, 1)?;
-    put(
-        code,
-        Op::JumpZero {
-            s: context.t,
-            to: end,
-        },
-    )?;
-    put_stmt(alloc, code, context, then)
-}
-
-#[cycle(statements)]
-fn put_if_else(
-    alloc: Global,
-    code: &mut Vec<Op>,
-    context: Context,
-    condition: &Expr,
-    then: &Stmt,
-    otherwise: &Stmt,
-) -> Result<(), AllocError>
-    requires { context.t + stmt_temporaries (IfElse (expr_tree condition.now) (stmt_tree then.now) (stmt_tree otherwise.now)) < 2 ^ 32 }
-    ensures { OnOk result (code.new.items ≡ code.old.items ++ stmt_code (IfElse (expr_tree condition.now) (stmt_tree then.now) (stmt_tree otherwise.now)) (length code.old.items) context.t context.leave context.skip) }
-{
-    put_expr(code, context.t, condition)?;
-    let second = place_after(code, size_of_stmt(then)?, 2)?;
-    put(
-        code,
-        Op::JumpZero {
-            s: context.t,
-            to: second,
-        },
-    )?;
-    put_stmt(alloc, code, context, then)?;
-    let end = place_after(code, size_of_stmt(otherwise)?, 1)?;
-    put(code, Op::Jump { to: end })?;
-    put_stmt(alloc, code, context, otherwise)
-}
-
-#[cycle(statements)]
-fn put_while(
-    alloc: Global,
-    code: &mut Vec<Op>,
-    t: u32,
-    condition: &Expr,
-    body: &Stmt,
-) -> Result<(), AllocError>
-    requires { t + stmt_temporaries (While (expr_tree condition.now) (stmt_tree body.now)) < 2 ^ 32 }
-    ensures { OnOk result (code.new.items ≡ code.old.items ++ stmt_code (While (expr_tree condition.now) (stmt_tree body.now)) (length code.old.items) t 0 0) }
-{
-    let turn = place_after(code, 0, 0)?;
-    put_expr(code, t, condition)?;
-    let end = place_after(code, size_of_stmt(body)?, 2)?;
-    put(code, Op::JumpZero { s: t, to: end })?;
-    let inside = Context {
-        t,
-        leave: end,
-        skip: turn,
-    };
-    put_stmt(alloc, code, inside, body)?;
-    put(code, Op::Jump { to: turn })
-}
-
-#[cycle(statements)]
-fn put_for(
-    alloc: Global,
-    code: &mut Vec<Op>,
-    t: u32,
-    init: &[Simple],
-    condition: &Option<Expr>,
-    step: &Option<Simple>,
-    body: &Stmt,
-) -> Result<(), AllocError>
-    requires { t + stmt_temporaries (For (map simple_tree init.now) (option_map expr_tree condition.now) (option_map simple_tree step.now) (stmt_tree body.now)) < 2 ^ 32 }
-    ensures { OnOk result (code.new.items ≡ code.old.items ++ stmt_code (For (map simple_tree init.now) (option_map expr_tree condition.now) (option_map simple_tree step.now) (stmt_tree body.now)) (length code.old.items) t 0 0) }
-{
-    put_simples(alloc, code, t, init)?;
-    let turn = place_after(code, 0, 0)?;
-    let tested = sum(size_of_test(condition)?, size_of_stmt(body)?)?;
-    let next = place_after(code, tested, 0)?;
-    let end = place_after(code, sum(tested, size_of_step(step)?)?, 1)?;
-    put_test(code, t, end, condition)?;
-    let inside = Context {
-        t,
-        leave: end,
-        skip: next,
-    };
-    put_stmt(alloc, code, inside, body)?;
-    put_step(alloc, code, t, step)?;
-    put(code, Op::Jump { to: turn })
 }
 
 // Statements one after another.

@@ -47,19 +47,19 @@ pub put_expr-returns-in_ok-put_expr-in-LocalElement : goal.put_expr-returns-in_o
 put_expr-returns-in_ok-put_expr-in-LocalElement t c =
     let index : c.put_expr.new.code.items ≡ c.args.code.now.items ++ expr_code (expr_tree c.in-LocalElement.index.value) (length c.args.code.now.items) c.args.k = rw (← c.deref.ensures) c.in_ok-put_expr-in-LocalElement.ensures in
     rw (c.in-LocalElement.is, expr_tree-LocalElement c.in-LocalElement.array c.in-LocalElement.index)
-        (then_on_ok c.put-in-LocalElement.result (glued2 _ _ _ _ _ index) c.put-in-LocalElement.ensures)
+    (then_on_ok c.put-in-LocalElement.result (glued2 _ _ _ _ _ index) c.put-in-LocalElement.ensures)
 
 pub put_expr-returns-in_ok-put_expr-in-GlobalElement : goal.put_expr-returns-in_ok-put_expr-in-GlobalElement
 put_expr-returns-in_ok-put_expr-in-GlobalElement t c =
     let index : c.put_expr-in-GlobalElement.new.code.items ≡ c.args.code.now.items ++ expr_code (expr_tree c.in-GlobalElement.index.value) (length c.args.code.now.items) c.args.k = rw (← c.deref-in-GlobalElement.ensures) c.in_ok-put_expr-in-GlobalElement.ensures in
     rw (c.in-GlobalElement.is, expr_tree-GlobalElement c.in-GlobalElement.array c.in-GlobalElement.index)
-        (then_on_ok c.put-in-GlobalElement.result (glued2 _ _ _ _ _ index) c.put-in-GlobalElement.ensures)
+    (then_on_ok c.put-in-GlobalElement.result (glued2 _ _ _ _ _ index) c.put-in-GlobalElement.ensures)
 
 pub put_expr-returns-in_ok-put_expr-in-Unary : goal.put_expr-returns-in_ok-put_expr-in-Unary
 put_expr-returns-in_ok-put_expr-in-Unary t c =
     let operand : c.put_expr-in-Unary.new.code.items ≡ c.args.code.now.items ++ expr_code (expr_tree c.in-Unary.operand.value) (length c.args.code.now.items) c.args.k = rw (← c.deref-in-Unary.ensures) c.in_ok-put_expr-in-Unary.ensures in
     rw (c.in-Unary.is, expr_tree-Unary c.in-Unary.operator c.in-Unary.operand)
-        (then_on_ok c.put_unary.result (glued2 _ _ _ _ _ operand) c.put_unary.ensures)
+    (then_on_ok c.put_unary.result (glued2 _ _ _ _ _ operand) c.put_unary.ensures)
 
 pub put_expr-returns-in_ok-put-in-Conditional-2 : goal.put_expr-returns-in_ok-put-in-Conditional-2
 put_expr-returns-in_ok-put-in-Conditional-2 t c =
@@ -78,6 +78,6 @@ put_expr-returns-in_ok-put-in-Conditional-2 t c =
     c.in_ok-end-in-Conditional.ensures
     ∙ ap (λ n. length c3 + n + 1) (c.in_ok-size_of_expr-in-Conditional-2.ensures ∙ ap (λ (x : Expr). expr_size (expr_tree x)) c.deref-in-Conditional-4.ensures) in
     rw (c.in-Conditional.is, expr_tree-Conditional c.in-Conditional.condition c.in-Conditional.then c.in-Conditional.otherwise)
-        (then_on_ok c.put_expr-in-Conditional-3.result
-        (λ e. conditional_glued c0 c1 c2 c3 c4 _ (expr_tree c.in-Conditional.condition.value) (expr_tree c.in-Conditional.then.value) (expr_tree c.in-Conditional.otherwise.value) k _ _ e1 s2 c.in_ok-put-in-Conditional.ensures e3 s4 c.in_ok-put-in-Conditional-2.ensures (e ∙ ap (λ (x : Expr). c4 ++ expr_code (expr_tree x) (length c4) k) c.deref-in-Conditional-5.ensures))
-        c.put_expr-in-Conditional-3.ensures)
+    (then_on_ok c.put_expr-in-Conditional-3.result
+    (λ e. conditional_glued c0 c1 c2 c3 c4 _ (expr_tree c.in-Conditional.condition.value) (expr_tree c.in-Conditional.then.value) (expr_tree c.in-Conditional.otherwise.value) k _ _ e1 s2 c.in_ok-put-in-Conditional.ensures e3 s4 c.in_ok-put-in-Conditional-2.ensures (e ∙ ap (λ (x : Expr). c4 ++ expr_code (expr_tree x) (length c4) k) c.deref-in-Conditional-5.ensures))
+    c.put_expr-in-Conditional-3.ensures)
