@@ -14,33 +14,6 @@ use Rattle.c_lower.proofs.Glue.{glued3, glued4, glued5}
 pub grown : {A : Type 0} (s t a : List A) (n : ℕ) → t ≡ s ++ a → length a ≡ n → length t ≡ length s + n
 grown s t a n e m = ap length e ∙ length-append s a ∙ ap (λ x. length s + x) m
 
-pub and_glued : (c0 c1 c2 c3 : List Op) (r : ExprTree) (k to end : ℕ) → to ≡ length c0 + expr_size r + 4 → end ≡ length c0 + expr_size r + 5 → c1 ≡ c0 ++ (Op.JumpZero k to ∷ []) → c2 ≡ c1 ++ expr_code r (length c1) k → c3 ≡ c2 ++ truth_code k to end → c3 ≡ c0 ++ operand_code Infix.LogicalAnd r (length c0) k
-and_glued c0 c1 c2 c3 r k to end is_to is_end e1 e2 e3 =
-    let otherwise : ℕ = length c0 + 1 + expr_size r + 3 in
-    let at_to : to ≡ otherwise = omega arith in
-    let at_end : end ≡ otherwise + 1 = omega arith in
-    let after1 : length c1 ≡ length c0 + 1 = grown c0 c1 (Op.JumpZero k to ∷ []) 1 e1 (omega arith) in
-    glued3 c0 c1 c2 c3 _ _ _
-    (e1 ∙ ap (λ n. c0 ++ (Op.JumpZero k n ∷ [])) at_to)
-    (e2 ∙ ap (λ n. c1 ++ expr_code r n k) after1)
-    (e3 ∙ ap (λ n. c2 ++ truth_code k n end) at_to ∙ ap (λ n. c2 ++ truth_code k otherwise n) at_end)
-
-pub or_glued : (c0 c1 c2 c3 c4 : List Op) (r : ExprTree) (k right one to end : ℕ) → right ≡ length c0 + 0 + 2 → one ≡ length c0 + expr_size r + 3 → to ≡ length c0 + expr_size r + 5 → end ≡ length c0 + expr_size r + 6 → c1 ≡ c0 ++ (Op.JumpZero k right ∷ []) → c2 ≡ c1 ++ (Op.Jump one ∷ []) → c3 ≡ c2 ++ expr_code r (length c2) k → c4 ≡ c3 ++ truth_code k to end → c4 ≡ c0 ++ operand_code Infix.LogicalOr r (length c0) k
-or_glued c0 c1 c2 c3 c4 r k right one to end is_right is_one is_to is_end e1 e2 e3 e4 =
-    let true_at : ℕ = length c0 + 2 + expr_size r + 1 in
-    let at_right : right ≡ length c0 + 2 = omega arith in
-    let at_one : one ≡ true_at = omega arith in
-    let at_to : to ≡ true_at + 2 = omega arith in
-    let at_end : end ≡ true_at + 3 = omega arith in
-    let after1 : length c1 ≡ length c0 + 1 = grown c0 c1 (Op.JumpZero k right ∷ []) 1 e1 (omega arith) in
-    let after2 : length c2 ≡ length c1 + 1 = grown c1 c2 (Op.Jump one ∷ []) 1 e2 (omega arith) in
-    let both : length c2 ≡ length c0 + 2 = omega arith in
-    glued4 c0 c1 c2 c3 c4 _ _ _ _
-    (e1 ∙ ap (λ n. c0 ++ (Op.JumpZero k n ∷ [])) at_right)
-    (e2 ∙ ap (λ n. c1 ++ (Op.Jump n ∷ [])) at_one)
-    (e3 ∙ ap (λ n. c2 ++ expr_code r n k) both)
-    (e4 ∙ ap (λ n. c3 ++ truth_code k n end) at_to ∙ ap (λ n. c3 ++ truth_code k (true_at + 2) n) at_end)
-
 pub conditional_glued : (c0 c1 c2 c3 c4 c5 : List Op) (c a b : ExprTree) (k second end : ℕ) → c1 ≡ c0 ++ expr_code c (length c0) k → second ≡ length c1 + expr_size a + 2 → c2 ≡ c1 ++ (Op.JumpZero k second ∷ []) → c3 ≡ c2 ++ expr_code a (length c2) k → end ≡ length c3 + expr_size b + 1 → c4 ≡ c3 ++ (Op.Jump end ∷ []) → c5 ≡ c4 ++ expr_code b (length c4) k → c5 ≡ c0 ++ expr_code (Conditional c a b) (length c0) k
 conditional_glued c0 c1 c2 c3 c4 c5 c a b k second end e1 is_second e2 e3 is_end e4 e5 =
     let first : ℕ = length c0 + expr_size c + 1 in
