@@ -1,5 +1,5 @@
 -- Arguments are put one after another.
-use Rattle.std.proofs.Common.{◌≡◌, ◌<◌, ◌+◌, ℕ, List, [], ◌∷◌, ◌++◌, length, append_assoc, sym, ap, ◌∙◌, arith}
+use Rattle.std.proofs.Common.{◌≡◌, ◌<◌, ◌+◌, ℕ, List, [], ◌∷◌, ◌++◌, length, append_assoc, ap, ◌∙◌, arith}
 use Rattle.c_tree.specs.Temporaries.{expr_temporaries, arguments_temporaries}
 use Rattle.c_tree.specs.Trees.{ExprTree}
 use Rattle.flat_code.specs.declared.operations.Op.{Op}

@@ -5,10 +5,10 @@ use Rattle.c_tree.specs.Trees.{ExprTree, Conditional}
 use Rattle.flat_code.specs.declared.operations.Op.{Op}
 use Rattle.c_lower.specs.ExprCode.{expr_size, expr_code}
 use Rattle.c_tree.specs.Views.{chained}
-use Rattle.c_lower.specs.Chains.{infix_size, truth_code, operand_code, operands_code}
+use Rattle.c_lower.specs.Chains.{infix_size, operand_code, operands_code}
 use Rattle.c_lower.proofs.ChainCode.{chained_code}
 use Rattle.c_lower.proofs.CodeSizes.{expr_length, operand_length}
-use Rattle.c_lower.proofs.Glue.{glued3, glued4, glued5}
+use Rattle.c_lower.proofs.Glue.{glued3, glued5}
 
 -- a list has as many items as it had and as were put at its end
 pub grown : {A : Type 0} (s t a : List A) (n : ℕ) → t ≡ s ++ a → length a ≡ n → length t ≡ length s + n

@@ -1,5 +1,5 @@
 -- The code of what is well scoped is well formed.
-use Rattle.std.proofs.Common.{◌≡◌, ◌<◌, ◌≤◌, ◌+◌, ℕ, Bool, true, false, List, [], ◌∷◌, ◌++◌, length, refl, sym, ap, subst, ◌∙◌, lit<, arith}
+use Rattle.std.proofs.Common.{◌≡◌, ◌<◌, ◌≤◌, ◌+◌, ℕ, Bool, true, List, [], ◌∷◌, ◌++◌, length, refl, sym, ap, subst, ◌∙◌, lit<, arith}
 use Rattle.std.specs.Prelude.{IsTrue, Option, Some, None, slice_index}
 use Rattle.std.specs.List.{AllByRecursion}
 use Rattle.c_tree.specs.declared.operators.ModelledCall.{ModelledCall}
@@ -14,7 +14,7 @@ use Rattle.flat_code.specs.declared.operations.Op.{Op}
 use Rattle.flat_code.specs.Modelled.{modelled_parameters, modelled_gives}
 use Rattle.flat_code.specs.WellFormed as flat
 use Rattle.flat_code.specs.WellFormed.{IsScalar, IsGlobalScalar, IsResultPlace, IsOperation}
-use Rattle.c_lower.specs.Operations.{operator_of, unary_code, unary_size}
+use Rattle.c_lower.specs.Operations.{unary_code}
 use Rattle.c_lower.specs.ExprCode.{expr_size, expr_code}
 use Rattle.c_lower.specs.CallCode.{arguments_size, arguments_code, arguments_in, call_size, call_code, set_size, set_code, held_size, held_code}
 use Rattle.c_lower.specs.StmtCode.{simple_size, simple_code, simples_size, simples_code, step_size, step_code, test_size, test_code, return_size, return_code, stmt_size, stmt_code, stmts_size, stmts_code}
@@ -154,8 +154,7 @@ module _ (c : tree.Context) (d : flat.Context) (t n : ℕ) (suits : Suits c d t 
 
   all_arguments : (scope : List ℕ) (es : List ExprTree) (p k : ℕ) → AreExprsScoped c scope es → t ≤ k → k + arguments_temporaries 0 es ≤ t + n → p + arguments_size es < d.ops → AreFormed (arguments_code es p k) × AllByRecursion (IsScalar d) (arguments_in es k)
   all_arguments scope es p k h low m o =
-      let same : k + 0 ≡ k = omega arith in
-      (
+      let same : k + 0 ≡ k = omega arith in (
         subst (λ q. AreFormed (arguments_code es p q)) same (arguments_formed scope es p k 0 h low m o),
         subst (λ q. AllByRecursion (IsScalar d) (arguments_in es q)) same (variables_formed es k 0 low m),
       )

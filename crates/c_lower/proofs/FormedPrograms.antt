@@ -1,24 +1,23 @@
 -- The code of a well scoped program is well formed.
-use Rattle.std.proofs.Common.{◌≡◌, ◌<◌, ◌≤◌, ◌+◌, ◌^◌, ℕ, zero, suc, Bool, true, false, List, [], ◌∷◌, ◌++◌, length, length-append, append_assoc, map, take, max, get_or, refl, sym, ap, ◌∙◌, lit<, arith}
-use Rattle.std.specs.Prelude.{if◌then◌else◌, sum, replicate, slice_index, Some}
+use Rattle.std.proofs.Common.{◌≡◌, ◌<◌, ◌≤◌, ◌+◌, ◌^◌, ℕ, zero, suc, Bool, true, false, List, [], ◌∷◌, ◌++◌, length, length-append, append_assoc, map, take, max, get_or, refl, ap, ◌∙◌, lit<, arith}
+use Rattle.std.specs.Prelude.{if◌then◌else◌, sum, replicate}
 use Rattle.std.specs.List.{AllByRecursion}
 use Rattle.std.proofs.Math.ListN.{get_or-append}
 use Rattle.std.proofs.lemmas.Bool.{false≢true}
 use Rattle.std.proofs.lemmas.List.Sums.{sum_by-cons, sum_by-append}
-use Rattle.c_tree.specs.Sizes.{scalars, below, declared_words, sizes_of}
+use Rattle.c_tree.specs.Sizes.{scalars, below, declared_words}
 use Rattle.c_tree.specs.Temporaries.{stmts_temporaries, function_temporaries}
 use Rattle.c_tree.specs.TextOrder.{stmts_names}
 use Rattle.c_tree.specs.Trees.{FunctionTree, ProgramTree}
 use Rattle.c_tree.specs.WellScoped as tree
 use Rattle.c_tree.specs.WellScoped.{IsFunctionScoped, AreFunctionsScoped, IsWellScoped}
-use Rattle.flat_code.specs.declared.operations.Op.{Op}
 use Rattle.flat_code.specs.declared.functions.FlatFunction.{FlatFunction}
 use Rattle.flat_code.specs.declared.programs.FlatGlobal.{FlatGlobal}
 use Rattle.flat_code.specs.Codes.{code_of}
 use Rattle.flat_code.specs.WellFormed as flat
 use Rattle.flat_code.specs.WellFormed.{IsOperation, IsFunction, IsWellFormed}
 use Rattle.c_lower.specs.StmtCode.{stmts_size, stmts_code}
-use Rattle.c_lower.specs.ProgramCode.{closing_code, first_temporary, function_ops, function_sizes, lowered_function, lowered_global, lowered}
+use Rattle.c_lower.specs.ProgramCode.{closing_code, first_temporary, function_ops, lowered_function, lowered_global, lowered}
 use Rattle.c_lower.proofs.Lists.{all-append, all-weaker, map-map}
 use Rattle.c_lower.proofs.Suits.{Suits}
 use Rattle.c_lower.proofs.CodeSizes.{stmts_length}
@@ -137,12 +136,11 @@ functions_formed p (f ∷ fs) h short = (function_formed p f h.0 short.0, functi
 -- ---- programs
 
 table_formed : (p : ProgramTree) (row : List ℕ) → tree.IsTable (map tree.signature_of p.functions) row → flat.IsTable (map flat.signature_of (map lowered_function p.functions)) row
-table_formed p row h =
-    (
-      h.0,
-      all-weaker (tree.IsMember (map tree.signature_of p.functions)) (flat.IsMember (map flat.signature_of (map lowered_function p.functions)))
-          (λ f m. (omega (arith, same_count p.functions, m.0), same_params p.functions f ∙ m.1, same_results p.functions f ∙ m.2)) row h.1,
-    )
+table_formed p row h = (
+  h.0,
+  all-weaker (tree.IsMember (map tree.signature_of p.functions)) (flat.IsMember (map flat.signature_of (map lowered_function p.functions)))
+      (λ f m. (omega (arith, same_count p.functions, m.0), same_params p.functions f ∙ m.1, same_results p.functions f ∙ m.2)) row h.1,
+)
 
 pub program_formed : (p : ProgramTree) → IsWellScoped p → AllByRecursion (λ f. length f.ops ≤ 2 ^ 32) (map lowered_function p.functions) → IsWellFormed (lowered p)
 program_formed p h short = record {

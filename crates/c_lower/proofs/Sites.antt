@@ -15,7 +15,7 @@ use Rattle.c_tree.specs.Trees.{ExprTree, Number, Local, Global, LocalElement, Gl
 use Rattle.flat_code.specs.declared.operations.Op.{Op}
 use Rattle.flat_code.specs.Codes.{site_of}
 use Rattle.flat_code.specs.WellFormed.{site_numbers}
-use Rattle.c_lower.specs.Operations.{operator_of, unary_code}
+use Rattle.c_lower.specs.Operations.{unary_code}
 use Rattle.c_lower.specs.ExprCode.{expr_size, expr_code}
 use Rattle.c_lower.specs.CallCode.{arguments_code, call_code, set_code, held_code}
 use Rattle.c_lower.specs.StmtCode.{simple_size, simple_code, simples_size, simples_code, step_size, step_code, test_size, test_code, return_code, stmt_size, stmt_code, stmts_code}

@@ -1,5 +1,5 @@
 -- A function's declared names have a word each at least, so that there are at most as many names as words.
-use Rattle.std.proofs.Common.{◌≡◌, ◌≤◌, ◌+◌, ℕ, Bool, true, List, [], ◌∷◌, ◌++◌, length, length-append, map, arith}
+use Rattle.std.proofs.Common.{◌≤◌, ℕ, Bool, true, List, [], ◌∷◌, ◌++◌, length, map, arith}
 use Rattle.std.specs.Prelude.{sum, Option, Some, None}
 use Rattle.std.proofs.lemmas.List.Sums.{sum_by-cons}
 use Rattle.c_tree.specs.TextOrder.{Declared, simple_names, simples_names, step_names, stmt_names, stmts_names}

@@ -1,15 +1,11 @@
-use Rattle.std.proofs.Common.{◌≡◌, ◌<◌, ◌+◌, ◌^◌, ◌∷◌, [], ◌++◌, ◌∙◌, length, map, drop, rules, subst, sym, ap}
+use Rattle.std.proofs.Common.{◌≡◌, ◌+◌, ◌^◌, ◌∷◌, ◌++◌, ◌∙◌, length, map, drop, rules, ap}
 use Rattle.c_tree.specs.declared.expressions.Expr.{Expr}
 use Rattle.c_tree.specs.declared.expressions.Expr.{the_lemmas as expr_lemmas}
-use Rattle.c_tree.specs.Temporaries.{expr_temporaries}
 use Rattle.c_tree.specs.Views.{expr_tree, chained}
 use Rattle.c_tree.proofs.Cuts.{drop_at}
 use Rattle.c_tree.proofs.ExprEquations.{operand_tree, expr_tree-LocalElement, expr_tree-GlobalElement, expr_tree-Unary, expr_tree-Chain, expr_tree-Conditional}
-use Rattle.flat_code.specs.declared.operations.Op.{Op}
-use Rattle.c_lower.specs.Operations.{unary_code}
 use Rattle.c_lower.specs.ExprCode.{expr_size, expr_code}
-use Rattle.c_lower.specs.Chains.{operands_code}
-use Rattle.c_lower.proofs.ChainCode.{OperandsFit, chained_fits}
+use Rattle.c_lower.proofs.ChainCode.{chained_fits}
 use Rattle.c_lower.proofs.ExprGlue.{conditional_glued, chain_begun, chain_turn}
 use Rattle.c_lower.proofs.Glue.{glued2, then_on_ok}
 use Rattle.c_lower.proofs.expressions.+expressions.Goals as goal

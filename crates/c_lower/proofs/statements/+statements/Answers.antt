@@ -34,9 +34,9 @@ put_stmt-returns-in_ok-put_condition-in-If t c =
     let size : c.in_ok-size_of_stmt-in-If.field-0 ≡ stmt_size first = c.in_ok-size_of_stmt-in-If.ensures ∙ ap (λ (x : Stmt). stmt_size (stmt_tree x)) c.deref-in-If.ensures in
     let to : c.in_ok-put_condition-in-If.field-0 ≡ length c0 + expr_size condition + stmt_size first + 1 = c.in_ok-put_condition-in-If.ensures.to ∙ ap (λ n. length c0 + expr_size condition + n + 1) size in
     rw (c.in-If.is, stmt_tree-If c.in-If.condition c.in-If.then)
-        (then_on_ok c.put_stmt.result
-        (λ e. if_glued c0 c1 _ condition first context.t context.leave context.skip _ to c.in_ok-put_condition-in-If.ensures.code (e ∙ ap (λ (x : Stmt). c1 ++ stmt_code (stmt_tree x) (length c1) context.t context.leave context.skip) c.deref-in-If-2.ensures))
-        c.put_stmt.ensures)
+    (then_on_ok c.put_stmt.result
+    (λ e. if_glued c0 c1 _ condition first context.t context.leave context.skip _ to c.in_ok-put_condition-in-If.ensures.code (e ∙ ap (λ (x : Stmt). c1 ++ stmt_code (stmt_tree x) (length c1) context.t context.leave context.skip) c.deref-in-If-2.ensures))
+    c.put_stmt.ensures)
 
 pub put_stmt-returns-in_ok-put_jump-in-IfElse : goal.put_stmt-returns-in_ok-put_jump-in-IfElse
 put_stmt-returns-in_ok-put_jump-in-IfElse t c =
@@ -54,9 +54,9 @@ put_stmt-returns-in_ok-put_jump-in-IfElse t c =
     let size2 : c.in_ok-size_of_stmt-in-IfElse-2.field-0 ≡ stmt_size second = c.in_ok-size_of_stmt-in-IfElse-2.ensures ∙ ap (λ (x : Stmt). stmt_size (stmt_tree x)) c.deref-in-IfElse-3.ensures in
     let e3 : c3 ≡ c2 ++ (Op.Jump (length c2 + stmt_size second + 1) ∷ []) = c.in_ok-put_jump-in-IfElse.ensures ∙ ap (λ n. c2 ++ (Op.Jump (length c2 + n + 1) ∷ [])) size2 in
     rw (c.in-IfElse.is, stmt_tree-IfElse c.in-IfElse.condition c.in-IfElse.then c.in-IfElse.otherwise)
-        (then_on_ok c.put_stmt-in-IfElse-2.result
-        (λ e. if_else_glued c0 c1 c2 c3 _ condition first second context.t context.leave context.skip _ to c.in_ok-put_condition-in-IfElse.ensures.code e2 e3 (e ∙ ap (λ (x : Stmt). c3 ++ stmt_code (stmt_tree x) (length c3) context.t context.leave context.skip) c.deref-in-IfElse-4.ensures))
-        c.put_stmt-in-IfElse-2.ensures)
+    (then_on_ok c.put_stmt-in-IfElse-2.result
+    (λ e. if_else_glued c0 c1 c2 c3 _ condition first second context.t context.leave context.skip _ to c.in_ok-put_condition-in-IfElse.ensures.code e2 e3 (e ∙ ap (λ (x : Stmt). c3 ++ stmt_code (stmt_tree x) (length c3) context.t context.leave context.skip) c.deref-in-IfElse-4.ensures))
+    c.put_stmt-in-IfElse-2.ensures)
 
 pub put_stmt-returns-in_ok-put_stmt-in-While : goal.put_stmt-returns-in_ok-put_stmt-in-While
 put_stmt-returns-in_ok-put_stmt-in-While t c =
@@ -70,9 +70,9 @@ put_stmt-returns-in_ok-put_stmt-in-While t c =
     let to : c.in_ok-leave-in-While.leave ≡ length c0 + expr_size condition + stmt_size body + 2 = c.in_ok-leave-in-While.ensures.to ∙ ap (λ n. length c0 + expr_size condition + n + 2) size in
     let e2 : c2 ≡ c1 ++ stmt_code body (length c1) context.t c.in_ok-leave-in-While.leave c.in_ok-skip-in-While.skip = c.in_ok-put_stmt-in-While.ensures ∙ ap (λ (x : Stmt). c1 ++ stmt_code (stmt_tree x) (length c1) context.t c.in_ok-leave-in-While.leave c.in_ok-skip-in-While.skip) c.deref-in-While-2.ensures in
     rw (c.in-While.is, stmt_tree-While c.in-While.condition c.in-While.body)
-        (then_on_ok c.put.result
-        (while_glued c0 c1 c2 _ condition body context.t context.leave context.skip _ _ c.in_ok-skip-in-While.ensures to c.in_ok-leave-in-While.ensures.code e2)
-        c.put.ensures)
+    (then_on_ok c.put.result
+    (while_glued c0 c1 c2 _ condition body context.t context.leave context.skip _ _ c.in_ok-skip-in-While.ensures to c.in_ok-leave-in-While.ensures.code e2)
+    c.put.ensures)
 
 pub put_stmt-returns-in_ok-put_step-in-For : goal.put_stmt-returns-in_ok-put_step-in-For
 put_stmt-returns-in_ok-put_step-in-For t c =
@@ -95,6 +95,6 @@ put_stmt-returns-in_ok-put_step-in-For t c =
     ∙ ap (λ (x : Stmt). c2 ++ stmt_code (stmt_tree x) (length c2) inside.t inside.leave inside.skip) c.deref-in-For-3.ensures
     ∙ ap (λ n. c2 ++ stmt_code body (length c2) n inside.leave inside.skip) c.in_ok-inside-in-For.ensures.t in
     rw (c.in-For.is, stmt_tree-For c.in-For.init c.in-For.condition c.in-For.step c.in-For.body)
-        (then_on_ok c.put-in-For.result
-        (for_glued c0 c1 c2 c3 c4 _ init condition step body context.t context.leave context.skip _ inside.skip inside.leave e1 c.in_ok-turn-in-For.ensures next c.in_ok-inside-in-For.ensures.leave c.in_ok-put_test-in-For.ensures e3 c.in_ok-put_step-in-For.ensures)
-        c.put-in-For.ensures)
+    (then_on_ok c.put-in-For.result
+    (for_glued c0 c1 c2 c3 c4 _ init condition step body context.t context.leave context.skip _ inside.skip inside.leave e1 c.in_ok-turn-in-For.ensures next c.in_ok-inside-in-For.ensures.leave c.in_ok-put_test-in-For.ensures e3 c.in_ok-put_step-in-For.ensures)
+    c.put-in-For.ensures)
