@@ -20,5 +20,8 @@ mod simples;
 mod sizes;
 mod statements;
 
-pub use laws::samples_are_lowered;
+pub use laws::{
+    calls_have_their_rows, expressions_have_their_rows, samples_are_lowered,
+    simple_statements_have_their_rows, statements_have_their_rows,
+};
 pub use programs::lower;
