@@ -8,9 +8,11 @@
 #![tactic(auto)]
 
 mod examples;
+mod forms;
 mod frame_laws;
 mod laws;
 mod linked;
+mod stretches;
 mod world_laws;
 
 ghost use Rattle.std.specs.Prelude.{◌≡◌, ℕ, ◌+◌, List};
@@ -18,9 +20,11 @@ ghost use Rattle.machine_world.specs.World.{World};
 ghost use Rattle.machine_world.specs.Run.{world_after, and_then_after};
 
 pub use examples::local_examples;
+pub use forms::form_laws;
 pub use frame_laws::chain_law;
 pub use laws::{area_laws, chunk_laws};
 pub use linked::linked_example;
+pub use stretches::stretch_laws;
 pub use world_laws::{alone_laws, partition_laws, run_laws};
 
 /// A run of `m` steps and then `n` steps is a run of `m + n` steps, for any code and any world.
