@@ -1,7 +1,7 @@
 -- A step of one thread keeps the form of areas and thread: what is stored are words, chunks are taken free and given back
 -- held, and registers get words.
-use Rattle.std.proofs.Common.{◌≡◌, ℕ, ◌+◌, ◌*◌, ◌/◌, ◌%◌, ◌^◌, ◌<◌, ◌≤◌, Bool, true, false, nat_eq, List, [], ◌∷◌, length, get_or, set, Option, Some, None, refl, sym, ap, subst, ◌∙◌, arith, lit<, All, cond, inl, ⊎_elim}
-use Rattle.std.specs.Prelude.{IfSome, nat_lt, nat_le, sum}
+use Rattle.std.proofs.Common.{◌≡◌, ℕ, ◌+◌, ◌*◌, ◌/◌, ◌%◌, ◌^◌, ◌<◌, ◌≤◌, Bool, true, false, nat_eq, List, [], ◌∷◌, length, get_or, set, Option, Some, None, refl, sym, ap, subst, ◌∙◌, arith, cond, inl, ⊎_elim}
+use Rattle.std.specs.Prelude.{IfSome, nat_lt}
 use Rattle.std.proofs.lemmas.Bool.{cond_both, cases_lt, lt-ltb, le-ltb, eq-eqb, eqb-true}
 use Rattle.std.proofs.lemmas.List.{length-set, get_or_past}
 use Rattle.std.proofs.lemmas.List.Elements.{All-set, All-get_or}
@@ -17,13 +17,12 @@ use Rattle.rv_machine.specs.Bytes.{with_stored, with_half, with_word, Stored, No
 use Rattle.rv_machine.specs.Registers.{read, write}
 use Rattle.rv_machine.specs.Rows as rows
 use Rattle.rv_machine.specs.Step.{outcome, machine_after}
-use Rattle.rv_machine.specs.WordBytes.{byte_in}
 use Rattle.rv_machine.specs.Words.{IsWords, TellsWords}
 use Rattle.rv_machine.proofs.WordBytes.{word_with-below}
 use Rattle.rv_machine.proofs.WordLaws.{read-below, IsWords-outcome, TellsWords-outcome}
-use Rattle.machine_world.specs.Areas.{Areas, Spot, InGlobals, InTables, InPayload, spot_of, byte_on, byte_at, with_byte_on, with_byte}
+use Rattle.machine_world.specs.Areas.{Areas, Spot, InGlobals, InTables, InPayload, spot_of, byte_on, with_byte_on, with_byte}
 use Rattle.machine_world.specs.Held.{copies, copies_in}
-use Rattle.machine_world.specs.Local.{Core, Local, LocalMove, Calls, Starts, Ended, Trapped, NoRoom, Wrong, a0, a1, a2, sp, tp, t1, after_call, with_header, linked_on, unlinked_front, unlinked_on, chunk_with_payload, ended, trapped, asks_or_wrong, package_call, system_call, machine_of, local_move, local_step, with_result, passed}
+use Rattle.machine_world.specs.Local.{Core, Local, LocalMove, Calls, Starts, Ended, Trapped, NoRoom, Wrong, a0, a1, sp, tp, t1, after_call, with_header, linked_on, unlinked_front, unlinked_on, chunk_with_payload, ended, trapped, asks_or_wrong, package_call, system_call, machine_of, local_move, local_step, with_result, passed}
 use Rattle.machine_world.specs.Places.{Checked}
 use Rattle.machine_world.specs.WellFormed.{AreWords, AreWellFormed, IsCore}
 use Rattle.machine_world.proofs.AreaLaws.{IsPool-with_byte}
@@ -216,9 +215,10 @@ pub record HasForm (c : Checked) (l : Local) : Type 0 where
 KeepsForm-linked : (c : Checked) (l : Local) (found : Option Taken) → HasForm c l → taken_for l.areas.pool (read l.core.x t1) ≡ found → KeepsForm c (linked_on l found)
 KeepsForm-linked c l None form e = tt
 KeepsForm-linked c l (Some taken) form e =
-    let addresses = AreAddresses-taken l.areas.pool (read l.core.x t1) taken form.areas.pool e in
-    (AreWellFormed-taken c l.areas (read l.core.x t1) taken (read l.core.x tp) (read l.core.x sp) form.areas e (read-below l.core.x tp form.core.registers) (read-below l.core.x sp form.core.registers),
-     IsCore-after_call l.core (taken.chunk ∷ l.core.chain) _ _ form.core addresses.payload addresses.end)
+    let addresses = AreAddresses-taken l.areas.pool (read l.core.x t1) taken form.areas.pool e in (
+      AreWellFormed-taken c l.areas (read l.core.x t1) taken (read l.core.x tp) (read l.core.x sp) form.areas e (read-below l.core.x tp form.core.registers) (read-below l.core.x sp form.core.registers),
+      IsCore-after_call l.core (taken.chunk ∷ l.core.chain) _ _ form.core addresses.payload addresses.end,
+    )
 
 KeepsForm-front : (c : Checked) (l : Local) (given : ℕ) (chain : List ℕ) → HasForm c l → l.core.chain ≡ chain → KeepsForm c (unlinked_front l given chain)
 KeepsForm-front c l given [] form e = tt
@@ -226,9 +226,10 @@ KeepsForm-front c l given (front ∷ chain) form e =
     cond_both (nat_eq front given) _ (runs.Stops Wrong) (KeepsForm c)
     (λ same.
     let is : l.core.chain ≡ given ∷ chain = e ∙ ap (λ (k : ℕ). k ∷ chain) (eqb-true front given same) in
-    let held = front_is_held l given chain form.owns is in
-    (AreWellFormed-given c l given chain form.areas form.owns is,
-     IsCore-after_call l.core chain _ _ form.core (chunk_word-below l.areas.pool given 0 form.areas.pool held.0) (chunk_word-below l.areas.pool given 1 form.areas.pool held.0)))
+    let held = front_is_held l given chain form.owns is in (
+      AreWellFormed-given c l given chain form.areas form.owns is,
+      IsCore-after_call l.core chain _ _ form.core (chunk_word-below l.areas.pool given 0 form.areas.pool held.0) (chunk_word-below l.areas.pool given 1 form.areas.pool held.0),
+    ))
     (λ _. tt)
 
 KeepsForm-unlinked : (c : Checked) (l : Local) (found : Option ℕ) → HasForm c l → KeepsForm c (unlinked_on l found)
@@ -259,9 +260,10 @@ KeepsForm-call c l number form =
     (λ _. KeepsForm-asks c l (package_call number l.core.x))))))
 
 KeepsForm-move : (c : Checked) (l : Local) (o : rows.Outcome) → HasForm c l → IsWords (machine_after o (machine_of l)) → TellsWords o → KeepsForm c (local_move l o)
-KeepsForm-move c l (rows.Goes pc x stored) form words told =
-    (AreWellFormed-stored c l.areas pc x stored form.areas told,
-     record { pc = words.pc; count = words.count; registers = words.registers })
+KeepsForm-move c l (rows.Goes pc x stored) form words told = (
+  AreWellFormed-stored c l.areas pc x stored form.areas told,
+  record { pc = words.pc; count = words.count; registers = words.registers },
+)
 KeepsForm-move c l (rows.Asks number) form words told = KeepsForm-call c l number form
 KeepsForm-move c l (rows.Fails kind) form words told = tt
 

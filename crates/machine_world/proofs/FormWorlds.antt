@@ -1,8 +1,8 @@
 -- Every world of a run is well formed: at the start, after each step, and after each action.
-use Rattle.std.proofs.Common.{◌≡◌, ℕ, ◌+◌, ◌*◌, ◌^◌, ◌<◌, ◌≤◌, Bool, true, false, ltb, nat_eq, not, List, [], ◌∷◌, ◌++◌, length, get_or, set, replicate, Option, Some, None, refl, sym, ap, subst, ◌∙◌, arith, lit<, All, cond, ⊎_elim}
-use Rattle.std.specs.Prelude.{IfSome, nat_le, nat_lt, sum, ◌&&◌}
+use Rattle.std.proofs.Common.{◌≡◌, ℕ, ◌+◌, ◌^◌, ◌<◌, ◌≤◌, nat_eq, not, List, [], ◌∷◌, ◌++◌, length, set, Option, Some, None, refl, sym, subst, ◌∙◌, arith, lit<, ⊎_elim}
+use Rattle.std.specs.Prelude.{IfSome, nat_le, ◌&&◌}
 use Rattle.std.specs.List.{AllByRecursion}
-use Rattle.std.proofs.lemmas.Bool.{cond_both, cases_eq, cases_lt, cond-true, cond-false, eq-eqb, ne_eqb, eqb-true, eqb-false}
+use Rattle.std.proofs.lemmas.Bool.{cond_both, cases_eq, cases_lt, cond-true, cond-false, eq-eqb, ne_eqb, eqb-false}
 use Rattle.std.proofs.lemmas.List.{length-set, get_or_past}
 use Rattle.std.proofs.lemmas.List.Elements.{All-set, All-get_or, All-append, All-drop, All-replicate, All-from_recursion}
 use Rattle.cap_word.specs.Calls.{Call, Blocking, Immediate}
@@ -11,23 +11,22 @@ use Rattle.cap_word.specs.declared.calls.Ask.{Ask}
 use Rattle.cap_word.specs.declared.calls.Block.{Block}
 use Rattle.cap_word.specs.declared.stops.Stop.{Stop}
 use Rattle.cap_word.specs.declared.traps.TrapKind.{TrapKind}
-use Rattle.c_mean.specs.ModelledCalls.{Exchange, channel_of, oldest, blocking_row, immediate_row, Delivery, Arrival, Message, is_dropped, with_delivery}
+use Rattle.c_mean.specs.ModelledCalls.{Exchange, channel_of, blocking_row, immediate_row, Delivery, Arrival, Message, is_dropped, with_delivery}
 use Rattle.c_mean.specs.World.{empty_exchange}
 use Rattle.chunk_pool.specs.Pool.{Pool, Taken, taken_for, start_pool, end_of, payload_place_of, IsPool}
 use Rattle.machine_world.specs.Areas.{Areas}
 use Rattle.machine_world.specs.Chains.{held_copies}
 use Rattle.machine_world.specs.Counted.{IsCounted, KeepsCounted, IsCountedIf}
-use Rattle.machine_world.specs.Globals.{global_widths}
 use Rattle.machine_world.specs.Held.{copies}
 use Rattle.machine_world.specs.Local as local
 use Rattle.machine_world.specs.Local.{Local, LocalMove, local_step, passed, with_result}
 use Rattle.machine_world.specs.Numbered.{RiseBetween}
 use Rattle.machine_world.specs.Places.{Checked}
-use Rattle.machine_world.specs.Runs.{empty_world, started_on, start_world, Action, Deliver, Advance, Pick, Step, delivered, advanced, may_run, picked_at, picked, is_between, world_of, after_action, and_then, after_actions}
+use Rattle.machine_world.specs.Runs.{empty_world, started_on, start_world, Action, Deliver, Advance, Pick, Step, delivered, advanced, may_run, picked_at, picked, is_between, world_of, after_action}
 use Rattle.machine_world.specs.Threads.{Blocked, Thread, World, Setting, first_with, thread_of, replaced, without, with_thread, start_core, start_registers, most_threads, Move, Goes, Puts, Spawns, Blocks, Ends, Stops, Wrong, retired, resumed, unless_trap, printed, result_of, result_on, package_call, spawned, asked, stopped, moved, step_of, step_on, step}
-use Rattle.machine_world.specs.WellFormed.{AreWords, member_entries, AreWellFormed, IsCore, IsExchange, most_fuel, IsWellFormed, KeepsWellFormed, IsWellFormedIf, DeliversWords}
-use Rattle.machine_world.proofs.CountedLaws.{counted_start, counted_step, counted_action, first_with-number}
-use Rattle.machine_world.proofs.FormLaws.{word-below, Owns, HasForm, KeepsForm, KeepsForm-step, AreWellFormed-taken, AreAddresses-taken, IsCore-passed, IsCore-with_result}
+use Rattle.machine_world.specs.WellFormed.{AreWords, AreWellFormed, IsCore, IsExchange, most_fuel, IsWellFormed, KeepsWellFormed, IsWellFormedIf, DeliversWords}
+use Rattle.machine_world.proofs.CountedLaws.{counted_start, counted_step, counted_action}
+use Rattle.machine_world.proofs.FormLaws.{word-below, HasForm, KeepsForm, KeepsForm-step, AreWellFormed-taken, AreAddresses-taken, IsCore-passed, IsCore-with_result}
 
 -- ---- the threads
 

@@ -1,9 +1,9 @@
 -- Good stretches follow one another, and a good run can be done.
-use Rattle.std.proofs.Common.{◌≡◌, ℕ, zero, suc, ◌+◌, List, [], ◌∷◌, ◌++◌, replicate, Option, Some, None, refl, sym, ap, subst, ◌∙◌, arith}
-use Rattle.machine_world.specs.GoodRuns.{Entry, Comes, Waits, Turn, actions_of, all_actions, InWorld, IsGoodRun}
+use Rattle.std.proofs.Common.{◌≡◌, ℕ, zero, suc, ◌+◌, List, [], ◌∷◌, ◌++◌, replicate, Option, Some, None, refl, ap, subst, ◌∙◌, arith}
+use Rattle.machine_world.specs.GoodRuns.{Entry, Comes, Waits, Turn, all_actions, InWorld, IsGoodRun}
 use Rattle.machine_world.specs.Places.{Checked}
-use Rattle.machine_world.specs.Runs.{Action, Deliver, Advance, Pick, Step, after_action, after_actions, and_then, after_steps, world_of}
-use Rattle.machine_world.specs.Stretches.{IsFramedNext, OnWorld, IsGoodStretch, IsSound}
+use Rattle.machine_world.specs.Runs.{Deliver, Advance, Pick, Step, after_action, after_actions, and_then, after_steps, world_of}
+use Rattle.machine_world.specs.Stretches.{OnWorld, IsGoodStretch}
 use Rattle.machine_world.specs.Threads.{World, Setting, Move, Goes, Puts, Spawns, Blocks, Ends, Stops, Wrong, step}
 use Rattle.machine_world.proofs.ActionLaws.{after_actions-append}
 
@@ -59,8 +59,9 @@ IsGoodRun-done c s (Turn number cost ∷ entries) w good =
     leads_on (after_action s w (Pick number)) (λ begun. IsGoodStretch c s cost begun × InWorld (after_steps s cost begun) (IsGoodRun c s entries))
     (after_actions s (replicate cost Step ++ all_actions entries)) good
     (λ begun there.
-    let rest = leads_on (after_steps s cost begun) (IsGoodRun c s entries) (after_actions s (all_actions entries)) there.1 (IsGoodRun-done c s entries) in
-    (rest.0,
-     after_actions-append s (replicate cost Step) (all_actions entries) begun
-     ∙ ap (λ (found : Option World). and_then found (after_actions s (all_actions entries))) (steps_are_actions s cost begun)
-     ∙ rest.1))
+    let rest = leads_on (after_steps s cost begun) (IsGoodRun c s entries) (after_actions s (all_actions entries)) there.1 (IsGoodRun-done c s entries) in (
+      rest.0,
+      after_actions-append s (replicate cost Step) (all_actions entries) begun
+          ∙ ap (λ (found : Option World). and_then found (after_actions s (all_actions entries))) (steps_are_actions s cost begun)
+          ∙ rest.1,
+    ))

@@ -27,3 +27,4 @@ pub mod StandsFor
 pub mod StandsForWorld
 pub mod GoodRuns
 pub mod WellFormed
+pub mod DescendingSource

@@ -1,6 +1,6 @@
 -- What every world of a run keeps, whatever its code does: registers and memory are words, the pool keeps what pools keep,
 -- the areas have the sizes that the program declares, and the counts stay within the fuel.
-use Rattle.std.specs.Prelude.{◌≡◌, ℕ, ◌+◌, ◌*◌, ◌^◌, ◌<◌, ◌≤◌, List, [], ◌∷◌, length, map, sum, All, Option, Some, None}
+use Rattle.std.specs.Prelude.{◌≡◌, ℕ, ◌+◌, ◌*◌, ◌^◌, ◌<◌, ◌≤◌, List, length, map, sum, All, Option, Some, None}
 use Rattle.std.specs.List.{AllByRecursion, flat_map}
 use Rattle.c_mean.specs.ModelledCalls.{Exchange, Arrival, Message}
 use Rattle.chunk_pool.specs.Pool.{IsPool}
@@ -11,7 +11,7 @@ use Rattle.machine_world.specs.Globals.{global_widths}
 use Rattle.machine_world.specs.Local.{Core}
 use Rattle.machine_world.specs.Places.{Checked}
 use Rattle.machine_world.specs.Runs.{Action, Deliver, Advance, Pick, Step}
-use Rattle.machine_world.specs.Threads.{Thread, World, Setting, Move, Goes, Puts, Spawns, Blocks, Ends, Stops, Wrong}
+use Rattle.machine_world.specs.Threads.{World, Setting, Move, Goes, Puts, Spawns, Blocks, Ends, Stops, Wrong}
 
 abbrev pub AreWords : List ℕ → Type 0
 AreWords values = All (λ value. value < 2 ^ 32) values
