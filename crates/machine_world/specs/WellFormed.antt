@@ -18,7 +18,7 @@ AreWords values = All (λ value. value < 2 ^ 32) values
 
 -- the words of the tables: the entries of the members, table by table
 abbrev pub member_entries : Checked → List ℕ
-member_entries c = map (λ f. (fact_at c.certificate f).entry) (flat_map (λ row. row) c.flat.tables)
+member_entries c = flat_map (λ members. map (λ g. (fact_at c.certificate g).entry) members) c.flat.tables
 
 pub record AreWellFormed (c : Checked) (areas : Areas) : Type 0 where
   pub pool : IsPool areas.pool
