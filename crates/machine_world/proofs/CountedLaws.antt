@@ -2,7 +2,7 @@
 use Rattle.std.proofs.Common.{◌≡◌, ℕ, zero, suc, ◌+◌, ◌<◌, ◌≤◌, Bool, ltb, nat_eq, not, List, [], ◌∷◌, ◌++◌, length, Option, Some, None, refl, sym, ap, subst, ◌∙◌, arith, cond, ⊎_elim}
 use Rattle.std.specs.List.{range_with_len}
 use Rattle.std.proofs.lemmas.Bool.{cond_both, cases_eq, cases_lt, lt-ltb, le-ltb, cond-true, cond-false, eq-eqb, ne_eqb, eqb-true}
-use Rattle.std.specs.Prelude.{nat_le}
+use Rattle.std.specs.Prelude.{nat_le, ◌&&◌}
 use Rattle.cap_word.specs.Calls.{Call, Blocking, Immediate}
 use Rattle.cap_word.specs.Runs as runs
 use Rattle.cap_word.specs.declared.stops.Stop.{Stop}
@@ -16,7 +16,7 @@ use Rattle.machine_world.specs.Local.{Local, LocalMove, local_step, passed, with
 use Rattle.machine_world.specs.Held.{copies, KeepsCopies, size_of, KeepsSize}
 use Rattle.machine_world.specs.Threads.{Blocked, Thread, World, Setting, first_with, thread_of, replaced, without, with_thread, start_core, most_threads, Move, Goes, Puts, Spawns, Blocks, Ends, Stops, Wrong, retired, resumed, unless_trap, printed, result_of, package_call, spawned, asked, stopped, moved, step_of, step_on, step}
 use Rattle.machine_world.specs.Threads.{result_on}
-use Rattle.machine_world.specs.Runs.{empty_world, started_on, start_world, Action, Deliver, Advance, Pick, Step, picked_at, picked, world_of, after_action, and_then, after_actions}
+use Rattle.machine_world.specs.Runs.{empty_world, started_on, start_world, Action, Deliver, Advance, Pick, Step, delivered, advanced, may_run, picked_at, picked, is_between, world_of, after_action, and_then, after_actions}
 use Rattle.machine_world.specs.Chains.{held_copies}
 use Rattle.machine_world.specs.Numbered.{RiseBetween}
 use Rattle.machine_world.specs.Counted.{IsCounted, KeepsCounted, IsCountedIf}
@@ -50,7 +50,7 @@ RiseBetween-append : (from next : ℕ) (threads : List Thread) (t : Thread) → 
 RiseBetween-append from next [] t rise is_next = (omega arith, omega arith)
 RiseBetween-append from next (u ∷ us) t rise is_next = (rise.0, RiseBetween-append (u.number + 1) next us t rise.1 is_next)
 
-first_with-number : (number : ℕ) (threads : List Thread) (t : Thread) → first_with number threads ≡ Some t → t.number ≡ number
+pub first_with-number : (number : ℕ) (threads : List Thread) (t : Thread) → first_with number threads ≡ Some t → t.number ≡ number
 first_with-number number [] t found = absurd (cc)
 first_with-number number (u ∷ us) t found = ⊎_elim
     (λ (same : u.number ≡ number).
@@ -63,8 +63,8 @@ first_with-number number (u ∷ us) t found = ⊎_elim
 -- ---- worlds
 
 -- a thread of the world, by its number
-record IsLive (w : World) (thread : Thread) : Type 0 where
-  found : first_with thread.number w.threads ≡ Some thread
+pub record IsLive (w : World) (thread : Thread) : Type 0 where
+  pub found : first_with thread.number w.threads ≡ Some thread
 
 counted_retired : (w : World) (thread new : Thread) (areas : Areas) → IsCounted w → IsLive w thread → new.number ≡ thread.number →
     ((chunk : ℕ) → copies chunk new.core.chain + copies chunk areas.pool.free ≡ copies chunk thread.core.chain + copies chunk w.areas.pool.free) →
@@ -221,7 +221,7 @@ counted_start chunks words globals tables entry need =
 
 -- ---- actions
 
-counted_picked_at : (s : Setting) (w : World) (thread : Thread) (blocked : Option Blocked) → IsCounted w → IsLive w thread → IsCounted (picked_at s w thread blocked)
+pub counted_picked_at : (s : Setting) (w : World) (thread : Thread) (blocked : Option Blocked) → IsCounted w → IsLive w thread → IsCounted (picked_at s w thread blocked)
 counted_picked_at s w thread None counted live = record { numbered = counted.numbered; partition = counted.partition }
 counted_picked_at s w thread (Some blocked) counted live =
     let row = blocking_row s.caps w.exchange blocked.block in
@@ -231,8 +231,10 @@ counted_picked_at s w thread (Some blocked) counted live =
 counted_picked : (s : Setting) (w : World) (number : ℕ) (found : Option Thread) → IsCounted w → thread_of w number ≡ found → IsCountedIf (picked s w found)
 counted_picked s w number None counted e = tt
 counted_picked s w number (Some thread) counted e =
-    counted_picked_at s w thread thread.blocked counted
-    (record { found = ap (λ (n : ℕ). first_with n w.threads) (first_with-number number w.threads thread e) ∙ e })
+    cond_both (may_run s w thread.blocked) (Some (picked_at s w thread thread.blocked)) None IsCountedIf
+    (λ _. counted_picked_at s w thread thread.blocked counted
+    (record { found = ap (λ (n : ℕ). first_with n w.threads) (first_with-number number w.threads thread e) ∙ e }))
+    (λ _. tt)
 
 counted_world_of : (move : Move) → KeepsCounted move → IsCountedIf (world_of move)
 counted_world_of (Goes after) kept = kept
@@ -243,13 +245,21 @@ counted_world_of (Ends after) kept = kept
 counted_world_of (Stops stop) kept = tt
 counted_world_of Wrong kept = tt
 
-counted_action : (s : Setting) (w : World) (action : Action) → IsCounted w → IsCountedIf (after_action s w action)
+pub counted_action : (s : Setting) (w : World) (action : Action) → IsCounted w → IsCountedIf (after_action s w action)
 counted_action s w (Deliver delivery) counted =
-    cond_both (is_dropped s.backlog w.exchange delivery) w (record w { exchange = with_delivery w.exchange delivery }) IsCounted
+    cond_both (is_between w) (Some (delivered s w delivery)) None IsCountedIf
+    (λ _. cond_both (is_dropped s.backlog w.exchange delivery) w (record w { exchange = with_delivery w.exchange delivery }) IsCounted
     (λ _. counted)
+    (λ _. record { numbered = counted.numbered; partition = counted.partition }))
+    (λ _. tt)
+counted_action s w (Advance to) counted =
+    cond_both (is_between w && nat_le w.clock to) (Some (advanced w to)) None IsCountedIf
     (λ _. record { numbered = counted.numbered; partition = counted.partition })
-counted_action s w (Advance to) counted = record { numbered = counted.numbered; partition = counted.partition }
-counted_action s w (Pick number) counted = counted_picked s w number (thread_of w number) counted refl
+    (λ _. tt)
+counted_action s w (Pick number) counted =
+    cond_both (is_between w) (picked s w (thread_of w number)) None IsCountedIf
+    (λ _. counted_picked s w number (thread_of w number) counted refl)
+    (λ _. tt)
 counted_action s w Step counted = counted_world_of (step s w) (counted_step s w counted)
 
 counted_then : (found : Option World) (rest : World → Option World) → IsCountedIf found → ((w : World) → IsCounted w → IsCountedIf (rest w)) → IsCountedIf (and_then found rest)

@@ -22,3 +22,9 @@ pub mod Counted
 pub mod Alone
 pub mod Descending
 pub mod Keys
+pub mod Globals
+pub mod StandsFor
+pub mod StandsForWorld
+pub mod GoodRuns
+pub mod WellFormed
+pub mod DescendingSource

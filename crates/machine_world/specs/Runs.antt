@@ -1,7 +1,7 @@
 -- Runs of the machine world: what comes from outside, the choice of a thread, and steps, one action after another.
-use Rattle.std.specs.Prelude.{ℕ, zero, suc, List, [], ◌∷◌, Option, Some, None, if◌then◌else◌}
+use Rattle.std.specs.Prelude.{ℕ, zero, suc, Bool, true, ◌&&◌, List, [], ◌∷◌, Option, Some, None, is_none, if◌then◌else◌, nat_le}
 use Rattle.cap_word.specs.declared.calls.Block.{Block}
-use Rattle.c_mean.specs.ModelledCalls.{BlockingRow, blocking_row, Delivery, is_dropped, with_delivery}
+use Rattle.c_mean.specs.ModelledCalls.{BlockingRow, blocking_row, is_ready, Delivery, is_dropped, with_delivery}
 use Rattle.c_mean.specs.World.{empty_exchange}
 use Rattle.chunk_pool.specs.Pool.{Taken, taken_for, start_pool}
 use Rattle.machine_world.specs.Areas.{Areas}
@@ -26,12 +26,13 @@ start_world chunks words globals tables entry need =
 
 -- ---- actions
 
+-- what comes from outside, the clock and picks move a world between segments alone
 pub data Action : Type 0 where
   -- something comes from outside
   Deliver : (delivery : Delivery) → Action
-  -- the clock goes to a time
+  -- the clock goes on to a time, which isn't past
   Advance : (to : ℕ) → Action
-  -- a segment of a thread begins
+  -- a segment of a live thread begins that is ready, or hasn't run yet
   Pick : (number : ℕ) → Action
   -- one step of the running thread
   Step : Action
@@ -56,9 +57,14 @@ abbrev pub picked_at : Setting → World → Thread → Option Blocked → World
 picked_at s w thread None = record w { running = Some thread.number }
 picked_at s w thread (Some blocked) = picked_row w thread blocked.block (blocking_row s.caps w.exchange blocked.block)
 
+-- a thread that hasn't run yet may run; one that is blocked may where it is ready
+abbrev pub may_run : Setting → World → Option Blocked → Bool
+may_run s w None = true
+may_run s w (Some blocked) = is_ready s.caps w.exchange w.clock blocked.since blocked.block
+
 abbrev pub picked : Setting → World → Option Thread → Option World
 picked s w None = None
-picked s w (Some thread) = Some (picked_at s w thread thread.blocked)
+picked s w (Some thread) = if may_run s w thread.blocked then Some (picked_at s w thread thread.blocked) else None
 
 -- the world that a move leads to; none where the run stops or is wrong
 abbrev pub world_of : Move → Option World
@@ -70,11 +76,15 @@ world_of (Ends after) = Some after
 world_of (Stops stop) = None
 world_of Wrong = None
 
+-- no segment is under way
+abbrev pub is_between : World → Bool
+is_between w = is_none w.running
+
 -- the world after an action; none where it can't be done
 abbrev pub after_action : Setting → World → Action → Option World
-after_action s w (Deliver delivery) = Some (delivered s w delivery)
-after_action s w (Advance to) = Some (advanced w to)
-after_action s w (Pick number) = picked s w (thread_of w number)
+after_action s w (Deliver delivery) = if is_between w then Some (delivered s w delivery) else None
+after_action s w (Advance to) = if is_between w && nat_le w.clock to then Some (advanced w to) else None
+after_action s w (Pick number) = if is_between w then picked s w (thread_of w number) else None
 after_action s w Step = world_of (step s w)
 
 abbrev pub and_then : Option World → (World → Option World) → Option World

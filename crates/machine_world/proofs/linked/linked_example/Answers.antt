@@ -8,11 +8,10 @@ use Rattle.rv_machine.specs.Effect.{effect}
 use Rattle.rv_machine.specs.Rows.{passes, sets, jumps, branches, word_loaded, loads, word_stored}
 use Rattle.rv_machine.specs.Step.{instruction_at, started, outcome}
 use Rattle.machine_world.specs.Areas.{spot_of}
-use Rattle.machine_world.specs.Descending.{checked, at_link, main_frame, caller_frame}
-use Rattle.machine_world.specs.InPlace.{IsFrame}
 use Rattle.machine_world.specs.Local.{local_step}
 use Rattle.machine_world.specs.Runs.{start_world}
 use Rattle.machine_world.specs.Threads.{step}
+use Rattle.machine_world.proofs.DescendingFrames.{main_in_place, caller_in_place, entered_frames}
 use Rattle.machine_world.proofs.linked.linked_example.Goals as goal
 
 pub returns-clause-code : goal.returns-clause-code
@@ -43,13 +42,6 @@ pub returns-clause-inside : goal.returns-clause-inside
 unfolding start_world step local_step outcome instruction_at started effect passes sets jumps branches word_loaded loads word_stored half_at word_at with_half with_word half_is_writable word_is_writable spot_of word_of add sub slt flag signed jump_register branch load store shift with_immediate base alternate multiply with_register fence system decoding
 returns-clause-inside c = refl
 
--- main below f(1), in one chunk
-main_in_place : IsFrame checked at_link.pool main_frame
-main_in_place = record { function = lit< tt; chunk = lit< tt; lowest = lit≤ tt; highest = lit≤ tt; bound = lit≤ tt; first = refl }
-
-caller_in_place : IsFrame checked at_link.pool caller_frame
-caller_in_place = record { function = lit< tt; chunk = lit< tt; lowest = lit≤ tt; highest = lit≤ tt; bound = lit≤ tt; first = refl }
-
 pub returns-clause-linked_frames : goal.returns-clause-linked_frames
 returns-clause-linked_frames c = record {
   at = (lit< tt, lit< tt, refl);
@@ -59,12 +51,7 @@ returns-clause-linked_frames c = record {
 }
 
 pub returns-clause-entered_frames : goal.returns-clause-entered_frames
-returns-clause-entered_frames c = record {
-  at = (lit< tt, lit< tt, refl);
-  frames_are = (record { function = refl; operation = refl; chunk_is = refl; low_is = refl; bytes_are = refl; returns_are = refl }, (record { function = lit< tt; chunk = lit< tt; lowest = lit≤ tt; highest = lit≤ tt; bound = lit≤ tt; first = refl }, record { chunk = refl; low = refl; bytes = refl; returns = refl; called = (refl, (10, refl, refl)) }, (caller_in_place, record { chunk = refl; low = refl; bytes = refl; returns = refl; called = (refl, (2, refl, refl)) }, (main_in_place, refl, refl, refl))));
-  front = refl;
-  headers = (refl, (refl, refl));
-}
+returns-clause-entered_frames c = entered_frames
 
 -- the same in the pool as it is in the callee
 pub returns-clause-inside_frames : goal.returns-clause-inside_frames
