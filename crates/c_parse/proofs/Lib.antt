@@ -1,0 +1,17 @@
+pub mod Covers
+pub mod Forward
+pub mod Backward
+pub mod Ends
+pub mod Agreement
+pub mod Verdicts
+pub mod Outcome
+pub mod TreeAccepted
+pub mod TreeUnique
+pub mod Runs
+pub mod ExprRules
+pub mod OperandRules
+pub mod BracketRules
+pub mod NestedWhole
+pub mod CallChains
+pub mod SimpleRules
+pub mod LocalRules
