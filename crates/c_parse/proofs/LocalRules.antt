@@ -13,14 +13,10 @@ use Rattle.c_parse.specs.Reading.{sign_at, finishes, run}
 use Rattle.c_parse.specs.Tokens.{next_sign, next_place, rest_of, Passes, PassesName, PassesNumber, IsNotOpened}
 use Rattle.c_parse.specs.Grammar.{IsExpr, IsSize, IsLocal, AreMoreLocals, AreLocals}
 use Rattle.c_parse.specs.Steps.{Leads, Refused, ReadsExpr}
-use Rattle.c_parse.specs.StmtSteps.{ReadsSize, ReadsLocal, ReadsLocals}
+use Rattle.c_parse.specs.StmtSteps.{Sized, ReadsSize, ReadsLocal, ReadsLocals}
 use Rattle.c_parse.proofs.Runs.{run_sign, run_passes, run_too_deep, run_none, shorter_sign, passes_shorter, refuses_but, right_bracket_only}
 use Rattle.c_parse.proofs.ExprRules.{pass_run, pass_end}
 use Rattle.c_parse.proofs.TreeAccepted.{number_passes}
-
--- the tasks that come to a size
-abbrev pub Sized : Task → List Task → Type 0
-Sized todo left = tasks.move todo signs.LeftBracket ≡ tasks.Take (tasks.Token signs.Number ∷ tasks.Token signs.RightBracket ∷ left)
 
 sized_step : (todo : Task) (left rest : List Task) → Sized todo left → step (todo ∷ rest) signs.LeftBracket ≡ Some ((tasks.Token signs.Number ∷ tasks.Token signs.RightBracket ∷ left) ++ rest)
 sized_step todo left rest e = ap (λ m. after_move m rest (step rest signs.LeftBracket)) e

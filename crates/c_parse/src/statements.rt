@@ -24,7 +24,6 @@ pub(crate) fn block(
             }
             Sign::Int => {
                 let declared = locals(text, cursor, inside)?;
-                cursor.take(text, Sign::Semicolon)?;
                 for simple in declared {
                     stmts.push(RawStmt::Simple(simple))?;
                 }
@@ -114,17 +113,19 @@ fn for_statement(text: Text, cursor: &mut Cursor, depth: u32) -> Result<RawStmt,
 
 // The first part of a `for`, with its `;`.
 fn for_init(text: Text, cursor: &mut Cursor, depth: u32) -> Result<Vec<RawSimple>, ParseError> {
-    let init = match cursor.sign() {
-        Sign::Semicolon => Vec::new(text.alloc),
-        Sign::Int => locals(text, cursor, depth)?,
+    match cursor.sign() {
+        Sign::Semicolon => {
+            cursor.pass();
+            Ok(Vec::new(text.alloc))
+        }
+        Sign::Int => locals(text, cursor, depth),
         _ => {
             let mut init = Vec::new(text.alloc);
             init.push(simple(text, cursor, depth)?)?;
-            init
+            cursor.take(text, Sign::Semicolon)?;
+            Ok(init)
         }
-    };
-    cursor.take(text, Sign::Semicolon)?;
-    Ok(init)
+    }
 }
 
 // An expression that may be left out, with the `;` behind it.
