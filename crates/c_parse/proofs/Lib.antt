@@ -15,3 +15,4 @@ pub mod NestedWhole
 pub mod CallChains
 pub mod SimpleRules
 pub mod LocalRules
+pub mod SignTests
