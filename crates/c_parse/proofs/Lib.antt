@@ -15,3 +15,6 @@ pub mod NestedWhole
 pub mod CallChains
 pub mod SimpleRules
 pub mod LocalRules
+pub mod Paths
+pub mod PlainRules
+pub mod BodyRules
