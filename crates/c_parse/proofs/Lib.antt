@@ -16,3 +16,6 @@ pub mod CallChains
 pub mod SimpleRules
 pub mod LocalRules
 pub mod SignTests
+pub mod Paths
+pub mod PlainRules
+pub mod BodyRules

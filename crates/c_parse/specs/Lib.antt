@@ -9,3 +9,4 @@ pub mod Steps
 pub mod StmtSteps
 pub mod NestedCalls
 pub mod Refusals
+pub mod BodySteps

@@ -1,85 +1,113 @@
 // Statements (ISO/IEC 9899:2018, 6.8).
+ghost use Rattle.std.specs.Prelude.{◌≡◌, ◌≢◌, ◌≤◌, [], ◌∷◌, IfOk, IfErr, map};
+ghost use Rattle.c_tree.specs.RawViews.{raw_stmt_tree, raw_stmt_trees};
+ghost use Rattle.c_parse.specs.declared.signs.Sign.{Sign};
+ghost use Rattle.c_parse.specs.Machine.{Body, BlockItems};
+ghost use Rattle.c_parse.specs.Tokens.{next_sign};
+ghost use Rattle.c_parse.specs.Steps.{Refused};
+ghost use Rattle.c_parse.specs.BodySteps.{RefusedInside, ReadsBody, ReadsBlock, RefusedBlock, ReadsBlockItem};
 
 use crate::cursor::{Cursor, Text};
 use crate::errors::ParseError;
-use crate::expressions::{expression, parenthesized};
-use crate::simples::{locals, simple};
+use crate::expressions::parenthesized;
+use crate::loops::for_parts;
+use crate::plain_statements::{
+    break_statement,
+    continue_statement,
+    declarations,
+    return_statement,
+    simple_statement,
+};
 use crate::signs::Sign;
-use c_tree::{RawExpr, RawSimple, RawStmt};
+use c_tree::RawStmt;
 
-/// A block: statements between braces. A declaration of several names is several statements.
+/// A block: statements between braces, the first of which comes next. A declaration of several names is several
+/// statements.
 #[cycle(statement)]
 pub(crate) fn block(
     text: Text,
     cursor: &mut Cursor,
     depth: u32,
-) -> Result<Vec<RawStmt>, ParseError> {
-    let inside = cursor.open_with(text, Sign::LeftBrace, depth)?;
+) -> Result<Vec<RawStmt>, ParseError>
+    requires fits { depth ≤ 64 }
+    requires brace { next_sign cursor.old.tokens.now ≡ Sign.LeftBrace }
+    ensures read { IfOk result (λ ss. ReadsBlock text.entry.bytes.now text.entry.end depth cursor.old.tokens.now (raw_stmt_trees ss.items) cursor.new.tokens.now) }
+    ensures refused { IfErr result (λ error. RefusedBlock text.entry.end depth cursor.old.tokens.now error) }
+{
+    let inside = cursor.open(text, depth)?;
     let mut stmts = Vec::new(text.alloc);
-    loop {
-        match cursor.sign() {
-            Sign::RightBrace => {
-                cursor.pass();
-                return Ok(stmts);
-            }
-            Sign::Int => {
-                let declared = locals(text, cursor, inside)?;
-                for simple in declared {
-                    stmts.push(RawStmt::Simple(simple))?;
-                }
-            }
-            _ => stmts.push(statement(text, cursor, inside)?)?,
-        }
+    while cursor.sign() != Sign::RightBrace {
+        block_item(text, cursor, inside, &mut stmts)?;
     }
+    cursor.pass();
+    Ok(stmts)
 }
 
-/// A statement that is no declaration.
+// A statement of a block, or the declarations of one list.
 #[cycle(statement)]
-fn statement(text: Text, cursor: &mut Cursor, depth: u32) -> Result<RawStmt, ParseError> {
-    let at = cursor.place(text);
+fn block_item(
+    text: Text,
+    cursor: &mut Cursor,
+    depth: u32,
+    stmts: &mut Vec<RawStmt>,
+) -> Result<(), ParseError>
+    requires fits { depth ≤ 64 }
+    requires some { next_sign cursor.old.tokens.now ≢ Sign.RightBrace }
+    ensures read { IfOk result (λ _. ReadsBlockItem text.entry.bytes.now text.entry.end depth cursor.old.tokens.now (map raw_stmt_tree stmts.old.items) (map raw_stmt_tree stmts.new.items) cursor.new.tokens.now) }
+    ensures refused { IfErr result (λ error. RefusedInside text.entry.end depth BlockItems cursor.old.tokens.now error) }
+{
+    if cursor.sign() == Sign::Int {
+        return declarations(text, cursor, depth, stmts);
+    }
+    let stmt = statement(text, cursor, depth)?;
+    stmts.push(stmt)?;
+    Ok(())
+}
+
+// A statement that is no declaration.
+#[cycle(statement)]
+fn statement(text: Text, cursor: &mut Cursor, depth: u32) -> Result<RawStmt, ParseError>
+    requires { depth ≤ 64 }
+    ensures read { IfOk result (λ s. ReadsBody text.entry.bytes.now text.entry.end depth cursor.old.tokens.now (raw_stmt_tree s) cursor.new.tokens.now) }
+    ensures refused { IfErr result (λ error. Refused text.entry.end depth (Body ∷ []) cursor.old.tokens.now error) }
+{
     match cursor.sign() {
         Sign::Semicolon => {
             cursor.pass();
             Ok(RawStmt::Empty)
         }
-        Sign::LeftBrace => Ok(RawStmt::Block(block(text, cursor, depth)?)),
+        Sign::LeftBrace => {
+            let stmts = block(text, cursor, depth)?;
+            Ok(RawStmt::Block(stmts))
+        }
         Sign::If => if_statement(text, cursor, depth),
         Sign::While => while_statement(text, cursor, depth),
         Sign::For => for_statement(text, cursor, depth),
-        Sign::Break => {
-            cursor.pass();
-            cursor.take(text, Sign::Semicolon)?;
-            Ok(RawStmt::Break { at })
-        }
-        Sign::Continue => {
-            cursor.pass();
-            cursor.take(text, Sign::Semicolon)?;
-            Ok(RawStmt::Continue { at })
-        }
-        Sign::Return => {
-            cursor.pass();
-            let value = up_to_semicolon(text, cursor, depth)?;
-            Ok(RawStmt::Return { at, value })
-        }
-        _ => {
-            let simple = simple(text, cursor, depth)?;
-            cursor.take(text, Sign::Semicolon)?;
-            Ok(RawStmt::Simple(simple))
-        }
+        Sign::Break => break_statement(text, cursor, depth),
+        Sign::Continue => continue_statement(text, cursor, depth),
+        Sign::Return => return_statement(text, cursor, depth),
+        _ => simple_statement(text, cursor, depth),
     }
 }
 
-// `if`, with the `else` that follows, which belongs to the nearest `if`.
+// An `if`, which comes next, with the `else` behind it, which belongs to the nearest `if`.
 #[cycle(statement)]
-fn if_statement(text: Text, cursor: &mut Cursor, depth: u32) -> Result<RawStmt, ParseError> {
+fn if_statement(text: Text, cursor: &mut Cursor, depth: u32) -> Result<RawStmt, ParseError>
+    requires fits { depth ≤ 64 }
+    requires keyword { next_sign cursor.old.tokens.now ≡ Sign.If }
+    ensures read { IfOk result (λ s. ReadsBody text.entry.bytes.now text.entry.end depth cursor.old.tokens.now (raw_stmt_tree s) cursor.new.tokens.now) }
+    ensures refused { IfErr result (λ error. Refused text.entry.end depth (Body ∷ []) cursor.old.tokens.now error) }
+{
     let inside = cursor.open(text, depth)?;
     let condition = parenthesized(text, cursor, inside)?;
-    let then = Box::new(text.alloc, statement(text, cursor, inside)?)?;
+    let then = statement(text, cursor, inside)?;
+    let then = Box::new(text.alloc, then)?;
     if cursor.sign() != Sign::Else {
         return Ok(RawStmt::If { condition, then });
     }
     cursor.pass();
-    let otherwise = Box::new(text.alloc, statement(text, cursor, inside)?)?;
+    let otherwise = statement(text, cursor, inside)?;
+    let otherwise = Box::new(text.alloc, otherwise)?;
     Ok(RawStmt::IfElse {
         condition,
         then,
@@ -87,73 +115,37 @@ fn if_statement(text: Text, cursor: &mut Cursor, depth: u32) -> Result<RawStmt, 
     })
 }
 
+// A `while`, which comes next.
 #[cycle(statement)]
-fn while_statement(text: Text, cursor: &mut Cursor, depth: u32) -> Result<RawStmt, ParseError> {
+fn while_statement(text: Text, cursor: &mut Cursor, depth: u32) -> Result<RawStmt, ParseError>
+    requires fits { depth ≤ 64 }
+    requires keyword { next_sign cursor.old.tokens.now ≡ Sign.While }
+    ensures read { IfOk result (λ s. ReadsBody text.entry.bytes.now text.entry.end depth cursor.old.tokens.now (raw_stmt_tree s) cursor.new.tokens.now) }
+    ensures refused { IfErr result (λ error. Refused text.entry.end depth (Body ∷ []) cursor.old.tokens.now error) }
+{
     let inside = cursor.open(text, depth)?;
     let condition = parenthesized(text, cursor, inside)?;
-    let body = Box::new(text.alloc, statement(text, cursor, inside)?)?;
+    let body = statement(text, cursor, inside)?;
+    let body = Box::new(text.alloc, body)?;
     Ok(RawStmt::While { condition, body })
 }
 
+// A `for`, which comes next.
 #[cycle(statement)]
-fn for_statement(text: Text, cursor: &mut Cursor, depth: u32) -> Result<RawStmt, ParseError> {
+fn for_statement(text: Text, cursor: &mut Cursor, depth: u32) -> Result<RawStmt, ParseError>
+    requires fits { depth ≤ 64 }
+    requires keyword { next_sign cursor.old.tokens.now ≡ Sign.For }
+    ensures read { IfOk result (λ s. ReadsBody text.entry.bytes.now text.entry.end depth cursor.old.tokens.now (raw_stmt_tree s) cursor.new.tokens.now) }
+    ensures refused { IfErr result (λ error. Refused text.entry.end depth (Body ∷ []) cursor.old.tokens.now error) }
+{
     let inside = cursor.open(text, depth)?;
-    let parts = cursor.open_with(text, Sign::LeftParenthesis, inside)?;
-    let init = for_init(text, cursor, parts)?;
-    let condition = up_to_semicolon(text, cursor, parts)?;
-    let step = for_step(text, cursor, parts)?;
-    let body = Box::new(text.alloc, statement(text, cursor, inside)?)?;
+    let parts = for_parts(text, cursor, inside)?;
+    let body = statement(text, cursor, inside)?;
+    let body = Box::new(text.alloc, body)?;
     Ok(RawStmt::For {
-        init,
-        condition,
-        step,
+        init: parts.init,
+        condition: parts.condition,
+        step: parts.step,
         body,
     })
-}
-
-// The first part of a `for`, with its `;`.
-fn for_init(text: Text, cursor: &mut Cursor, depth: u32) -> Result<Vec<RawSimple>, ParseError> {
-    match cursor.sign() {
-        Sign::Semicolon => {
-            cursor.pass();
-            Ok(Vec::new(text.alloc))
-        }
-        Sign::Int => locals(text, cursor, depth),
-        _ => {
-            let mut init = Vec::new(text.alloc);
-            init.push(simple(text, cursor, depth)?)?;
-            cursor.take(text, Sign::Semicolon)?;
-            Ok(init)
-        }
-    }
-}
-
-// An expression that may be left out, with the `;` behind it.
-fn up_to_semicolon(
-    text: Text,
-    cursor: &mut Cursor,
-    depth: u32,
-) -> Result<Option<RawExpr>, ParseError> {
-    if cursor.sign() == Sign::Semicolon {
-        cursor.pass();
-        return Ok(None);
-    }
-    let value = expression(text, cursor, depth)?;
-    cursor.take(text, Sign::Semicolon)?;
-    Ok(Some(value))
-}
-
-// The last part of a `for`, with its `)`.
-fn for_step(
-    text: Text,
-    cursor: &mut Cursor,
-    depth: u32,
-) -> Result<Option<RawSimple>, ParseError> {
-    if cursor.sign() == Sign::RightParenthesis {
-        cursor.pass();
-        return Ok(None);
-    }
-    let step = simple(text, cursor, depth)?;
-    cursor.take(text, Sign::RightParenthesis)?;
-    Ok(Some(step))
 }

@@ -1,0 +1,6 @@
+use Rattle.c_parse.proofs.Paths.{exit}
+use Rattle.c_parse.proofs.PlainRules.{declarations_refused, declarations_read}
+use Rattle.c_parse.proofs.plain_statements.declarations.Goals as goal
+
+pub returns-in_err-declared-clause-refused : goal.returns-in_err-declared-clause-refused
+returns-in_err-declared-clause-refused c = exit _ _ c.from_residual.ensures.1 (declarations_refused _ _ _ _ c.requires.fits c.requires.int c.in_err-declared.ensures.refused)
