@@ -163,8 +163,8 @@ pub locals_more : (source : List ℕ) (end depth : ℕ) (a now b c : List Token)
 locals_more source end depth a now b c ss s low h comma behind k =
     record {
       tree = λ others after t.
-        let P : List RawSimpleTree → Type 0 = λ l. AreLocals source a l after in
-        subst P (sym (append_assoc ss (s ∷ []) others)) (h.tree (s ∷ others) after (AreMoreLocals.another_local (record { is_next = comma; behind = behind }) k.tree t));
+          let P : List RawSimpleTree → Type 0 = λ l. AreLocals source a l after in
+          subst P (sym (append_assoc ss (s ∷ []) others)) (h.tree (s ∷ others) after (AreMoreLocals.another_local (record { is_next = comma; behind = behind }) k.tree t));
       shorter = (let l1 = shorter_sign signs.Comma now comma (λ e. cc) in let l2 = ap length behind in let l3 = k.shorter in let l4 = h.shorter in omega arith);
       leads = λ rest o. h.leads rest o ∙ (more_run end depth now b low comma behind rest o ∙ k.leads rest o);
       small = (let m1 = h.small in let m2 = k.small in let j = simples_small ss s (1040 - 16 * depth) (omega arith) (omega arith) in omega arith);

@@ -16,13 +16,13 @@ returns-in_err-local-clause-refused c =
 pub loop-cursor-init : goal.loop-cursor-init
 loop-cursor-init c =
     rw (c.in_ok-push.ensures.items, c.new-simples.ensures.items)
-        (locals_first c.args.text.bytes.now c.args.text.end c.args.depth c.args.cursor.now.tokens.now c.pass.new.self.tokens.now c.local.new.cursor.tokens.now (raw_simple_tree c.in_ok-local.field-0) c.requires.int c.pass.ensures c.in_ok-local.ensures.read)
+    (locals_first c.args.text.bytes.now c.args.text.end c.args.depth c.args.cursor.now.tokens.now c.pass.new.self.tokens.now c.local.new.cursor.tokens.now (raw_simple_tree c.in_ok-local.field-0) c.requires.int c.pass.ensures c.in_ok-local.ensures.read)
 
 pub loop-cursor-preserved : goal.loop-cursor-preserved
 loop-cursor-preserved c =
     rw (c.in_ok-push-2.ensures.items, map-append)
-        (locals_more c.args.text.bytes.now c.args.text.end c.args.depth c.args.cursor.now.tokens.now c.loop-cursor.cursor.tokens.now c.pass-in-loop-cursor.new.self.tokens.now c.local-in-loop-cursor.new.cursor.tokens.now (map raw_simple_tree c.loop-cursor.simples.items) (raw_simple_tree c.in_ok-local-2.field-0) c.requires.fits c.loop-cursor.invariant (is_sign c.sign.ensures c.loop-cursor-test.ensures)
-        c.pass-in-loop-cursor.ensures c.in_ok-local-2.ensures.read)
+    (locals_more c.args.text.bytes.now c.args.text.end c.args.depth c.args.cursor.now.tokens.now c.loop-cursor.cursor.tokens.now c.pass-in-loop-cursor.new.self.tokens.now c.local-in-loop-cursor.new.cursor.tokens.now (map raw_simple_tree c.loop-cursor.simples.items) (raw_simple_tree c.in_ok-local-2.field-0) c.requires.fits c.loop-cursor.invariant (is_sign c.sign.ensures c.loop-cursor-test.ensures)
+    c.pass-in-loop-cursor.ensures c.in_ok-local-2.ensures.read)
 
 pub returns-in_err-local-2-clause-refused : goal.returns-in_err-local-2-clause-refused
 returns-in_err-local-2-clause-refused c =
