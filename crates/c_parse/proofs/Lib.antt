@@ -19,3 +19,8 @@ pub mod SignTests
 pub mod Paths
 pub mod PlainRules
 pub mod BodyRules
+pub mod ParameterRules
+pub mod GlobalRules
+pub mod TableRules
+pub mod FunctionRules
+pub mod ItemRules
