@@ -17,4 +17,5 @@ pub mod SimpleRules
 pub mod LocalRules
 pub mod Paths
 pub mod PlainRules
+pub mod LoopRules
 pub mod BodyRules
