@@ -4,7 +4,7 @@ use Rattle.c_parse.proofs.LoopRules.{init_none, init_locals, init_locals_refused
 use Rattle.c_parse.proofs.loops.for_init.Goals as goal
 
 pub returns-in-Semicolon-clause-read : goal.returns-in-Semicolon-clause-read
-returns-in-Semicolon-clause-read c = let r = init_none _ _ _ _ _ c.requires (arm_is c.sign.ensures c.in-Semicolon.is) c.pass.ensures in ?
+returns-in-Semicolon-clause-read c = rw c.new.ensures.items (init_none _ _ _ _ _ c.requires (arm_is c.sign.ensures c.in-Semicolon.is) c.pass.ensures)
 
 pub returns-in-Int-clause-read : goal.returns-in-Int-clause-read
 returns-in-Int-clause-read c = IfOk-weaker c.locals.result _ _ (λ x h. init_locals _ _ _ _ _ _ c.requires (arm_is c.sign.ensures c.in-Int.is) h) c.locals.ensures.read
