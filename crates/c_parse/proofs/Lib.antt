@@ -19,3 +19,4 @@ pub mod Paths
 pub mod PlainRules
 pub mod LoopRules
 pub mod BodyRules
+pub mod ParseRules

@@ -10,3 +10,4 @@ pub mod StmtSteps
 pub mod NestedCalls
 pub mod Refusals
 pub mod BodySteps
+pub mod Parsed
