@@ -703,7 +703,6 @@ b_Operand more signs.Minus = record { proper = λ p. proper_start OperandStart.m
 b_Operand more signs.Prefix = record { proper = λ p. proper_start OperandStart.prefix_sign more p.0 p.1; back = λ after c. let h = operand_back OperandStart.prefix_sign more after c in give (Covers.operand h.covered) h.taken }
 b_Operand more _ = tt
 
-
 b_Token_Name : (more : List Task) (sign : Sign) → Back (tasks.Token signs.Name ∷ more) sign (step (tasks.Token signs.Name ∷ more) sign)
 b_Token_Name more signs.Name = record { proper = λ p. p.1; back = λ after c. give (Covers.token refl c) Takes.token }
 b_Token_Name more _ = tt

@@ -44,8 +44,8 @@ block_start source end depth inside a b e opening low =
       so_far = record { go_on = λ others after t. let P : List Token → Type 0 = λ l. AreStmts true source l others after in subst P opening.1 t };
       shorter = passes_shorter p (λ e. cc);
       leads = λ todo z.
-        let q : Path end depth (todo ∷ []) a (tasks.BlockItems ∷ []) b = takes_alone (tasks.BlockItems ∷ []) p (λ e. cc) z (let i = opening.0 in omega arith) in
-        q.goes;
+          let q : Path end depth (todo ∷ []) a (tasks.BlockItems ∷ []) b = takes_alone (tasks.BlockItems ∷ []) p (λ e. cc) z (let i = opening.0 in omega arith) in
+          q.goes;
       small = omega arith;
     }
 
@@ -99,10 +99,12 @@ small_one s h = omega arith
 pub item_read : (source : List ℕ) (end depth : ℕ) (a b : List Token) (old new : List RawStmtTree) (s : RawStmtTree) → next_sign a ≢ signs.RightBrace → next_sign a ≢ signs.Int → ReadsBody source end depth a s b → new ≡ old ++ (s ∷ []) → ReadsBlockItem source end depth a old new b
 item_read source end depth a b old new s n1 n2 h pushed =
     record {
-      so_far = λ start k. record { go_on = λ others after t.
-        let P : RawStmtTrees → Type 0 = λ ss. AreStmts true source start ss after in
-        let q : stmts_before old (RawThen s others) ≡ stmts_before new others = sym (ap (λ l. stmts_before l others) pushed ∙ before_one old s others) in
-        subst P q (k.go_on (RawThen s others) after (AreStmts.another_stmt h.tree t)) };
+      so_far = λ start k. record {
+        go_on = λ others after t.
+            let P : RawStmtTrees → Type 0 = λ ss. AreStmts true source start ss after in
+            let q : stmts_before old (RawThen s others) ≡ stmts_before new others = sym (ap (λ l. stmts_before l others) pushed ∙ before_one old s others) in
+            subst P q (k.go_on (RawThen s others) after (AreStmts.another_stmt h.tree t));
+      };
       shorter = h.shorter;
       leads = λ rest o. block_run end a rest n1 n2 ∙ h.leads (tasks.BlockItems ∷ rest) (omega arith);
       small = λ m. let P : List RawStmtTree → Type 0 = AreSmall in subst P (sym pushed) (small_append old (s ∷ []) m (small_one s h.small));

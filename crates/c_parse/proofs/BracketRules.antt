@@ -55,9 +55,9 @@ parenthesized_read source end depth inside a b c d x e opening low h close =
       opened = e;
       shorter = (let l1 = shorter_sign signs.LeftParenthesis a e (λ e. cc) in let l2 = ap length opening.1 in let l3 = h.shorter in let l4 = passes_shorter close (λ e. cc) in omega arith);
       leads = λ rest o.
-        parenthesized_opened end depth inside a b e opening low rest o
-        ∙ (h.leads (tasks.Token signs.RightParenthesis ∷ rest) (let i = opening.0 in omega arith)
-        ∙ run_passes end (tasks.Token signs.RightParenthesis ∷ rest) close (λ e. cc) refl (let i = opening.0 in omega arith));
+          parenthesized_opened end depth inside a b e opening low rest o
+          ∙ (h.leads (tasks.Token signs.RightParenthesis ∷ rest) (let i = opening.0 in omega arith)
+          ∙ run_passes end (tasks.Token signs.RightParenthesis ∷ rest) close (λ e. cc) refl (let i = opening.0 in omega arith));
       small = (let i = opening.0 in let m = h.small in omega arith);
     }
 
@@ -198,25 +198,26 @@ pub arguments_more : (source : List ℕ) (end depth inside : ℕ) (a now b c : L
 arguments_more source end depth inside a now b c es x i low h comma behind k =
     record {
       tree = λ others after t.
-        let P : RawExprTrees → Type 0 = λ l. AreArguments source a l after in
-        subst P (sym (followed_more es x others)) (h.tree (And x others) after (AreMoreArguments.another_argument (record { is_next = comma; behind = behind }) k.tree t));
+          let P : RawExprTrees → Type 0 = λ l. AreArguments source a l after in
+          subst P (sym (followed_more es x others)) (h.tree (And x others) after (AreMoreArguments.another_argument (record { is_next = comma; behind = behind }) k.tree t));
       shorter = (let l1 = shorter_sign signs.Comma now comma (λ e. cc) in let l2 = ap length behind in let l3 = k.shorter in let l4 = h.shorter in omega arith);
       leads = λ rest o. h.leads rest o ∙ (comma_run end now b rest (omega arith) comma behind ∙ k.leads (tasks.MoreArguments ∷ rest) (omega arith));
       leads_simple = λ rest o. h.leads_simple rest o ∙ (comma_run end now b rest (omega arith) comma behind ∙ k.leads (tasks.MoreArguments ∷ rest) (omega arith));
       small = λ others s.
-        let n : length (es ++ (x ∷ [])) ≡ 1 + length es = omega (arith, length-append es (x ∷ [])) in
-        let m = k.small in
-        let e = ap (raw_arguments_temporaries 0) (followed_more es x others) in
-        let j = ap (λ l. raw_arguments_temporaries l others) n in
-        let g = h.small (And x others) (more_small (length es) x others depth (omega arith) (omega arith)) in
-        omega arith;
+          let n : length (es ++ (x ∷ [])) ≡ 1 + length es = omega (arith, length-append es (x ∷ [])) in
+          let m = k.small in
+          let e = ap (raw_arguments_temporaries 0) (followed_more es x others) in
+          let j = ap (λ l. raw_arguments_temporaries l others) n in
+          let g = h.small (And x others) (more_small (length es) x others depth (omega arith) (omega arith)) in
+          omega arith;
     }
 
 pub arguments_more_refused : (source : List ℕ) (end depth inside : ℕ) (a now b : List Token) (es : List RawExprTree) (error : ParseError) → inside ≡ 1 + depth → inside ≤ 64 → ReadingArguments source end depth a es now → next_sign now ≡ signs.Comma → b ≡ rest_of now
     → Refused end inside (tasks.Expr ∷ []) b error → Refused end depth (tasks.AfterName ∷ []) a error × Refused end depth (tasks.AfterSimpleName ∷ []) a error
-arguments_more_refused source end depth inside a now b es error i low h comma behind r =
-    (λ other rest o. h.leads rest o ∙ (comma_run end now b rest (omega arith) comma behind ∙ r other (tasks.MoreArguments ∷ rest) (omega arith)),
-    λ other rest o. h.leads_simple rest o ∙ (comma_run end now b rest (omega arith) comma behind ∙ r other (tasks.MoreArguments ∷ rest) (omega arith)))
+arguments_more_refused source end depth inside a now b es error i low h comma behind r = (
+  λ other rest o. h.leads rest o ∙ (comma_run end now b rest (omega arith) comma behind ∙ r other (tasks.MoreArguments ∷ rest) (omega arith)),
+  λ other rest o. h.leads_simple rest o ∙ (comma_run end now b rest (omega arith) comma behind ∙ r other (tasks.MoreArguments ∷ rest) (omega arith)),
+)
 
 more_refuses : (s : Sign) → s ≢ signs.Comma → s ≢ signs.RightParenthesis → tasks.more_arguments_move s ≡ tasks.Refuse
 more_refuses signs.Comma a b = absurd (a refl)
@@ -227,7 +228,7 @@ pub arguments_open_end : (source : List ℕ) (end depth : ℕ) (a now : List Tok
     → Refused end depth (tasks.AfterName ∷ []) a error × Refused end depth (tasks.AfterSimpleName ∷ []) a error
 arguments_open_end source end depth a now es error h no_comma no_close place =
     let stuck : (rest : List Task) → run end (tasks.MoreArguments ∷ rest) now ≡ Some error =
-      λ rest. run_none end (tasks.MoreArguments ∷ rest) now (ap (λ m. after_move m rest (step rest (next_sign now))) (more_refuses (next_sign now) no_comma no_close)) refl ∙ ap Some (sym place)
+    λ rest. run_none end (tasks.MoreArguments ∷ rest) now (ap (λ m. after_move m rest (step rest (next_sign now))) (more_refuses (next_sign now) no_comma no_close)) refl ∙ ap Some (sym place)
     in
     (λ other rest o. h.leads rest o ∙ stuck rest, λ other rest o. h.leads_simple rest o ∙ stuck rest)
 

@@ -35,7 +35,7 @@ refused_memory end depth todo before error e other = absurd (other e)
 one_made : ℕ → ℕ → List Token → Option (List Task) → Option ParseError
 one_made end at tokens made =
     elim made [
-      None ↦ Some (Unexpected at)
+      | None ↦ Some (Unexpected at)
       | Some after ↦ (if nat_le (open_tasks after) 64 then run end after tokens else Some (TooDeep at))
     ]
 
@@ -252,17 +252,17 @@ pub repeated_more : (source : List ℕ) (end depth level : ℕ) (a now b c : Lis
 repeated_more source end depth level a now b c rest operator operand low h is behind r =
     record {
       tree = λ left e after t.
-        let P : RawExprTree → Type 0 = λ l. IsRepeated source level l c e after in
-        h.tree left e after (IsRepeated.another (record { is_next = is.0; of_level = is.1; behind = behind }) r.tree (subst P (raw_chained_append left rest operator operand) t));
+          let P : RawExprTree → Type 0 = λ l. IsRepeated source level l c e after in
+          h.tree left e after (IsRepeated.another (record { is_next = is.0; of_level = is.1; behind = behind }) r.tree (subst P (raw_chained_append left rest operator operand) t));
       no_longer = (let l1 = h.no_longer in let l2 = operator_shorter level now b operator is behind in let l3 = r.shorter in omega arith);
       leads = λ more o. h.leads more o ∙ (operator_run end depth level now b operator is behind low more o ∙ r.leads more o);
       none_tighter = r.ended;
       small = λ left s.
-        let m1 = h.small left s in
-        let m2 = r.small in
-        let j = joined_small operator (raw_chained left rest) operand (1039 - (16 * depth + level)) (omega arith) (omega arith) in
-        let e = ap raw_temporaries (raw_chained_append left rest operator operand) in
-        omega arith;
+          let m1 = h.small left s in
+          let m2 = r.small in
+          let j = joined_small operator (raw_chained left rest) operand (1039 - (16 * depth + level)) (omega arith) (omega arith) in
+          let e = ap raw_temporaries (raw_chained_append left rest operator operand) in
+          omega arith;
     }
 
 pub repeated_done : (source : List ℕ) (end depth level : ℕ) (a now : List Token) (rest : List (Infix × RawExprTree)) → ReadingRepeated source end depth level a rest now → IsNoNextOperator level now → ReadsRepeated source end depth level a rest now

@@ -308,7 +308,6 @@ f_name_table c (Takes.by Alternative.index t) = token_then t (took refl (Covers.
 f_index_call : {way : Way} {more : List Task} {sign : Sign} {rest after : List Symbol} → Covers way more rest → Takes way (symbols.Parenthesized ∷ rest) sign after → Taken way (tasks.AfterIndex ∷ more) sign after
 f_index_call c (Takes.by Alternative.parenthesized t) = token_then t (took refl (Covers.expr (Covers.token refl c)))
 
-
 f_items : {way : Way} {sign : Sign} {after : List Symbol} → Takes way (symbols.Program ∷ []) sign after → Taken way (tasks.Items ∷ []) sign after
 f_items (Takes.by Alternative.no_more_items t) = elim t [ ]
 f_items (Takes.by Alternative.another_item (Takes.by Alternative.globals_item (Takes.by Alternative.globals t))) = token_then t (took refl (Covers.after_int_globals Covers.items))

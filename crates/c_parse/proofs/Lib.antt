@@ -15,6 +15,7 @@ pub mod NestedWhole
 pub mod CallChains
 pub mod SimpleRules
 pub mod LocalRules
+pub mod SignTests
 pub mod Paths
 pub mod PlainRules
 pub mod LoopRules

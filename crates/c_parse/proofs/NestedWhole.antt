@@ -179,4 +179,3 @@ items_whole (i ∷ is) h = (item_whole i (neither_left (nested_in_item i) (neste
 pub items_none : (is : List RawItemTree) → AreCallsWhole is → nested_in_items is ≡ None
 items_none [] h = refl
 items_none (i ∷ is) h = neither (item_none i h.0) (items_none is h.1)
-

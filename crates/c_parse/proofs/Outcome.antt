@@ -50,11 +50,11 @@ finished end front todo steps shallow (inr e) =
       place = refl;
       taken = can_take front (todo, steps);
       unfinished = λ rest taken nothing.
-        let f = follow taken start Covers.items refl in
-        let same : f.left ≡ todo = steps_same f.steps steps in
-        let done : finishes f.left ≡ true = nothing_finishes f.covered nothing in
-        let undone : finishes f.left ≡ false = ap finishes same ∙ e in
-        cc;
+          let f = follow taken start Covers.items refl in
+          let same : f.left ≡ todo = steps_same f.steps steps in
+          let done : finishes f.left ≡ true = nothing_finishes f.covered nothing in
+          let undone : finishes f.left ≡ false = ap finishes same ∙ e in
+          cc;
       not_too_deep = shallow;
     }))
 
@@ -90,11 +90,11 @@ deep_here end front token tokens todo after steps shallow e deep =
 still_shallow : (front : List Token) (token : Token) (todo after : List Task) → Steps start (signs_of front) todo → IsShallow front → step todo (sign_at token) ≡ Some after → open_tasks after ≤ 64 → IsShallow (front ++ (token ∷ []))
 still_shallow front token todo after steps shallow e low =
     shallow_more front token shallow (λ d.
-      let m = is_deep (front ++ (token ∷ [])) d in
-      let same : after ≡ m.0 = some_same e (next_step front token todo m.0 steps m.1) in
-      let opened = ap open_tasks same in
-      let deep = m.2 in
-      omega arith)
+    let m = is_deep (front ++ (token ∷ [])) d in
+    let same : after ≡ m.0 = some_same e (next_step front token todo m.0 steps m.1) in
+    let opened = ap open_tasks same in
+    let deep = m.2 in
+    omega arith)
 
 abbrev Onward : ℕ → Token → List Token → List Token → Type 0
 Onward end token tokens front = (after : List Task) → Steps start (signs_of (front ++ (token ∷ []))) after → IsShallow (front ++ (token ∷ [])) → Verdict end ((front ++ (token ∷ [])) ++ tokens) (run end after tokens)

@@ -63,19 +63,23 @@ move_step t s left rest e = ap (λ m. after_move m (left ++ rest) (step (left ++
 -- a token that the first task takes
 pub takes : {end depth : ℕ} {t : Task} {s : Sign} {a b : List Token} (left more : List Task) → Passes s a b → s ≢ signs.Finish → tasks.move t s ≡ tasks.Take more → open_tasks (more ++ left) + depth ≤ 64 → Path end depth (t ∷ left) a (more ++ left) b
 takes {end = n} {depth = d} {t = t'} {s = s'} {b = z} left more p some e low =
-    record { goes = λ rest o.
-      let k = open_append (more ++ left) rest in
-      let P : List Task → Type 0 = λ ts. open_tasks ts ≤ 64 in
-      run_passes n (t' ∷ (left ++ rest)) p some (move_step t' s' left rest e) (subst P (append_assoc more left rest) (omega arith)) ∙ ap (λ ts. run n ts z) (sym (append_assoc more left rest)) }
+    record {
+      goes = λ rest o.
+          let k = open_append (more ++ left) rest in
+          let P : List Task → Type 0 = λ ts. open_tasks ts ≤ 64 in
+          run_passes n (t' ∷ (left ++ rest)) p some (move_step t' s' left rest e) (subst P (append_assoc more left rest) (omega arith)) ∙ ap (λ ts. run n ts z) (sym (append_assoc more left rest));
+    }
 
 -- a token at which too many constructs would be open
 pub too_deep : {end depth : ℕ} {t : Task} {s : Sign} {a : List Token} {error : ParseError} (left more : List Task) → next_sign a ≡ s → s ≢ signs.Finish → tasks.move t s ≡ tasks.Take more → 64 < open_tasks (more ++ left) + depth → error ≡ TooDeep (next_place end a)
     → Stuck end depth (t ∷ left) a error
 too_deep {end = n} {depth = d} {t = t'} {s = s'} {a = x} left more e some m deep place =
-    record { ends = λ rest o.
-      let k = open_append (more ++ left) rest in
-      let P : List Task → Type 0 = λ ts. 64 < open_tasks ts in
-      run_too_deep n (t' ∷ (left ++ rest)) s' x e some (move_step t' s' left rest m) (subst P (append_assoc more left rest) (omega arith)) ∙ ap Some (sym place) }
+    record {
+      ends = λ rest o.
+          let k = open_append (more ++ left) rest in
+          let P : List Task → Type 0 = λ ts. 64 < open_tasks ts in
+          run_too_deep n (t' ∷ (left ++ rest)) s' x e some (move_step t' s' left rest m) (subst P (append_assoc more left rest) (omega arith)) ∙ ap Some (sym place);
+    }
 
 -- a token that the first task refuses
 pub refuses : {end depth : ℕ} {t : Task} {a : List Token} {error : ParseError} (left : List Task) → tasks.move t (next_sign a) ≡ tasks.Refuse → ((rest : List Task) → finishes (t ∷ rest) ≡ false) → error ≡ Unexpected (next_place end a) → Stuck end depth (t ∷ left) a error

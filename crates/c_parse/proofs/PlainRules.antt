@@ -174,10 +174,12 @@ declarations_refused end depth a error low e r other rest o = declared_run end d
 pub declarations_read : (source : List ℕ) (end depth : ℕ) (a b : List Token) (old new : List RawStmtTree) (ds : List RawSimpleTree) → depth ≤ 64 → next_sign a ≡ signs.Int → ReadsLocals source end depth a ds b → new ≡ old ++ map RawDo ds → ReadsBlockItem source end depth a old new b
 declarations_read source end depth a b old new ds low e h pushed =
     record {
-      so_far = λ start k. record { go_on = λ others after t.
-        let P : RawStmtTrees → Type 0 = λ ss. AreStmts true source start ss after in
-        let q : stmts_before old (declared_before ds others) ≡ stmts_before new others = sym (ap (λ l. stmts_before l others) pushed ∙ before_append old ds others) in
-        subst P q (k.go_on (declared_before ds others) after (AreStmts.declarations h.tree t)) };
+      so_far = λ start k. record {
+        go_on = λ others after t.
+            let P : RawStmtTrees → Type 0 = λ ss. AreStmts true source start ss after in
+            let q : stmts_before old (declared_before ds others) ≡ stmts_before new others = sym (ap (λ l. stmts_before l others) pushed ∙ before_append old ds others) in
+            subst P q (k.go_on (declared_before ds others) after (AreStmts.declarations h.tree t));
+      };
       shorter = h.shorter;
       leads = λ rest o. declared_run end depth a low e rest o ∙ h.leads (tasks.BlockItems ∷ rest) (omega arith);
       small = λ s. let P : List RawStmtTree → Type 0 = AreSmall in subst P (sym pushed) (small_append old (map RawDo ds) s (small_declared depth ds h.small));

@@ -174,9 +174,9 @@ stops_at level {s = s} {after = a} k p =
       parenthesis = λ e. plain_parenthesis k (sym p.is_next ∙ e);
       bracket = λ e. plain_bracket k (sym p.is_next ∙ e);
       operator = λ l v b h q.
-        let f = infix_sign l a b v q in
-        let P : Sign → Type 0 = Plain in
-        no_operator f.operator (subst P (sym p.is_next ∙ f.passes.is_next) k);
+          let f = infix_sign l a b v q in
+          let P : Sign → Type 0 = Plain in
+          no_operator f.operator (subst P (sym p.is_next ∙ f.passes.is_next) k);
     }
 
 closes_at : {s : Sign} {after b : List Token} → Plain s → (s ≡ signs.Question → ⊥) → Passes s after b → Closes after

@@ -31,7 +31,7 @@ one_token : ℕ → ℕ → List Token → Option (List Task) → Option ParseEr
 unfolding run
 one_token end at tokens made =
     elim made [
-      None ↦ Some (Unexpected at)
+      | None ↦ Some (Unexpected at)
       | Some after ↦ (if nat_le (open_tasks after) 64 then run end after tokens else Some (TooDeep at))
     ]
 

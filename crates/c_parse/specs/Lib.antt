@@ -11,3 +11,4 @@ pub mod NestedCalls
 pub mod Refusals
 pub mod BodySteps
 pub mod Parsed
+pub mod ItemSteps

@@ -33,6 +33,6 @@ unfoldable pub run : ℕ → List Task → List Token → Option ParseError
 run end todo [] = if finishes todo then None else Some (Unexpected end)
 run end todo (token ∷ tokens) =
     elim (step todo (sign_at token)) [
-      None ↦ Some (Unexpected token.at)
+      | None ↦ Some (Unexpected token.at)
       | Some after ↦ (if nat_le (open_tasks after) 64 then run end after tokens else Some (TooDeep token.at))
     ]

@@ -5,7 +5,6 @@ use Rattle.c_lex.specs.declared.marks.Mark.{Mark}
 use Rattle.c_lex.specs.declared.marks.Mark.TheVariants as marks
 use Rattle.c_lex.specs.declared.tokens.TokenKind.{TokenKind}
 use Rattle.c_lex.specs.declared.tokens.TokenKind.TheVariants as kinds
-
 use Rattle.c_parse.specs.declared.signs.Sign.{Sign}
 use Rattle.c_parse.specs.declared.signs.Sign.TheVariants as signs
 

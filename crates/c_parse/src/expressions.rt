@@ -16,11 +16,7 @@ use c_tree::{Infix, Name, RawExpr};
 
 /// An expression, where `depth` constructs are open.
 #[cycle(expression)]
-pub(crate) fn expression(
-    text: Text,
-    cursor: &mut Cursor,
-    depth: u32,
-) -> Result<RawExpr, ParseError>
+pub(crate) fn expression(text: Text, cursor: &mut Cursor, depth: u32) -> Result<RawExpr, ParseError>
     requires { depth ≤ 64 }
     ensures read { IfOk result (λ e. ReadsExpr text.entry.bytes.now text.entry.end depth cursor.old.tokens.now (raw_expr_tree e) cursor.new.tokens.now) }
     ensures refused { IfErr result (λ error. Refused text.entry.end depth (Expr ∷ []) cursor.old.tokens.now error) }
@@ -61,12 +57,7 @@ fn conditional(
 
 // Operands with operators of this level and the tighter ones between them.
 #[cycle(expression)]
-fn binary(
-    text: Text,
-    cursor: &mut Cursor,
-    depth: u32,
-    level: u32,
-) -> Result<RawExpr, ParseError>
+fn binary(text: Text, cursor: &mut Cursor, depth: u32, level: u32) -> Result<RawExpr, ParseError>
     requires fits { depth ≤ 64 }
     requires of_level { level ≤ 10 }
     ensures read { IfOk result (λ e. ReadsBinary text.entry.bytes.now text.entry.end depth level cursor.old.tokens.now (raw_expr_tree e) cursor.new.tokens.now) }
@@ -170,12 +161,7 @@ fn primary(text: Text, cursor: &mut Cursor, depth: u32) -> Result<RawExpr, Parse
 
 // What begins with the name: an element, a call, a call through a table, or the name alone.
 #[cycle(expression)]
-fn named(
-    text: Text,
-    cursor: &mut Cursor,
-    depth: u32,
-    name: Name,
-) -> Result<RawExpr, ParseError>
+fn named(text: Text, cursor: &mut Cursor, depth: u32, name: Name) -> Result<RawExpr, ParseError>
     requires { depth ≤ 64 }
     ensures read { IfOk result (λ e. ReadsNamed text.entry.bytes.now text.entry.end depth (name_tree name) cursor.old.tokens.now (raw_expr_tree e) cursor.new.tokens.now) }
     ensures refused { IfErr result (λ error. Refused text.entry.end depth (AfterName ∷ []) cursor.old.tokens.now error) }
@@ -241,11 +227,7 @@ pub(crate) fn parenthesized(
 
 /// An expression between brackets, the first of which comes next.
 #[cycle(expression)]
-pub(crate) fn bracketed(
-    text: Text,
-    cursor: &mut Cursor,
-    depth: u32,
-) -> Result<RawExpr, ParseError>
+pub(crate) fn bracketed(text: Text, cursor: &mut Cursor, depth: u32) -> Result<RawExpr, ParseError>
     requires fits { depth ≤ 64 }
     requires bracket { next_sign cursor.old.tokens.now ≡ Sign.LeftBracket }
     ensures read { IfOk result (λ e. ReadsIndex text.entry.bytes.now text.entry.end depth cursor.old.tokens.now (raw_expr_tree e) cursor.new.tokens.now) }

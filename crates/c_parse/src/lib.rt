@@ -11,6 +11,7 @@
 mod cursor;
 mod errors;
 mod expressions;
+mod functions;
 mod globals;
 mod items;
 mod laws;

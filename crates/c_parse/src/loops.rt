@@ -71,11 +71,7 @@ fn simple_init(text: Text, cursor: &mut Cursor, depth: u32) -> Result<Vec<RawSim
 }
 
 // The last part, with the `)` behind it.
-fn for_step(
-    text: Text,
-    cursor: &mut Cursor,
-    depth: u32,
-) -> Result<Option<RawSimple>, ParseError>
+fn for_step(text: Text, cursor: &mut Cursor, depth: u32) -> Result<Option<RawSimple>, ParseError>
     requires { depth ≤ 64 }
     ensures read { IfOk result (λ last. ReadsForStep text.entry.bytes.now text.entry.end depth cursor.old.tokens.now (option_map raw_simple_tree last) cursor.new.tokens.now) }
     ensures refused { IfErr result (λ error. RefusedInside text.entry.end depth ForStep cursor.old.tokens.now error) }

@@ -129,10 +129,13 @@ fn nested_in_simple(simple: &RawSimple) -> Option<u32>
 {
     match simple {
         RawSimple::DeclareScalar { .. } | RawSimple::DeclareArray { .. } => None,
-        RawSimple::DeclareWith { value, .. } | RawSimple::Set { value, .. } =>
+        RawSimple::DeclareWith { value, .. } | RawSimple::Set { value, .. } => nested_in_value(
+            value,
+        ),
+        RawSimple::SetElement { index, value, .. } => first(
+            first_call(index),
             nested_in_value(value),
-        RawSimple::SetElement { index, value, .. } =>
-            first(first_call(index), nested_in_value(value)),
+        ),
         RawSimple::Call { arguments, .. } => first_call_of(arguments),
         RawSimple::TableCall {
             index,
@@ -157,10 +160,7 @@ fn nested_in_value(value: &RawExpr) -> Option<u32>
         RawExpr::Element { index, .. } => first_call(index),
         RawExpr::Unary { operand, .. } => first_call(operand),
         RawExpr::Parenthesized(inner) => first_call(inner),
-        RawExpr::Chain {
-            first: left,
-            rest,
-        } => {
+        RawExpr::Chain { first: left, rest } => {
             if rest.is_empty() {
                 nested_in_value(left)
             } else {
@@ -189,10 +189,7 @@ fn first_call(expr: &RawExpr) -> Option<u32>
         RawExpr::Element { index, .. } => first_call(index),
         RawExpr::Unary { operand, .. } => first_call(operand),
         RawExpr::Parenthesized(inner) => first_call(inner),
-        RawExpr::Chain {
-            first: left,
-            rest,
-        } => {
+        RawExpr::Chain { first: left, rest } => {
             let mut found = first_call(left);
             for (_, operand) in rest {
                 found = first(found, first_call(operand));

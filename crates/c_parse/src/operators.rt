@@ -36,8 +36,7 @@ pub(crate) fn infix_of(kind: TokenKind) -> Option<Infix>
         TokenKind::Mark(Mark::Less) => Some(Infix::Binary(BinaryOperator::Less)),
         TokenKind::Mark(Mark::LessEqual) => Some(Infix::Binary(BinaryOperator::LessOrEqual)),
         TokenKind::Mark(Mark::Greater) => Some(Infix::Binary(BinaryOperator::Greater)),
-        TokenKind::Mark(Mark::GreaterEqual) =>
-            Some(Infix::Binary(BinaryOperator::GreaterOrEqual)),
+        TokenKind::Mark(Mark::GreaterEqual) => Some(Infix::Binary(BinaryOperator::GreaterOrEqual)),
         TokenKind::Mark(Mark::ShiftLeft) => Some(Infix::Binary(BinaryOperator::ShiftLeft)),
         TokenKind::Mark(Mark::ShiftRight) => Some(Infix::Binary(BinaryOperator::ShiftRight)),
         TokenKind::Mark(Mark::Plus) => Some(Infix::Binary(BinaryOperator::Add)),

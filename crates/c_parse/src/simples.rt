@@ -14,11 +14,7 @@ use crate::signs::Sign;
 use c_tree::{Name, RawExpr, RawSimple};
 
 /// An assignment or a call.
-pub(crate) fn simple(
-    text: Text,
-    cursor: &mut Cursor,
-    depth: u32,
-) -> Result<RawSimple, ParseError>
+pub(crate) fn simple(text: Text, cursor: &mut Cursor, depth: u32) -> Result<RawSimple, ParseError>
     requires { depth ≤ 64 }
     ensures read { IfOk result (λ s. ReadsSimple text.entry.bytes.now text.entry.end depth cursor.old.tokens.now (raw_simple_tree s) cursor.new.tokens.now) }
     ensures refused { IfErr result (λ error. RefusedSimple text.entry.end depth cursor.old.tokens.now error) }

@@ -12,11 +12,7 @@ use crate::errors::ParseError;
 use crate::expressions::parenthesized;
 use crate::loops::for_parts;
 use crate::plain_statements::{
-    break_statement,
-    continue_statement,
-    declarations,
-    return_statement,
-    simple_statement,
+    break_statement, continue_statement, declarations, return_statement, simple_statement,
 };
 use crate::signs::Sign;
 use c_tree::RawStmt;
@@ -24,11 +20,7 @@ use c_tree::RawStmt;
 /// A block: statements between braces, the first of which comes next. A declaration of several names is several
 /// statements.
 #[cycle(statement)]
-pub(crate) fn block(
-    text: Text,
-    cursor: &mut Cursor,
-    depth: u32,
-) -> Result<Vec<RawStmt>, ParseError>
+pub(crate) fn block(text: Text, cursor: &mut Cursor, depth: u32) -> Result<Vec<RawStmt>, ParseError>
     requires fits { depth ≤ 64 }
     requires brace { next_sign cursor.old.tokens.now ≡ Sign.LeftBrace }
     ensures read { IfOk result (λ ss. ReadsBlock text.entry.bytes.now text.entry.end depth cursor.old.tokens.now (raw_stmt_trees ss.items) cursor.new.tokens.now) }
