@@ -45,7 +45,7 @@ verdict_of source tokens Memory h other = h
 no_verdict : (source : List ℕ) (tokens : List Token) (error : ParseError) → Verdict (length source) tokens (Some error) → IsWithin tokens → ⊥
 no_verdict source tokens error v w = let e = one_verdict (length source) tokens (Some error) None v w in cc
 
-no_error : (source : List ℕ) (tokens : List Token) (items : List RawItemTree) (error : ParseError) → IsParsed source tokens items → IsParseErrorOf source tokens error → ⊥
+pub no_error : (source : List ℕ) (tokens : List Token) (items : List RawItemTree) (error : ParseError) → IsParsed source tokens items → IsParseErrorOf source tokens error → ⊥
 no_error source tokens items (Unexpected at) p h = no_verdict source tokens (Unexpected at) h p.within
 no_error source tokens items (TooDeep at) p h = no_verdict source tokens (TooDeep at) h p.within
 no_error source tokens items (NestedCall at) p h =
