@@ -18,9 +18,11 @@ pub mod LocalRules
 pub mod SignTests
 pub mod Paths
 pub mod PlainRules
+pub mod LoopRules
 pub mod BodyRules
 pub mod ParameterRules
 pub mod GlobalRules
 pub mod TableRules
 pub mod FunctionRules
 pub mod ItemRules
+pub mod ParseRules

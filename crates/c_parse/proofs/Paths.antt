@@ -14,6 +14,7 @@ use Rattle.c_parse.specs.Machine.{Task, Move, step, after_move, open_tasks}
 use Rattle.c_parse.specs.Reading.{sign_at, finishes, run}
 use Rattle.c_parse.specs.Tokens.{next_sign, next_place, rest_of, Passes}
 use Rattle.c_parse.specs.Steps.{Leads, Refused}
+use Rattle.c_parse.specs.BodySteps.{LeadsInside, RefusedInside}
 use Rattle.c_parse.proofs.Runs.{run_sign, run_passes, run_too_deep, run_none}
 use Rattle.c_parse.proofs.ExprRules.{pass_run, pass_end}
 
@@ -100,6 +101,19 @@ pub takes_alone : {end depth : ℕ} {t : Task} {s : Sign} {a b : List Token} (mo
 takes_alone {end = n} {depth = d} {t = t'} {s = x} more p some e low =
     record { goes = λ rest o. let k = open_append more rest in run_passes n (t' ∷ rest) p some (ap (λ m. after_move m rest (step rest x)) e) (omega arith) }
 
+-- the same for a task that closes a construct
+pub leads_inside : (end depth : ℕ) (t : Task) (a : List Token) (left : List Task) (b : List Token) → ((outer : ℕ) → 1 + outer ≡ depth → Path end outer (t ∷ []) a left b) → LeadsInside end depth t a left b
+leads_inside end depth t a left b f rest o = let p = f (open_tasks rest) o in p.goes rest refl
+
+pub refused_inside : (end depth : ℕ) (t : Task) (a : List Token) (error : ParseError) → ((outer : ℕ) → 1 + outer ≡ depth → Refused end outer (t ∷ []) a error) → RefusedInside end depth t a error
+refused_inside end depth t a error f other rest o = f (open_tasks rest) o other rest refl
+
+pub path_inside : {end depth inside : ℕ} {todo left : List Task} {t : Task} {a b c : List Token} → Path end depth todo a (t ∷ []) b → inside ≡ 1 + depth → LeadsInside end inside t b left c → Path end depth todo a left c
+path_inside {depth = d} {inside = i} p e h = record { goes = λ rest o. p.goes rest o ∙ h rest (omega arith) }
+
+pub path_refused_inside : {end depth inside : ℕ} {todo : List Task} {t : Task} {a b : List Token} {error : ParseError} → Path end depth todo a (t ∷ []) b → inside ≡ 1 + depth → RefusedInside end inside t b error → Refused end depth todo a error
+path_refused_inside {depth = d} {inside = i} p e h other rest o = p.goes rest o ∙ h other rest (omega arith)
+
 -- what a refusal that is handed on shows
 pub exit : {T : Type 0} {error : ParseError} (P : ParseError → Type 0) (r : Result T ParseError) → IsErrAnd r (λ y. y ≡ error) → P error → IfErr r P
 exit P r h k = let p = err_from_is_err_and r h in rw p.1 (subst P (sym p.2) k)
@@ -110,3 +124,10 @@ sign_is p e = sym p ∙ same_true the_type (search rules) _ _ (sym e)
 
 pub sign_other : {x y z : Sign} → x ≡ y → false ≡ sameb the_type x z → y ≢ z
 sign_other p e f = same_false the_type _ _ (sym e) (p ∙ f)
+
+-- what an arm of a match on the next sign shows
+pub arm_is : {x y z : Sign} → x ≡ y → x ≡ z → y ≡ z
+arm_is p e = sym p ∙ e
+
+pub arm_other : {x y z : Sign} → x ≡ y → (x ≡ z → ⊥) → y ≢ z
+arm_other p h e = h (p ∙ e)

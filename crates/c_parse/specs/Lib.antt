@@ -10,4 +10,5 @@ pub mod StmtSteps
 pub mod NestedCalls
 pub mod Refusals
 pub mod BodySteps
+pub mod Parsed
 pub mod ItemSteps

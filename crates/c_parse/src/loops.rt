@@ -1,7 +1,9 @@
 // The parts of a `for` (ISO/IEC 9899:2018, 6.8.5.3).
-ghost use Rattle.std.specs.Prelude.{◌≤◌, [], ◌∷◌, IfOk, IfErr, map, option_map};
+ghost use Rattle.std.specs.Prelude.{◌≢◌, ◌≤◌, [], ◌∷◌, IfOk, IfErr, map, option_map};
 ghost use Rattle.c_tree.specs.RawViews.{raw_expr_tree, raw_simple_tree};
+ghost use Rattle.c_parse.specs.declared.signs.Sign.{Sign};
 ghost use Rattle.c_parse.specs.Machine.{ForParts, ForInit, ForStep};
+ghost use Rattle.c_parse.specs.Tokens.{next_sign};
 ghost use Rattle.c_parse.specs.Steps.{Refused};
 ghost use Rattle.c_parse.specs.BodySteps.{RefusedInside, ReadsForParts, ReadsForInit, ReadsForStep};
 
@@ -49,14 +51,23 @@ fn for_init(text: Text, cursor: &mut Cursor, depth: u32) -> Result<Vec<RawSimple
             Ok(Vec::new(text.alloc))
         }
         Sign::Int => locals(text, cursor, depth),
-        _ => {
-            let first = simple(text, cursor, depth)?;
-            cursor.take(text, Sign::Semicolon)?;
-            let mut init = Vec::new(text.alloc);
-            init.push(first)?;
-            Ok(init)
-        }
+        _ => simple_init(text, cursor, depth),
     }
+}
+
+// An assignment or a call as the first part, with its `;`, where neither a `;` nor declarations come.
+fn simple_init(text: Text, cursor: &mut Cursor, depth: u32) -> Result<Vec<RawSimple>, ParseError>
+    requires fits { depth ≤ 64 }
+    requires some { next_sign cursor.old.tokens.now ≢ Sign.Semicolon }
+    requires no_locals { next_sign cursor.old.tokens.now ≢ Sign.Int }
+    ensures read { IfOk result (λ init. ReadsForInit text.entry.bytes.now text.entry.end depth cursor.old.tokens.now (map raw_simple_tree init.items) cursor.new.tokens.now) }
+    ensures refused { IfErr result (λ error. RefusedInside text.entry.end depth ForInit cursor.old.tokens.now error) }
+{
+    let first = simple(text, cursor, depth)?;
+    cursor.take(text, Sign::Semicolon)?;
+    let mut init = Vec::new(text.alloc);
+    init.push(first)?;
+    Ok(init)
 }
 
 // The last part, with the `)` behind it.

@@ -20,7 +20,11 @@ mod names;
 mod places;
 mod resolver;
 mod simples;
+mod source_errors;
+mod source_text;
 mod statements;
 
 pub use errors::ScopeError;
 pub use resolver::resolve;
+pub use source_errors::SourceError;
+pub use source_text::read_program;
