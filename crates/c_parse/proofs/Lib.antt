@@ -20,4 +20,9 @@ pub mod Paths
 pub mod PlainRules
 pub mod LoopRules
 pub mod BodyRules
+pub mod ParameterRules
+pub mod GlobalRules
+pub mod TableRules
+pub mod FunctionRules
+pub mod ItemRules
 pub mod ParseRules

@@ -21,7 +21,7 @@ use Rattle.c_parse.proofs.TreeAccepted.{number_passes}
 sized_step : (todo : Task) (left rest : List Task) → Sized todo left → step (todo ∷ rest) signs.LeftBracket ≡ Some ((tasks.Token signs.Number ∷ tasks.Token signs.RightBracket ∷ left) ++ rest)
 sized_step todo left rest e = ap (λ m. after_move m rest (step rest signs.LeftBracket)) e
 
-number_only : (x : Sign) → x ≢ signs.Number → tasks.token_move signs.Number x ≡ tasks.Refuse
+pub number_only : (x : Sign) → x ≢ signs.Number → tasks.token_move signs.Number x ≡ tasks.Refuse
 number_only signs.Number other = absurd (other refl)
 number_only _ other = refl
 
