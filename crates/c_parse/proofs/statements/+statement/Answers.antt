@@ -34,11 +34,11 @@ block_item-returns-clause-read t c =
 pub statement-returns-in-Semicolon-clause-read : goal.statement-returns-in-Semicolon-clause-read
 statement-returns-in-Semicolon-clause-read t c = rw raw_stmt_tree-Empty (rules.empty_read _ _ _ _ _ c.requires (arm_is c.sign.ensures c.in-Semicolon.is) c.pass.ensures)
 
-pub statement-returns-in_err-stmts-clause-refused : goal.statement-returns-in_err-stmts-clause-refused
-statement-returns-in_err-stmts-clause-refused t c = exit _ _ c.from_residual.ensures.1 (rules.block_stmt_refused _ _ _ _ c.in_err-stmts.ensures.refused)
+pub statement-returns-in_err-stmts-in-LeftBrace-clause-refused : goal.statement-returns-in_err-stmts-in-LeftBrace-clause-refused
+statement-returns-in_err-stmts-in-LeftBrace-clause-refused t c = exit _ _ c.from_residual.ensures.1 (rules.block_stmt_refused _ _ _ _ c.in_err-stmts-in-LeftBrace.ensures.refused)
 
-pub statement-returns-in_ok-stmts-clause-read : goal.statement-returns-in_ok-stmts-clause-read
-statement-returns-in_ok-stmts-clause-read t c = rw (raw_stmt_tree-Block c.in_ok-stmts.stmts) (rules.block_stmt _ _ _ _ _ _ c.in_ok-stmts.ensures.read)
+pub statement-returns-in_ok-stmts-in-LeftBrace-clause-read : goal.statement-returns-in_ok-stmts-in-LeftBrace-clause-read
+statement-returns-in_ok-stmts-in-LeftBrace-clause-read t c = rw (raw_stmt_tree-Block c.in_ok-stmts-in-LeftBrace.stmts) (rules.block_stmt _ _ _ _ _ _ c.in_ok-stmts-in-LeftBrace.ensures.read)
 
 pub statement-simple_statement-requires-clause-other : goal.statement-simple_statement-requires-clause-other
 statement-simple_statement-requires-clause-other t c =
@@ -59,7 +59,7 @@ if_statement-returns-in_err-then-clause-refused t c =
 
 pub if_statement-returns-then-ne-clause-read : goal.if_statement-returns-then-ne-clause-read
 if_statement-returns-then-ne-clause-read t c =
-    rw (raw_stmt_tree-If c.in_ok-condition.condition c.in_ok-then-2.then, c.in_ok-then-2.ensures.value)
+    rw (raw_stmt_tree-If c.in_ok-condition.condition c.in_ok-then-2.then, c.in_ok-then-2.ensures.ok)
     (rules.if_read _ _ _ _ _ _ _ _ _ _ c.requires.keyword c.in_ok-inside.ensures.taken c.in_ok-inside.ensures.fits c.in_ok-condition.ensures.read c.in_ok-then.ensures.read (not_that_sign c.sign.ensures c.if-ne.ensures))
 
 pub if_statement-returns-in_err-otherwise-clause-refused : goal.if_statement-returns-in_err-otherwise-clause-refused
@@ -69,7 +69,7 @@ if_statement-returns-in_err-otherwise-clause-refused t c =
 
 pub if_statement-returns-clause-read : goal.if_statement-returns-clause-read
 if_statement-returns-clause-read t c =
-    rw (raw_stmt_tree-IfElse c.in_ok-condition.condition c.in_ok-then-2.then c.in_ok-otherwise-2.otherwise, c.in_ok-then-2.ensures.value, c.in_ok-otherwise-2.ensures.value)
+    rw (raw_stmt_tree-IfElse c.in_ok-condition.condition c.in_ok-then-2.then c.in_ok-otherwise-2.otherwise, c.in_ok-then-2.ensures.ok, c.in_ok-otherwise-2.ensures.ok)
     (rules.if_else_read _ _ _ _ _ _ _ _ _ _ _ _ _ c.requires.keyword c.in_ok-inside.ensures.taken c.in_ok-inside.ensures.fits c.in_ok-condition.ensures.read c.in_ok-then.ensures.read (no_other_sign c.sign.ensures c.if-ne.ensures) c.pass.ensures
     c.in_ok-otherwise.ensures.read)
 
@@ -86,7 +86,7 @@ while_statement-returns-in_err-body-clause-refused t c =
 
 pub while_statement-returns-clause-read : goal.while_statement-returns-clause-read
 while_statement-returns-clause-read t c =
-    rw (raw_stmt_tree-While c.in_ok-condition.condition c.in_ok-body-2.body, c.in_ok-body-2.ensures.value)
+    rw (raw_stmt_tree-While c.in_ok-condition.condition c.in_ok-body-2.body, c.in_ok-body-2.ensures.ok)
     (rules.while_read _ _ _ _ _ _ _ _ _ _ c.requires.keyword c.in_ok-inside.ensures.taken c.in_ok-inside.ensures.fits c.in_ok-condition.ensures.read c.in_ok-body.ensures.read)
 
 pub for_statement-returns-in_err-inside-clause-refused : goal.for_statement-returns-in_err-inside-clause-refused
@@ -102,5 +102,5 @@ for_statement-returns-in_err-body-clause-refused t c =
 
 pub for_statement-returns-clause-read : goal.for_statement-returns-clause-read
 for_statement-returns-clause-read t c =
-    rw (raw_stmt_tree-For c.in_ok-parts.parts.init c.in_ok-parts.parts.condition c.in_ok-parts.parts.step c.in_ok-body-2.body, c.in_ok-body-2.ensures.value)
+    rw (raw_stmt_tree-For c.in_ok-parts.parts.init c.in_ok-parts.parts.condition c.in_ok-parts.parts.step c.in_ok-body-2.body, c.in_ok-body-2.ensures.ok)
     (rules.for_read _ _ _ _ _ _ _ _ _ _ _ _ c.requires.keyword c.in_ok-inside.ensures.taken c.in_ok-inside.ensures.fits c.in_ok-parts.ensures.read c.in_ok-body.ensures.read)
