@@ -114,7 +114,7 @@ all_append (None ∷ ps) None = refl
 all_append (None ∷ ps) (Some n) = refl
 all_append (Some m ∷ ps) p = all_append ps p
 
-names_append : (ps : List (Option NameTree)) (p : Option NameTree) → names_in (ps ++ (p ∷ [])) ≡ names_in ps ++ names_in (p ∷ [])
+pub names_append : (ps : List (Option NameTree)) (p : Option NameTree) → names_in (ps ++ (p ∷ [])) ≡ names_in ps ++ names_in (p ∷ [])
 names_append [] p = refl
 names_append (None ∷ ps) p = names_append ps p
 names_append (Some n ∷ ps) p = ap (λ l. n ∷ l) (names_append ps p)

@@ -5,4 +5,4 @@ negative_word : (r v : ℕ) → r < 4294967296 → v < 4294967296 → (r + v) % 
 negative_word r v a b e = omega arith
 
 pub returns : goal.returns
-returns c = negative_word c.wrapping_neg.result c.args.value c.wrapping_neg.type_inv c.ranges.value c.wrapping_neg.ensures
+returns c = negative_word c.wrapping_neg.result c.args.value (omega arith) (omega arith) c.wrapping_neg.ensures
