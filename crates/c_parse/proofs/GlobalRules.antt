@@ -58,13 +58,13 @@ global_array source end n a b words h =
     record {
       tree = λ x p. IsGlobal.array p h.tree;
       no_longer = (let l = h.shorter in omega arith);
-      leads = λ rest o. h.leads tasks.AfterGlobalName (tasks.MoreGlobals ∷ []) rest refl o;
+      leads = λ rest o. h.leads tasks.AfterGlobalName (tasks.MoreGlobals ∷ []) rest refl (omega arith);
       small = (omega arith, tt);
     }
 
 pub global_size_refused : (end : ℕ) (a : List Token) (error : ParseError) → next_sign a ≡ signs.LeftBracket → RefusedSize end 0 a error → Refused end 0 (tasks.AfterGlobalName ∷ []) a error
 global_size_refused end a error e (inl h) other rest o = absurd (h.0 e)
-global_size_refused end a error e (inr h) other rest o = h tasks.AfterGlobalName (tasks.MoreGlobals ∷ []) rest refl o
+global_size_refused end a error e (inr h) other rest o = h tasks.AfterGlobalName (tasks.MoreGlobals ∷ []) rest refl (omega arith)
 
 assign_path : (end : ℕ) (a b : List Token) → Passes signs.Assign a b → Path end 0 (tasks.AfterGlobalName ∷ []) a (tasks.StartValue ∷ tasks.MoreGlobals ∷ []) b
 assign_path end a b assign = takes_alone (tasks.StartValue ∷ tasks.MoreGlobals ∷ []) assign (λ e. cc) refl (omega arith)

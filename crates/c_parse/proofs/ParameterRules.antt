@@ -131,8 +131,8 @@ last_all (Some n ∷ ps) p all = last_all ps p all
 
 first_named : {source : List ℕ} {x a b c after : List Token} {p : Option NameTree} (others : List NameTree) → IsNameOption source b p c → all_have_names (p ∷ []) ≡ true → Passes signs.LeftParenthesis x a → Passes signs.Int a b → AreMoreNamed source c others after
     → AreNamed source x (names_in (p ∷ []) ++ others) after
-first_named others IsNameOption.no_name all open int t = cc
-first_named others (IsNameOption.a_name q) all open int t = AreNamed.some_named open int q t
+first_named others IsNameOption.no_name all paren int t = cc
+first_named others (IsNameOption.a_name q) all paren int t = AreNamed.some_named paren int q t
 
 more_named : {source : List ℕ} {x a b c after : List Token} {p : Option NameTree} (others : List NameTree) → IsNameOption source b p c → all_have_names (p ∷ []) ≡ true → Passes signs.Comma x a → Passes signs.Int a b → AreMoreNamed source c others after
     → AreMoreNamed source x (names_in (p ∷ []) ++ others) after
@@ -154,8 +154,8 @@ list_first source end a b p h =
     let P : Bool → Type 0 = λ named. Leads end 0 (tasks.ParameterList ∷ []) a (more_task named ∷ []) b in
     let r : Path end 0 (tasks.ParameterList ∷ []) a (more_task (named_with true p) ∷ []) b = path_leads_to (more_task (named_with true p) ∷ []) q refl (h.leads true) in
     record {
-      tree = λ x after others open t. AreParameters.some_parameters open h.int h.name t;
-      named = λ x after others all open t. first_named others h.name all open h.int t;
+      tree = λ x after others paren t. AreParameters.some_parameters paren h.int h.name t;
+      named = λ x after others all paren t. first_named others h.name all paren h.int t;
       shorter = h.shorter;
       leads = subst P (all_append [] p) r.goes;
     }
@@ -174,13 +174,13 @@ list_more source end a now b c ps p h e behind k =
     let q3 : Path end 0 (tasks.ParameterList ∷ []) a (more_task (named_with named p) ∷ []) c = path_leads_to (more_task (named_with named p) ∷ []) (path_path q1 (path_path (comma_path end named now b comma) q2)) refl (k.leads named) in
     let P : Bool → Type 0 = λ all. Leads end 0 (tasks.ParameterList ∷ []) a (more_task all ∷ []) c in
     record {
-      tree = λ x after others open t.
+      tree = λ x after others paren t.
         let Q : List (Option NameTree) → Type 0 = λ l. AreParameters source x l after in
-        subst Q (sym (append_assoc ps (p ∷ []) others)) (h.tree x after (p ∷ others) open (AreMoreParameters.another_parameter comma k.int k.name t));
-      named = λ x after others all open t.
+        subst Q (sym (append_assoc ps (p ∷ []) others)) (h.tree x after (p ∷ others) paren (AreMoreParameters.another_parameter comma k.int k.name t));
+      named = λ x after others all paren t.
         let Q : List NameTree → Type 0 = λ l. AreNamed source x l after in
         let same = ap (λ l. l ++ others) (names_append ps p) ∙ append_assoc (names_in ps) (names_in (p ∷ [])) others in
-        subst Q (sym same) (h.named x after (names_in (p ∷ []) ++ others) (first_all ps p all) open (more_named others k.name (last_all ps p all) comma k.int t));
+        subst Q (sym same) (h.named x after (names_in (p ∷ []) ++ others) (first_all ps p all) paren (more_named others k.name (last_all ps p all) comma k.int t));
       shorter = (let l1 = h.shorter in let l2 = passes_shorter comma (λ e. cc) in let l3 = k.shorter in omega arith);
       leads = subst P (all_append ps p) q3.goes;
     }
@@ -207,34 +207,34 @@ list_read source end a now b ps h close =
     let q2 : Path end 0 (more_task named ∷ []) now (after_task named ∷ []) b = takes_alone (after_task named ∷ []) close (λ e. cc) (close_moves named) (omega arith) in
     let q3 = path_path q1 q2 in
     record {
-      tree = λ x open. let Q : List (Option NameTree) → Type 0 = λ l. AreParameters source x l b in subst Q (append-nil ps) (h.tree x b [] open (AreMoreParameters.last_parameter close));
-      named = λ x all open. let Q : List NameTree → Type 0 = λ l. AreNamed source x l b in subst Q (append-nil (names_in ps)) (h.named x b [] all open (AreMoreNamed.last_named close));
+      tree = λ x paren. let Q : List (Option NameTree) → Type 0 = λ l. AreParameters source x l b in subst Q (append-nil ps) (h.tree x b [] paren (AreMoreParameters.last_parameter close));
+      named = λ x all paren. let Q : List NameTree → Type 0 = λ l. AreNamed source x l b in subst Q (append-nil (names_in ps)) (h.named x b [] all paren (AreMoreNamed.last_named close));
       shorter = (let l1 = h.shorter in let l2 = passes_shorter close (λ e. cc) in omega arith);
       leads = q3.goes;
     }
 
 -- all parameters, from the parenthesis on
 opens_list : (end : ℕ) (todo : Task) (a b : List Token) → Listed todo → Passes signs.LeftParenthesis a b → Path end 0 (todo ∷ []) a (tasks.ParameterList ∷ []) b
-opens_list end todo a b z open = takes_alone (tasks.ParameterList ∷ []) open (λ e. cc) z (omega arith)
+opens_list end todo a b z paren = takes_alone (tasks.ParameterList ∷ []) paren (λ e. cc) z (omega arith)
 
 pub parameters_none : (source : List ℕ) (end : ℕ) (a b c : List Token) → next_sign a ≡ signs.LeftParenthesis → b ≡ rest_of a → next_sign b ≡ signs.RightParenthesis → c ≡ rest_of b → ReadsParameters source end a [] c
 parameters_none source end a b c e behind f last =
-    let open : Passes signs.LeftParenthesis a b = record { is_next = e; behind = behind } in
+    let paren : Passes signs.LeftParenthesis a b = record { is_next = e; behind = behind } in
     let close : Passes signs.RightParenthesis b c = record { is_next = f; behind = last } in
     record {
-      tree = AreParameters.no_parameters open close;
-      named = λ all. AreNamed.no_named open close;
-      shorter = (let l1 = passes_shorter open (λ e. cc) in let l2 = passes_shorter close (λ e. cc) in omega arith);
+      tree = AreParameters.no_parameters paren close;
+      named = λ all. AreNamed.no_named paren close;
+      shorter = (let l1 = passes_shorter paren (λ e. cc) in let l2 = passes_shorter close (λ e. cc) in omega arith);
       leads = λ todo z.
         let q : Path end 0 (tasks.ParameterList ∷ []) b (tasks.AfterParameters ∷ []) c = takes_alone (tasks.AfterParameters ∷ []) close (λ e. cc) refl (omega arith) in
-        let r = path_path (opens_list end todo a b z open) q in
+        let r = path_path (opens_list end todo a b z paren) q in
         r.goes;
     }
 
 void_path : (end : ℕ) (todo : Task) (a b c : List Token) → Listed todo → Passes signs.LeftParenthesis a b → Passes signs.Void b c → Path end 0 (todo ∷ []) a (tasks.ParametersEnd ∷ []) c
-void_path end todo a b c z open void =
+void_path end todo a b c z paren void =
     let q : Path end 0 (tasks.ParameterList ∷ []) b (tasks.ParametersEnd ∷ []) c = takes_alone (tasks.ParametersEnd ∷ []) void (λ e. cc) refl (omega arith) in
-    path_path (opens_list end todo a b z open) q
+    path_path (opens_list end todo a b z paren) q
 
 end_only : (x : Sign) → x ≢ signs.RightParenthesis → tasks.parameters_end_move x ≡ tasks.Refuse
 end_only signs.RightParenthesis other = absurd (other refl)
@@ -246,26 +246,26 @@ parameters_void_open end a b c error e behind f last place wrong todo z =
 
 pub parameters_void : (source : List ℕ) (end : ℕ) (a b c d : List Token) → next_sign a ≡ signs.LeftParenthesis → b ≡ rest_of a → next_sign b ≡ signs.Void → c ≡ rest_of b → Passes signs.RightParenthesis c d → ReadsParameters source end a [] d
 parameters_void source end a b c d e behind f last close =
-    let open : Passes signs.LeftParenthesis a b = record { is_next = e; behind = behind } in
+    let paren : Passes signs.LeftParenthesis a b = record { is_next = e; behind = behind } in
     let void : Passes signs.Void b c = record { is_next = f; behind = last } in
     record {
-      tree = AreParameters.void_parameters open void close;
-      named = λ all. AreNamed.void_named open void close;
-      shorter = (let l1 = passes_shorter open (λ e. cc) in let l2 = passes_shorter void (λ e. cc) in let l3 = passes_shorter close (λ e. cc) in omega arith);
+      tree = AreParameters.void_parameters paren void close;
+      named = λ all. AreNamed.void_named paren void close;
+      shorter = (let l1 = passes_shorter paren (λ e. cc) in let l2 = passes_shorter void (λ e. cc) in let l3 = passes_shorter close (λ e. cc) in omega arith);
       leads = λ todo z.
         let q : Path end 0 (tasks.ParametersEnd ∷ []) c (tasks.AfterParameters ∷ []) d = takes_alone (tasks.AfterParameters ∷ []) close (λ e. cc) refl (omega arith) in
-        let r = path_path (void_path end todo a b c z open void) q in
+        let r = path_path (void_path end todo a b c z paren void) q in
         r.goes;
     }
 
 pub parameters_list : (source : List ℕ) (end : ℕ) (a b c : List Token) (ps : List (Option NameTree)) → next_sign a ≡ signs.LeftParenthesis → b ≡ rest_of a → ReadsParameterList source end b ps c → ReadsParameters source end a ps c
 parameters_list source end a b c ps e behind h =
-    let open : Passes signs.LeftParenthesis a b = record { is_next = e; behind = behind } in
+    let paren : Passes signs.LeftParenthesis a b = record { is_next = e; behind = behind } in
     record {
-      tree = h.tree a open;
-      named = λ all. h.named a all open;
-      shorter = (let l1 = passes_shorter open (λ e. cc) in let l2 = h.shorter in omega arith);
-      leads = λ todo z. let r = path_leads_to (after_task (all_have_names ps) ∷ []) (opens_list end todo a b z open) refl h.leads in r.goes;
+      tree = h.tree a paren;
+      named = λ all. h.named a all paren;
+      shorter = (let l1 = passes_shorter paren (λ e. cc) in let l2 = h.shorter in omega arith);
+      leads = λ todo z. let r = path_leads_to (after_task (all_have_names ps) ∷ []) (opens_list end todo a b z paren) refl h.leads in r.goes;
     }
 
 pub parameters_list_refused : (end : ℕ) (a b : List Token) (error : ParseError) → next_sign a ≡ signs.LeftParenthesis → b ≡ rest_of a → Refused end 0 (tasks.ParameterList ∷ []) b error → RefusedListed end a error

@@ -52,8 +52,8 @@ declared_left = tasks.TableParameter ∷ tasks.Token signs.Assign ∷ tasks.Tabl
 
 open_path : (end : ℕ) (a b : List Token) → next_sign a ≡ signs.LeftParenthesis → b ≡ rest_of a → Path end 0 (tasks.AfterInt ∷ []) a (tasks.Token signs.Star ∷ tasks.Token signs.Name ∷ tasks.Size ∷ tasks.Token signs.RightParenthesis ∷ declared_left) b
 open_path end a b e behind =
-    let open : Passes signs.LeftParenthesis a b = record { is_next = e; behind = behind } in
-    takes_alone (tasks.Token signs.Star ∷ tasks.Token signs.Name ∷ tasks.Size ∷ tasks.Token signs.RightParenthesis ∷ declared_left) open (λ e. cc) refl (omega arith)
+    let paren : Passes signs.LeftParenthesis a b = record { is_next = e; behind = behind } in
+    takes_alone (tasks.Token signs.Star ∷ tasks.Token signs.Name ∷ tasks.Size ∷ tasks.Token signs.RightParenthesis ∷ declared_left) paren (λ e. cc) refl (omega arith)
 
 pub declared_no_star : (end : ℕ) (a b : List Token) (error : ParseError) → next_sign a ≡ signs.LeftParenthesis → b ≡ rest_of a → error ≡ Unexpected (next_place end b) → next_sign b ≢ signs.Star → Refused end 0 (tasks.AfterInt ∷ []) a error
 declared_no_star end a b error e behind place wrong = path_stuck (open_path end a b e behind) (refuses (tasks.Token signs.Name ∷ tasks.Size ∷ tasks.Token signs.RightParenthesis ∷ declared_left) (star_only (next_sign b) wrong) (λ rest. refl) place)
@@ -88,19 +88,19 @@ declared_open_end source end n a b c d f words error e behind star p h place wro
 pub declared_read : (source : List ℕ) (end : ℕ) (n : NameTree) (a b c d f g : List Token) (words : ℕ) → next_sign a ≡ signs.LeftParenthesis → b ≡ rest_of a → Passes signs.Star b c → PassesName source c n d → ReadsSize end 1 d words f → Passes signs.RightParenthesis f g
     → ReadsDeclared source end a n words g
 declared_read source end n a b c d f g words e behind star p h close =
-    let open : Passes signs.LeftParenthesis a b = record { is_next = e; behind = behind } in
+    let paren : Passes signs.LeftParenthesis a b = record { is_next = e; behind = behind } in
     let r = path_path (close_path source end n a b c d f words e behind star p h) (takes declared_left [] close (λ e. cc) refl (omega arith)) in
     record {
       b = b;
       c = c;
       d = d;
       f = f;
-      opened = open;
+      opened = paren;
       star = star;
       named = p;
       sized = h.tree;
       closed = close;
-      shorter = (let l1 = passes_shorter open (λ e. cc) in let l2 = passes_shorter star (λ e. cc) in let l3 = passes_shorter p.passes (λ e. cc) in let l4 = h.shorter in let l5 = passes_shorter close (λ e. cc) in omega arith);
+      shorter = (let l1 = passes_shorter paren (λ e. cc) in let l2 = passes_shorter star (λ e. cc) in let l3 = passes_shorter p.passes (λ e. cc) in let l4 = h.shorter in let l5 = passes_shorter close (λ e. cc) in omega arith);
       leads = r.goes;
     }
 
@@ -109,28 +109,28 @@ pub parameter_no_open : (end : ℕ) (a : List Token) (error : ParseError) → er
 parameter_no_open end a error place wrong = path_stuck (here end 0 (tasks.TableParameter ∷ []) a) (refuses [] (parameter_only (next_sign a) wrong) (λ rest. refl) place)
 
 parameter_opened : (end : ℕ) (a b : List Token) → Passes signs.LeftParenthesis a b → Path end 0 (tasks.TableParameter ∷ []) a (tasks.Token signs.Int ∷ tasks.Token signs.RightParenthesis ∷ []) b
-parameter_opened end a b open = takes_alone (tasks.Token signs.Int ∷ tasks.Token signs.RightParenthesis ∷ []) open (λ e. cc) refl (omega arith)
+parameter_opened end a b paren = takes_alone (tasks.Token signs.Int ∷ tasks.Token signs.RightParenthesis ∷ []) paren (λ e. cc) refl (omega arith)
 
 pub parameter_no_int : (end : ℕ) (a b : List Token) (error : ParseError) → Passes signs.LeftParenthesis a b → error ≡ Unexpected (next_place end b) → next_sign b ≢ signs.Int → Refused end 0 (tasks.TableParameter ∷ []) a error
-parameter_no_int end a b error open place wrong = path_stuck (parameter_opened end a b open) (refuses (tasks.Token signs.RightParenthesis ∷ []) (int_only (next_sign b) wrong) (λ rest. refl) place)
+parameter_no_int end a b error paren place wrong = path_stuck (parameter_opened end a b paren) (refuses (tasks.Token signs.RightParenthesis ∷ []) (int_only (next_sign b) wrong) (λ rest. refl) place)
 
 parameter_int : (end : ℕ) (a b c : List Token) → Passes signs.LeftParenthesis a b → Passes signs.Int b c → Path end 0 (tasks.TableParameter ∷ []) a (tasks.Token signs.RightParenthesis ∷ []) c
-parameter_int end a b c open int = path_path (parameter_opened end a b open) (takes (tasks.Token signs.RightParenthesis ∷ []) [] int (λ e. cc) refl (omega arith))
+parameter_int end a b c paren int = path_path (parameter_opened end a b paren) (takes (tasks.Token signs.RightParenthesis ∷ []) [] int (λ e. cc) refl (omega arith))
 
 pub parameter_open_end : (end : ℕ) (a b c : List Token) (error : ParseError) → Passes signs.LeftParenthesis a b → Passes signs.Int b c → error ≡ Unexpected (next_place end c) → next_sign c ≢ signs.RightParenthesis → Refused end 0 (tasks.TableParameter ∷ []) a error
-parameter_open_end end a b c error open int place wrong = path_stuck (parameter_int end a b c open int) (refuses [] (right_parenthesis_only (next_sign c) wrong) (λ rest. refl) place)
+parameter_open_end end a b c error paren int place wrong = path_stuck (parameter_int end a b c paren int) (refuses [] (right_parenthesis_only (next_sign c) wrong) (λ rest. refl) place)
 
 pub parameter_read : (end : ℕ) (a b c d : List Token) → Passes signs.LeftParenthesis a b → Passes signs.Int b c → Passes signs.RightParenthesis c d → ReadsTableParameter end a d
-parameter_read end a b c d open int close =
+parameter_read end a b c d paren int close =
     let last : Path end 0 (tasks.Token signs.RightParenthesis ∷ []) c [] d = takes_alone [] close (λ e. cc) refl (omega arith) in
-    let r = path_path (parameter_int end a b c open int) last in
+    let r = path_path (parameter_int end a b c paren int) last in
     record {
       b = b;
       c = c;
-      opened = open;
+      opened = paren;
       int = int;
       closed = close;
-      shorter = (let l1 = passes_shorter open (λ e. cc) in let l2 = passes_shorter int (λ e. cc) in let l3 = passes_shorter close (λ e. cc) in omega arith);
+      shorter = (let l1 = passes_shorter paren (λ e. cc) in let l2 = passes_shorter int (λ e. cc) in let l3 = passes_shorter close (λ e. cc) in omega arith);
       leads = r.goes;
     }
 

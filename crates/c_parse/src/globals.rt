@@ -1,5 +1,5 @@
 // Declarations of globals (ISO/IEC 9899:2018, 6.7 and 6.9.2).
-ghost use Rattle.std.specs.Prelude.{◌≡◌, ◌≢◌, [], ◌∷◌, IfOk, IfErr, map};
+ghost use Rattle.std.specs.Prelude.{◌≡◌, ◌≢◌, ◌-◌, ◌%◌, ◌^◌, [], ◌∷◌, IfOk, IfErr, map};
 ghost use Rattle.c_tree.specs.RawViews.{name_tree, raw_item_tree};
 ghost use Rattle.c_parse.specs.declared.signs.Sign.{Sign};
 ghost use Rattle.c_parse.specs.Machine.{AfterIntName, AfterGlobalName, StartValue};
@@ -62,8 +62,15 @@ fn start(text: Text, cursor: &mut Cursor) -> Result<u32, ParseError>
     if cursor.sign() == Sign::Minus {
         cursor.pass();
         let value = cursor.take_number(text)?;
-        return Ok(value.wrapping_neg());
+        return Ok(negative(value));
     }
     let value = cursor.take_number(text)?;
     Ok(value)
+}
+
+// The word that has the negative of this one's value.
+fn negative(value: u32) -> u32
+    ensures { result ≡ (2 ^ 32 - value) % 2 ^ 32 }
+{
+    value.wrapping_neg()
 }
