@@ -59,7 +59,7 @@ fn the_limit_of_each_construct(rt: HostRuntime) -> Result<(), Fail> {
     Ok(())
 }
 
-// Nearly the longest source of parts that open nothing for long, and of such that open too much or fit nothing.
+// Long sources that open nothing for long, and such that open too much or fit nothing.
 #[test]
 fn long_sources(rt: HostRuntime) -> Result<(), Fail> {
     let rows: [(&[u8], &[u8], &[u8], usize, Option<ParseError>); 9] = [

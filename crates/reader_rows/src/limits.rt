@@ -21,39 +21,48 @@ fn source(
     Ok(text)
 }
 
-// What stands before the parts, a part, how many parts are the most, what stands behind, and the refusal of one more.
-#[test]
-fn the_limits(rt: HostRuntime) -> Result<(), Fail> {
-    let rows: [(&[u8], &[u8], usize, &[u8], &str); 5] = [
-        (b"int main() { ", b"yield();", 65535, b" return 0; }", "Limit sites"),
-        (b"int a[65534], b", b", c", 0, b", d; int main() { return 0; }", "Twice at 18"),
-        (b"int f(int x) { return x; } int (*t[65536])(int) = { f", b", f", 65535, b" }; int main() { return 0; }", "Arity at 33"),
-        (b"int f(int a", b"", 1, b", int b, int c, int d, int e, int g) { return a; } int main() { return 0; }", "program"),
-        (b"int main() { int a[4095], b; ", b"{ int c; }", 0, b" return 0; }", "Limit locals"),
-    ];
-    for (before, part, most, after, want) in rows {
-        let fits = source(rt.alloc(), before, part, most, after)?;
-        let answer = told(rt.alloc(), &fits)?;
-        assert_eq!(rt; answer.as_str(), "program");
-        let more = source(rt.alloc(), before, part, most + 1, after)?;
-        let answer = told(rt.alloc(), &more)?;
-        assert_eq!(rt; answer.as_str(), want);
+// `main`, and so many functions beside it.
+fn functions(alloc: Global, count: u32) -> Result<Vec<u8>, AllocError> {
+    let mut text = Vec::new(alloc);
+    text.extend_from_slice(b"int main() { return 0; }")?;
+    for number in 0..count {
+        let function = format!(in alloc; "void f{number}() {{}}")?;
+        text.extend_from_slice(function.as_bytes())?;
     }
-    Ok(())
+    Ok(text)
 }
 
 #[test]
-fn one_past_a_limit(rt: HostRuntime) -> Result<(), Fail> {
-    let rows: [(&[u8], &str); 5] = [
-        (b"int a[65536]; int main() { return 0; }", "program"),
-        (b"int a[65536], b; int main() { return 0; }", "Limit globals"),
-        (b"int f(int a, int b, int c, int d, int e, int g, int h) { return a; } int main() { return 0; }", "Limit params"),
-        (b"int main() { int a[4096]; return 0; }", "program"),
-        (b"int main() { int a[65537]; return 0; }", "Kind at 17"),
+fn as_many_as_fit_and_one_more(rt: HostRuntime) -> Result<(), Fail> {
+    let table: &[u8] = b"int f(int x) { return x; } int (*t[65536])(int) = { f";
+    let longer: &[u8] = b"int f(int x) { return x; } int (*t[65537])(int) = { f";
+    let after: &[u8] = b" }; int main() { return 0; }";
+    let rows: [(&[u8], &[u8], usize, &[u8], &str); 12] = [
+        (b"int main() { ", b"yield();", 65535, b" return 0; }", "program"),
+        (b"int main() { ", b"yield();", 65536, b" return 0; }", "Limit sites"),
+        (table, b", f", 65535, after, "program"),
+        (longer, b", f", 65536, after, "Limit tables"),
+        (b"int a[65536]", b"", 0, b"; int main() { return 0; }", "program"),
+        (b"int a[65536], b", b"", 0, b"; int main() { return 0; }", "Limit globals"),
+        (b"int main() { int a[4096];", b"{ }", 1, b" return 0; }", "program"),
+        (b"int main() { int a[4096];", b"{ int b; }", 1, b" return 0; }", "Limit locals"),
+        (b"int f(int a, int b, int c, int d, int e, int g", b"", 0, b") { return a; } int main() { return 0; }", "program"),
+        (b"int f(int a, int b, int c, int d, int e, int g, int h", b"", 0, b") { return a; } int main() { return 0; }", "Limit params"),
+        // scopes of one name, each closed before the next
+        (b"int main() { int a; ", b"{ int a; a = 1; }", 4095, b" return 0; }", "program"),
+        // the first limit of those exceeded
+        (b"int a[65536], b; int main() { int a[4097];", b"", 0, b" return 0; }", "Limit globals"),
     ];
-    for (source, want) in rows {
-        let answer = told(rt.alloc(), source)?;
+    for (before, part, times, after, want) in rows {
+        let text = source(rt.alloc(), before, part, times, after)?;
+        let answer = told(rt.alloc(), &text)?;
         assert_eq!(rt; answer.as_str(), want);
     }
+    let most = functions(rt.alloc(), 4095)?;
+    let answer = told(rt.alloc(), &most)?;
+    assert_eq!(rt; answer.as_str(), "program");
+    let more = functions(rt.alloc(), 4096)?;
+    let answer = told(rt.alloc(), &more)?;
+    assert_eq!(rt; answer.as_str(), "Limit functions");
     Ok(())
 }
