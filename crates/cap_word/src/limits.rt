@@ -49,14 +49,3 @@ impl fmt::Display for Which {
         f.write_str(self.name())
     }
 }
-
-#[cfg(test)]
-mod tests {
-    use super::*;
-
-    #[test]
-    fn limits_have_names(rt: HostRuntime) {
-        assert_eq!(rt; Which::Functions.name(), "functions");
-        assert_eq!(rt; Which::Entries.name(), "entries");
-    }
-}

@@ -27,6 +27,3 @@ pub trait Ready {
     fn any_elsewhere(&self) -> bool
         ensures { result ≡ any_elsewhere self.now };
 }
-
-#[cfg(test)]
-mod tests;

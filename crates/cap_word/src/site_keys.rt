@@ -99,21 +99,3 @@ impl Hash for SiteKey {
         self.sites().hash(state);
     }
 }
-
-#[cfg(test)]
-mod tests {
-    use super::*;
-
-    #[test]
-    fn keys_are_their_sites(rt: HostRuntime) {
-        let key = SiteKey::new(&[7, 0, 3]);
-        assert_eq!(rt; key.length(), 3);
-        assert_eq!(rt; key.sites(), [7, 0, 3].as_slice());
-        let full = SiteKey::new(&[1, 2, 3, 4, 5, 6, 7, 8]);
-        assert_eq!(rt; full.length(), 8);
-        assert_eq!(rt; full.site(0), 1);
-        assert_eq!(rt; full.site(7), 8);
-        assert_eq!(rt; SiteKey::new(&[7, 0, 3]), key);
-        assert_ne!(rt; SiteKey::new(&[7, 0]), SiteKey::new(&[7, 0, 0]));
-    }
-}

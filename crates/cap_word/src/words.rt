@@ -151,6 +151,3 @@ fn high(product: i64) -> u32
 {
     word_of((product >> 32) as i32)
 }
-
-#[cfg(test)]
-mod tests;

@@ -59,19 +59,19 @@ fn the_limit_of_each_construct(rt: HostRuntime) -> Result<(), Fail> {
     Ok(())
 }
 
-// Nearly the longest source of parts that open nothing for long, and of such that open too much or fit nothing.
+// Long sources that open nothing for long, and such that open too much or fit nothing.
 #[test]
 fn long_sources(rt: HostRuntime) -> Result<(), Fail> {
     let rows: [(&[u8], &[u8], &[u8], usize, Option<ParseError>); 9] = [
-        (b"int f() { a = 1", b"+1", b"; }", 8000, None),
-        (b"int f() { ", b"a=1;", b"}", 8000, None),
-        (b"int f(int", b",int", b");", 8000, None),
-        (b"", b"(", b"", 8000, Some(ParseError::Unexpected { at: 0 })),
-        (b"int f() { a =", b"(", b"", 8000, Some(ParseError::TooDeep { at: 76 })),
-        (b"int f() { a =", b"- ", b"", 8000, Some(ParseError::TooDeep { at: 139 })),
-        (b"int f() { a =", b"!", b"", 8000, Some(ParseError::TooDeep { at: 76 })),
-        (b"int f()", b"{", b"", 8000, Some(ParseError::TooDeep { at: 71 })),
-        (b"int f() { ", b"if(1)", b"", 8000, Some(ParseError::TooDeep { at: 322 })),
+        (b"int f() { a = 1", b"+1", b"; }", 500000, None),
+        (b"int f() { ", b"a=1;", b"}", 100000, None),
+        (b"int f(int", b",int", b");", 65000, None),
+        (b"", b"(", b"", 1048576, Some(ParseError::Unexpected { at: 0 })),
+        (b"int f() { a =", b"(", b"", 1048000, Some(ParseError::TooDeep { at: 76 })),
+        (b"int f() { a =", b"- ", b"", 524000, Some(ParseError::TooDeep { at: 139 })),
+        (b"int f() { a =", b"!", b"", 1048000, Some(ParseError::TooDeep { at: 76 })),
+        (b"int f()", b"{", b"", 1048000, Some(ParseError::TooDeep { at: 71 })),
+        (b"int f() { ", b"if(1)", b"", 200000, Some(ParseError::TooDeep { at: 322 })),
     ];
     for (before, part, after, times, want) in rows {
         let text = source(rt.alloc(), before, part, after, b"", b"", times)?;

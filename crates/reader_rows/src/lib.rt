@@ -9,3 +9,7 @@
 mod depth;
 #[cfg(test)]
 mod grammar;
+#[cfg(test)]
+mod limits;
+#[cfg(test)]
+mod programs;
