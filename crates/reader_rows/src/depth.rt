@@ -51,11 +51,18 @@ fn the_limit_of_each_construct(rt: HostRuntime) -> Result<(), Fail> {
         let fits = source(rt.alloc(), before, part, middle, end, after, most)?;
         assert_eq!(rt; refusal(rt.alloc(), &fits)?, None, "{part:?}");
         let deep = source(rt.alloc(), before, part, middle, end, after, most + 1)?;
-        assert_eq!(rt; refusal(rt.alloc(), &deep)?, Some(ParseError::TooDeep { at }), "{part:?}");
+        assert_eq!(rt;
+            refusal(rt.alloc(), &deep)?,
+            Some(ParseError::TooDeep { at }),
+            "{part:?}"
+        );
     }
     // the 65th parenthesis fits nothing behind a number
     let both = source(rt.alloc(), value, b"(", b"1(", b")", b"; }", 63)?;
-    assert_eq!(rt; refusal(rt.alloc(), &both)?, Some(ParseError::Unexpected { at: 78 }));
+    assert_eq!(rt;
+        refusal(rt.alloc(), &both)?,
+        Some(ParseError::Unexpected { at: 78 })
+    );
     Ok(())
 }
 
@@ -66,12 +73,48 @@ fn long_sources(rt: HostRuntime) -> Result<(), Fail> {
         (b"int f() { a = 1", b"+1", b"; }", 500000, None),
         (b"int f() { ", b"a=1;", b"}", 100000, None),
         (b"int f(int", b",int", b");", 65000, None),
-        (b"", b"(", b"", 1048576, Some(ParseError::Unexpected { at: 0 })),
-        (b"int f() { a =", b"(", b"", 1048000, Some(ParseError::TooDeep { at: 76 })),
-        (b"int f() { a =", b"- ", b"", 524000, Some(ParseError::TooDeep { at: 139 })),
-        (b"int f() { a =", b"!", b"", 1048000, Some(ParseError::TooDeep { at: 76 })),
-        (b"int f()", b"{", b"", 1048000, Some(ParseError::TooDeep { at: 71 })),
-        (b"int f() { ", b"if(1)", b"", 200000, Some(ParseError::TooDeep { at: 322 })),
+        (
+            b"",
+            b"(",
+            b"",
+            1048576,
+            Some(ParseError::Unexpected { at: 0 }),
+        ),
+        (
+            b"int f() { a =",
+            b"(",
+            b"",
+            1048000,
+            Some(ParseError::TooDeep { at: 76 }),
+        ),
+        (
+            b"int f() { a =",
+            b"- ",
+            b"",
+            524000,
+            Some(ParseError::TooDeep { at: 139 }),
+        ),
+        (
+            b"int f() { a =",
+            b"!",
+            b"",
+            1048000,
+            Some(ParseError::TooDeep { at: 76 }),
+        ),
+        (
+            b"int f()",
+            b"{",
+            b"",
+            1048000,
+            Some(ParseError::TooDeep { at: 71 }),
+        ),
+        (
+            b"int f() { ",
+            b"if(1)",
+            b"",
+            200000,
+            Some(ParseError::TooDeep { at: 322 }),
+        ),
     ];
     for (before, part, after, times, want) in rows {
         let text = source(rt.alloc(), before, part, after, b"", b"", times)?;

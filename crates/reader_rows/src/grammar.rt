@@ -44,7 +44,10 @@ fn reads_each_form(rt: HostRuntime) -> Result<(), Fail> {
         (b"void f() { if (1) ; else ; }", 1),
         (b"void f() { while (0) ; }", 1),
         (b"void f() { for (;;) break; }", 1),
-        (b"void f() { for (int i = 0, j; i < 3; i = i + 1) continue; }", 1),
+        (
+            b"void f() { for (int i = 0, j; i < 3; i = i + 1) continue; }",
+            1,
+        ),
         (b"void f() { for (i = 0; i; g()) ; }", 1),
         (b"int f() { return; }", 1),
         (b"int f() { return 1; }", 1),
@@ -72,8 +75,14 @@ fn reads_each_form(rt: HostRuntime) -> Result<(), Fail> {
 #[test]
 fn refuses(rt: HostRuntime) -> Result<(), Fail> {
     let rows: [(&[u8], ParseError); 34] = [
-        (b"int main() { return 0 }", ParseError::Unexpected { at: 22 }),
-        (b"int main() { put(self() + 1); return 0; }", ParseError::NestedCall { at: 17 }),
+        (
+            b"int main() { return 0 }",
+            ParseError::Unexpected { at: 22 },
+        ),
+        (
+            b"int main() { put(self() + 1); return 0; }",
+            ParseError::NestedCall { at: 17 },
+        ),
         // the first token, and the end of the source
         (b")", ParseError::Unexpected { at: 0 }),
         (b"x", ParseError::Unexpected { at: 0 }),
@@ -86,27 +95,60 @@ fn refuses(rt: HostRuntime) -> Result<(), Fail> {
         (b"int f(int) {}", ParseError::Unexpected { at: 11 }),
         (b"int f(int, int x) {}", ParseError::Unexpected { at: 18 }),
         (b"int f(void, int x);", ParseError::Unexpected { at: 10 }),
-        (b"int (*t[0])(int) = { };", ParseError::Unexpected { at: 21 }),
+        (
+            b"int (*t[0])(int) = { };",
+            ParseError::Unexpected { at: 21 },
+        ),
         (b"int f() { int a }", ParseError::Unexpected { at: 16 }),
         (b"int f() { a + 1; }", ParseError::Unexpected { at: 12 }),
         (b"int f() { a; }", ParseError::Unexpected { at: 11 }),
         (b"int f() { a[1]; }", ParseError::Unexpected { at: 14 }),
         (b"int f() { t[1](); }", ParseError::Unexpected { at: 15 }),
-        (b"int f() { t[1](1, 2); }", ParseError::Unexpected { at: 16 }),
+        (
+            b"int f() { t[1](1, 2); }",
+            ParseError::Unexpected { at: 16 },
+        ),
         (b"int f() { else ; }", ParseError::Unexpected { at: 10 }),
-        (b"int f() { if (1) ; else ; else ; }", ParseError::Unexpected { at: 26 }),
-        (b"int f() { if (1) int a; }", ParseError::Unexpected { at: 17 }),
-        (b"int f() { for (1; 2; 3) ; }", ParseError::Unexpected { at: 15 }),
-        (b"int f() { return 1 2; }", ParseError::Unexpected { at: 19 }),
-        (b"int f() { return a ? b; }", ParseError::Unexpected { at: 22 }),
-        (b"int f() { return a++; }", ParseError::Unexpected { at: 18 }),
+        (
+            b"int f() { if (1) ; else ; else ; }",
+            ParseError::Unexpected { at: 26 },
+        ),
+        (
+            b"int f() { if (1) int a; }",
+            ParseError::Unexpected { at: 17 },
+        ),
+        (
+            b"int f() { for (1; 2; 3) ; }",
+            ParseError::Unexpected { at: 15 },
+        ),
+        (
+            b"int f() { return 1 2; }",
+            ParseError::Unexpected { at: 19 },
+        ),
+        (
+            b"int f() { return a ? b; }",
+            ParseError::Unexpected { at: 22 },
+        ),
+        (
+            b"int f() { return a++; }",
+            ParseError::Unexpected { at: 18 },
+        ),
         (b"int f() { long a; }", ParseError::Unexpected { at: 10 }),
         // a call that is not whole
         (b"int f() { a = (f()); }", ParseError::NestedCall { at: 15 }),
-        (b"int f() { return (f()); }", ParseError::NestedCall { at: 18 }),
+        (
+            b"int f() { return (f()); }",
+            ParseError::NestedCall { at: 18 },
+        ),
         (b"int f() { if (f()) ; }", ParseError::NestedCall { at: 14 }),
-        (b"int f() { a = 1 + t[2](3); }", ParseError::NestedCall { at: 18 }),
-        (b"int f() { g(h()); a = -g(); }", ParseError::NestedCall { at: 12 }),
+        (
+            b"int f() { a = 1 + t[2](3); }",
+            ParseError::NestedCall { at: 18 },
+        ),
+        (
+            b"int f() { g(h()); a = -g(); }",
+            ParseError::NestedCall { at: 12 },
+        ),
         // a token that fits nothing comes before a call that is not whole
         (b"int f() { g(h()); } 1", ParseError::Unexpected { at: 20 }),
     ];

@@ -38,20 +38,80 @@ fn as_many_as_fit_and_one_more(rt: HostRuntime) -> Result<(), Fail> {
     let longer: &[u8] = b"int f(int x) { return x; } int (*t[65537])(int) = { f";
     let after: &[u8] = b" }; int main() { return 0; }";
     let rows: [(&[u8], &[u8], usize, &[u8], &str); 12] = [
-        (b"int main() { ", b"yield();", 65535, b" return 0; }", "program"),
-        (b"int main() { ", b"yield();", 65536, b" return 0; }", "Limit sites"),
+        (
+            b"int main() { ",
+            b"yield();",
+            65535,
+            b" return 0; }",
+            "program",
+        ),
+        (
+            b"int main() { ",
+            b"yield();",
+            65536,
+            b" return 0; }",
+            "Limit sites",
+        ),
         (table, b", f", 65535, after, "program"),
         (longer, b", f", 65536, after, "Limit tables"),
-        (b"int a[65536]", b"", 0, b"; int main() { return 0; }", "program"),
-        (b"int a[65536], b", b"", 0, b"; int main() { return 0; }", "Limit globals"),
-        (b"int main() { int a[4096];", b"{ }", 1, b" return 0; }", "program"),
-        (b"int main() { int a[4096];", b"{ int b; }", 1, b" return 0; }", "Limit locals"),
-        (b"int f(int a, int b, int c, int d, int e, int g", b"", 0, b") { return a; } int main() { return 0; }", "program"),
-        (b"int f(int a, int b, int c, int d, int e, int g, int h", b"", 0, b") { return a; } int main() { return 0; }", "Limit params"),
+        (
+            b"int a[65536]",
+            b"",
+            0,
+            b"; int main() { return 0; }",
+            "program",
+        ),
+        (
+            b"int a[65536], b",
+            b"",
+            0,
+            b"; int main() { return 0; }",
+            "Limit globals",
+        ),
+        (
+            b"int main() { int a[4096];",
+            b"{ }",
+            1,
+            b" return 0; }",
+            "program",
+        ),
+        (
+            b"int main() { int a[4096];",
+            b"{ int b; }",
+            1,
+            b" return 0; }",
+            "Limit locals",
+        ),
+        (
+            b"int f(int a, int b, int c, int d, int e, int g",
+            b"",
+            0,
+            b") { return a; } int main() { return 0; }",
+            "program",
+        ),
+        (
+            b"int f(int a, int b, int c, int d, int e, int g, int h",
+            b"",
+            0,
+            b") { return a; } int main() { return 0; }",
+            "Limit params",
+        ),
         // scopes of one name, each closed before the next
-        (b"int main() { int a; ", b"{ int a; a = 1; }", 4095, b" return 0; }", "program"),
+        (
+            b"int main() { int a; ",
+            b"{ int a; a = 1; }",
+            4095,
+            b" return 0; }",
+            "program",
+        ),
         // the first limit of those exceeded
-        (b"int a[65536], b; int main() { int a[4097];", b"", 0, b" return 0; }", "Limit globals"),
+        (
+            b"int a[65536], b; int main() { int a[4097];",
+            b"",
+            0,
+            b" return 0; }",
+            "Limit globals",
+        ),
     ];
     for (before, part, times, after, want) in rows {
         let text = source(rt.alloc(), before, part, times, after)?;
