@@ -1,15 +1,11 @@
 -- The machine and the grammar agree on whole lists of tokens.
-use Rattle.std.proofs.Common.{ℕ, ◌≡◌, ◌<◌, ◌≤◌, refl, sym, ap, subst, ◌∙◌, Bool, true, false, List, [], ◌∷◌, ◌++◌, Option, Some, None, arith}
+use Rattle.std.proofs.Common.{◌≡◌, subst, List, [], ◌∷◌, Option, Some}
 use Rattle.c_parse.specs.declared.signs.Sign.{Sign}
-use Rattle.c_parse.specs.Rests as symbols
-use Rattle.c_parse.specs.Rests.{Symbol, Way, Any, Nearest, Takes, TakesAll, CanBeNothing, open_in}
-use Rattle.c_parse.specs.Machine as tasks
-use Rattle.c_parse.specs.Machine.{Task, step, open_tasks}
-use Rattle.c_parse.specs.Reading.{finishes}
+use Rattle.c_parse.specs.Rests.{Symbol, Way, Nearest, TakesAll}
+use Rattle.c_parse.specs.Machine.{Task, step}
 use Rattle.c_parse.proofs.Covers.{Covers, Proper}
 use Rattle.c_parse.proofs.Forward.{forward}
-use Rattle.c_parse.proofs.Backward.{Includes, Takeable, Stepped, Back, backward}
-use Rattle.c_parse.proofs.Ends.{same_open, nothing_finishes, Covered, some_rest}
+use Rattle.c_parse.proofs.Backward.{Includes, Stepped, Back, backward}
 
 -- the machine takes the signs one after another, and comes from the first tasks to the others
 pub data Steps : List Task → List Sign → List Task → Type 0 where

@@ -1,5 +1,5 @@
 -- What the machine takes, the grammar takes, and behind what may end an expression stands nothing that goes on with it.
-use Rattle.std.proofs.Common.{ℕ, ◌≡◌, ◌≤◌, ◌+◌, suc, refl, lit≤, List, [], ◌∷◌, ◌++◌, Option, Some, None, arith}
+use Rattle.std.proofs.Common.{ℕ, ◌≡◌, ◌≤◌, suc, refl, lit≤, List, [], ◌∷◌, ◌++◌, Option, Some, None, arith}
 use Rattle.c_parse.specs.declared.signs.Sign.{Sign}
 use Rattle.c_parse.specs.declared.signs.Sign.TheVariants as signs
 use Rattle.c_parse.specs.Signs.{Level, Tightest, Looser, Loosest, IsOperator, IsPrefix}

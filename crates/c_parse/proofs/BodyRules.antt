@@ -1,24 +1,24 @@
 -- What the functions of blocks and of statements that hold others come to, exit by exit.
-use Rattle.std.proofs.Common.{ℕ, ◌≡◌, ◌≢◌, ◌+◌, ◌*◌, ◌<◌, ◌≤◌, max, refl, sym, ap, subst, ◌∙◌, true, false, List, [], ◌∷◌, ◌++◌, length, Option, Some, None, arith}
+use Rattle.std.proofs.Common.{ℕ, ◌≡◌, ◌≢◌, ◌+◌, ◌<◌, ◌≤◌, refl, sym, ap, subst, ◌∙◌, true, List, [], ◌∷◌, ◌++◌, Option, arith}
 use Rattle.c_lex.specs.declared.tokens.Token.{Token}
 use Rattle.c_tree.specs.RawTrees.{RawExprTree, RawSimpleTree, RawStmtTree, RawStmtTrees, RawEmpty, RawBlock, RawIf, RawIfElse, RawWhile, RawFor, NoRawStmts, RawThen}
 use Rattle.c_tree.specs.RawViews.{raw_in_order}
-use Rattle.c_tree.specs.RawTemporaries.{raw_temporaries, raw_stmt_temporaries, raw_stmts_temporaries}
+use Rattle.c_tree.specs.RawTemporaries.{raw_stmt_temporaries}
 use Rattle.c_parse.specs.declared.errors.ParseError.{ParseError}
-use Rattle.c_parse.specs.declared.errors.ParseError.TheVariants.{Unexpected, TooDeep, Memory}
+use Rattle.c_parse.specs.declared.errors.ParseError.TheVariants.{TooDeep}
 use Rattle.c_parse.specs.declared.signs.Sign.{Sign}
 use Rattle.c_parse.specs.declared.signs.Sign.TheVariants as signs
 use Rattle.c_parse.specs.Machine as tasks
 use Rattle.c_parse.specs.Machine.{Task, step, open_tasks}
-use Rattle.c_parse.specs.Reading.{run, finishes, sign_at}
+use Rattle.c_parse.specs.Reading.{run, sign_at}
 use Rattle.c_parse.specs.Tokens.{next_sign, next_place, rest_of, Passes}
 use Rattle.c_parse.specs.Grammar.{IsBody, IsBlock, AreStmts}
-use Rattle.c_parse.specs.Steps.{Leads, Refused, ReadsParenthesized}
-use Rattle.c_parse.specs.BodySteps.{RefusedInside, Braced, NoStatement, ReadsBody, ReadsBlock, RefusedBlock, ReadsForParts, AreSoFar, AreSmall, ReadingBlock, ReadsBlockItem, stmts_before}
-use Rattle.c_parse.proofs.Runs.{run_sign, run_passes, shorter_sign, passes_shorter}
+use Rattle.c_parse.specs.Steps.{Refused, ReadsParenthesized}
+use Rattle.c_parse.specs.BodySteps.{RefusedInside, ReadsBody, ReadsBlock, RefusedBlock, ReadsForParts, AreSmall, ReadingBlock, ReadsBlockItem, stmts_before}
+use Rattle.c_parse.proofs.Runs.{run_passes, passes_shorter}
 use Rattle.c_parse.proofs.ExprRules.{pass_run, pass_end}
 use Rattle.c_parse.proofs.BracketRules.{Opens}
-use Rattle.c_parse.proofs.Paths.{Path, Stuck, here, path_leads, path_refused, path_stuck, path_path, takes_alone, too_deep, lets_pass}
+use Rattle.c_parse.proofs.Paths.{Path, here, path_leads, path_refused, path_stuck, path_path, takes_alone, too_deep, lets_pass}
 use Rattle.c_parse.proofs.PlainRules.{small_append}
 
 pub empty_read : (source : List ℕ) (end depth : ℕ) (a b : List Token) → depth ≤ 64 → next_sign a ≡ signs.Semicolon → b ≡ rest_of a → ReadsBody source end depth a RawEmpty b

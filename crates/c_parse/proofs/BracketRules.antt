@@ -1,21 +1,21 @@
 -- What the functions of brackets and arguments come to, exit by exit.
-use Rattle.std.proofs.Common.{ℕ, zero, suc, ◌≡◌, ◌≢◌, ◌+◌, ◌-◌, ◌*◌, ◌<◌, ◌≤◌, max, min, refl, sym, ap, subst, ◌∙◌, Bool, true, false, List, [], ◌∷◌, ◌++◌, length, length-append, map, Option, Some, None, arith}
+use Rattle.std.proofs.Common.{ℕ, ◌≡◌, ◌≢◌, ◌+◌, ◌*◌, ◌≤◌, min, refl, sym, ap, subst, ◌∙◌, List, [], ◌∷◌, ◌++◌, length, length-append, Some, arith}
 use Rattle.c_lex.specs.declared.tokens.Token.{Token}
-use Rattle.c_tree.specs.RawTrees.{NameTree, RawExprTree, RawExprTrees, NoExprs, And}
+use Rattle.c_tree.specs.RawTrees.{RawExprTree, RawExprTrees, NoExprs, And}
 use Rattle.c_tree.specs.RawViews.{raw_arguments}
 use Rattle.c_tree.specs.RawTemporaries.{raw_temporaries, raw_arguments_temporaries}
 use Rattle.c_parse.specs.declared.errors.ParseError.{ParseError}
-use Rattle.c_parse.specs.declared.errors.ParseError.TheVariants.{Unexpected, TooDeep, Memory}
+use Rattle.c_parse.specs.declared.errors.ParseError.TheVariants.{Unexpected, TooDeep}
 use Rattle.c_parse.specs.declared.signs.Sign.{Sign}
 use Rattle.c_parse.specs.declared.signs.Sign.TheVariants as signs
 use Rattle.c_parse.specs.Machine as tasks
 use Rattle.c_parse.specs.Machine.{Task, step, after_move, open_tasks}
-use Rattle.c_parse.specs.Reading.{sign_at, finishes, run}
-use Rattle.c_parse.specs.Tokens.{next_sign, next_kind, next_place, rest_of, Passes}
-use Rattle.c_parse.specs.Grammar.{IsExpr, IsIndex, IsParenthesized, AreArguments, AreMoreArguments}
+use Rattle.c_parse.specs.Reading.{sign_at, run}
+use Rattle.c_parse.specs.Tokens.{next_sign, next_place, rest_of, Passes}
+use Rattle.c_parse.specs.Grammar.{IsIndex, IsParenthesized, AreArguments, AreMoreArguments}
 use Rattle.c_parse.specs.Steps.{Leads, Refused, ReadsExpr, ReadsParenthesized, ReadsIndex, ReadsArguments, ReadingArguments, followed_by}
 use Rattle.c_parse.proofs.Runs.{run_sign, run_passes, run_too_deep, run_none, shorter_sign, passes_shorter, refuses_but, parenthesized_only, right_parenthesis_only, right_bracket_only}
-use Rattle.c_parse.proofs.ExprRules.{expr_run_at, pass_run, pass_end}
+use Rattle.c_parse.proofs.ExprRules.{pass_run, pass_end}
 
 -- one more construct is open behind the token
 abbrev pub Opens : ℕ → ℕ → List Token → List Token → Type 0

@@ -1,5 +1,5 @@
 -- Which rests of the grammar a list of tasks stands for.
-use Rattle.std.specs.Prelude.{List, [], ◌∷◌, ◌≡◌, Option, Some, None}
+use Rattle.std.specs.Prelude.{List, [], ◌∷◌, ◌≡◌, None}
 use Rattle.c_parse.specs.declared.signs.Sign.{Sign}
 use Rattle.c_parse.specs.declared.signs.Sign.TheVariants as signs
 use Rattle.c_parse.specs.Signs.{Level, Tightest, Looser, Loosest}

@@ -1,5 +1,5 @@
 -- What the functions of expressions come to, exit by exit.
-use Rattle.std.proofs.Common.{ℕ, zero, suc, ◌≡◌, ◌≢◌, ◌+◌, ◌-◌, ◌*◌, ◌<◌, ◌≤◌, max, min, refl, sym, ap, subst, ◌∙◌, Bool, true, false, List, [], ◌∷◌, ◌++◌, length, Option, Some, None, append_assoc, lit<, arith}
+use Rattle.std.proofs.Common.{ℕ, ◌≡◌, ◌≢◌, ◌+◌, ◌-◌, ◌*◌, ◌<◌, ◌≤◌, refl, sym, ap, subst, ◌∙◌, List, [], ◌∷◌, ◌++◌, length, Option, Some, None, lit<, arith}
 use Rattle.std.specs.Prelude.{nat_le, if◌then◌else◌}
 use Rattle.c_lex.specs.declared.tokens.Token.{Token}
 use Rattle.c_lex.specs.declared.tokens.TokenKind.{TokenKind}
@@ -9,10 +9,9 @@ use Rattle.c_lex.specs.declared.keywords.Keyword.TheVariants as keywords
 use Rattle.c_lex.specs.declared.marks.Mark.TheVariants as marks
 use Rattle.c_tree.specs.declared.operators.Infix.{Infix}
 use Rattle.c_tree.specs.declared.operators.BinaryOperator.{BinaryOperator}
-use Rattle.c_tree.specs.declared.operators.UnaryOperator.{UnaryOperator}
-use Rattle.c_tree.specs.RawTrees.{NameTree, RawExprTree, RawExprTrees, RawNumber, RawName, RawElement, RawUnary, RawParenthesized, RawConditional, RawCall, RawTableCall, NoExprs, And}
+use Rattle.c_tree.specs.RawTrees.{RawExprTree, RawConditional}
 use Rattle.c_tree.specs.RawViews.{raw_joined, raw_chained}
-use Rattle.c_tree.specs.RawTemporaries.{raw_temporaries, raw_arguments_temporaries}
+use Rattle.c_tree.specs.RawTemporaries.{raw_temporaries}
 use Rattle.c_parse.specs.declared.errors.ParseError.{ParseError}
 use Rattle.c_parse.specs.declared.errors.ParseError.TheVariants.{Unexpected, TooDeep, Memory}
 use Rattle.c_parse.specs.declared.signs.Sign.{Sign}
@@ -21,13 +20,12 @@ use Rattle.c_parse.specs.Signs.{sign_of_lem, keyword_sign_lem}
 use Rattle.c_parse.specs.Machine as tasks
 use Rattle.c_parse.specs.Machine.{Task, Move, step, after_move, open_tasks}
 use Rattle.c_parse.specs.Reading.{sign_at, finishes, run}
-use Rattle.c_parse.specs.Operators.{unary_of_lem, infix_of_lem, level_of_lem}
-use Rattle.c_parse.specs.Tokens.{next_sign, next_kind, next_place, rest_of, Passes, PassesName, PassesNumber}
-use Rattle.c_parse.specs.Grammar.{PassesPrefix, PassesInfix, IsExpr, IsBinary, IsRepeated, IsUnary, IsPrimary, IsIndex, IsParenthesized, AreArguments, AreMoreArguments}
-use Rattle.c_parse.specs.Steps.{Leads, Refused, NoneFrom, IsNextOperator, IsNoNextOperator, NoPrefix, ReadsExpr, ReadsConditional, ReadsBinary, ReadsRepeated, ReadsUnary, ReadsPrimary, ReadsNamed, ReadsElement, ReadsParenthesized, ReadsIndex, ReadsArguments, ReadingRepeated, ReadingArguments}
+use Rattle.c_parse.specs.Operators.{infix_of_lem, level_of_lem}
+use Rattle.c_parse.specs.Tokens.{next_sign, next_place, rest_of, Passes}
+use Rattle.c_parse.specs.Grammar.{IsExpr, IsBinary, IsRepeated}
+use Rattle.c_parse.specs.Steps.{Refused, NoneFrom, IsNextOperator, IsNoNextOperator, ReadsExpr, ReadsConditional, ReadsBinary, ReadsRepeated, ReadsUnary, ReadingRepeated}
 use Rattle.c_parse.proofs.Verdicts.{run_taken}
-use Rattle.c_parse.proofs.Runs.{run_sign, run_passes, run_too_deep, run_none, shorter_sign, passes_shorter, refuses_but, parenthesized_only, right_parenthesis_only, right_bracket_only, colon_only}
-use Rattle.c_parse.proofs.TreeAccepted.{number_passes}
+use Rattle.c_parse.proofs.Runs.{run_sign, run_passes, run_too_deep, run_none, shorter_sign, passes_shorter, refuses_but, colon_only}
 
 pub refused_memory : (end depth : ℕ) (todo : List Task) (before : List Token) (error : ParseError) → error ≡ Memory → Refused end depth todo before error
 refused_memory end depth todo before error e other = absurd (other e)

@@ -1,17 +1,16 @@
 -- What a prototype or a function comes to, exit by exit.
-use Rattle.std.proofs.Common.{ℕ, ◌≡◌, ◌≢◌, ◌+◌, ◌<◌, ◌≤◌, refl, sym, ap, subst, ◌∙◌, Bool, true, false, List, [], ◌∷◌, ◌++◌, length, Option, Some, None, arith}
+use Rattle.std.proofs.Common.{ℕ, ◌≡◌, ◌≢◌, refl, sym, subst, Bool, true, false, List, [], ◌∷◌, Option, arith}
 use Rattle.c_lex.specs.declared.tokens.Token.{Token}
-use Rattle.c_tree.specs.RawTrees.{NameTree, RawStmtTrees, RawItemTree, RawPrototypeItem, RawFunctionItem}
+use Rattle.c_tree.specs.RawTrees.{NameTree, RawStmtTrees, RawPrototypeItem, RawFunctionItem}
 use Rattle.c_parse.specs.declared.errors.ParseError.{ParseError}
-use Rattle.c_parse.specs.declared.errors.ParseError.TheVariants.{Unexpected, Memory}
+use Rattle.c_parse.specs.declared.errors.ParseError.TheVariants.{Unexpected}
 use Rattle.c_parse.specs.declared.signs.Sign.{Sign}
 use Rattle.c_parse.specs.declared.signs.Sign.TheVariants as signs
 use Rattle.c_parse.specs.Machine as tasks
 use Rattle.c_parse.specs.Machine.{Task, open_tasks}
 use Rattle.c_parse.specs.Reading.{finishes}
-use Rattle.c_parse.specs.Tokens.{next_sign, next_place, rest_of, Passes, PassesName}
+use Rattle.c_parse.specs.Tokens.{next_sign, next_place, Passes}
 use Rattle.c_parse.specs.Grammar.{AreNamed, AreItem}
-use Rattle.c_parse.specs.Steps.{Leads, Refused}
 use Rattle.c_parse.specs.BodySteps.{ReadsBlock, RefusedBlock}
 use Rattle.c_parse.specs.ItemSteps.{all_have_names, names_in, after_task, Listed, RefusedListed, ReadsParameters, ReadsFunction}
 use Rattle.c_parse.proofs.Runs.{passes_shorter}
@@ -45,9 +44,9 @@ function_prototype source end gives n a b c ps h close =
       tree = λ x y result named. AreItem.prototype result named h.tree close;
       shorter = (let l1 = h.shorter in let l2 = passes_shorter close (λ e. cc) in omega arith);
       leads = λ todo z.
-        let last : Path end 0 (after_task (all_have_names ps) ∷ []) b [] c = takes_alone [] close (λ e. cc) (after_ends (all_have_names ps)) (omega arith) in
-        let r = path_path (after_path source end ps todo a b z h) last in
-        r.goes;
+          let last : Path end 0 (after_task (all_have_names ps) ∷ []) b [] c = takes_alone [] close (λ e. cc) (after_ends (all_have_names ps)) (omega arith) in
+          let r = path_path (after_path source end ps todo a b z h) last in
+          r.goes;
       small = (omega arith, tt);
     }
 

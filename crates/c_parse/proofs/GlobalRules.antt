@@ -1,8 +1,8 @@
 -- What the functions of globals come to, exit by exit.
-use Rattle.std.proofs.Common.{ℕ, ◌≡◌, ◌≢◌, ◌+◌, ◌-◌, ◌%◌, ◌^◌, ◌<◌, ◌≤◌, ◌⊎◌, inl, inr, refl, sym, ap, subst, ◌∙◌, true, false, List, [], ◌∷◌, ◌++◌, length, append_assoc, append-nil, Option, Some, None, arith}
+use Rattle.std.proofs.Common.{ℕ, ◌≡◌, ◌≢◌, ◌-◌, ◌%◌, ◌^◌, ◌⊎◌, inl, inr, refl, sym, ap, subst, ◌∙◌, true, List, [], ◌∷◌, ◌++◌, append_assoc, append-nil, arith}
 use Rattle.c_lex.specs.declared.tokens.Token.{Token}
 use Rattle.c_tree.specs.RawTrees.{NameTree, RawItemTree, RawGlobal, RawGlobalArray}
-use Rattle.c_tree.specs.RawTemporaries.{AreWithinTemporaries, raw_item_temporaries}
+use Rattle.c_tree.specs.RawTemporaries.{AreWithinTemporaries}
 use Rattle.c_parse.specs.declared.errors.ParseError.{ParseError}
 use Rattle.c_parse.specs.declared.errors.ParseError.TheVariants.{Unexpected, Memory}
 use Rattle.c_parse.specs.declared.signs.Sign.{Sign}
@@ -11,13 +11,13 @@ use Rattle.c_parse.specs.Machine as tasks
 use Rattle.c_parse.specs.Machine.{Task, step, after_move, open_tasks}
 use Rattle.c_parse.specs.Tokens.{next_sign, next_place, rest_of, Passes, PassesName, PassesNumber}
 use Rattle.c_parse.specs.Grammar.{IsStart, IsGlobal, AreMoreGlobals, AreItem}
-use Rattle.c_parse.specs.Steps.{Leads, Refused}
+use Rattle.c_parse.specs.Steps.{Refused}
 use Rattle.c_parse.specs.StmtSteps.{ReadsSize, RefusedSize}
 use Rattle.c_parse.specs.ItemSteps.{ReadsStart, ReadsGlobal, ReadingGlobals, ReadsGlobals}
 use Rattle.c_parse.proofs.Runs.{passes_shorter}
 use Rattle.c_parse.proofs.TreeAccepted.{number_passes}
 use Rattle.c_parse.proofs.LocalRules.{number_only}
-use Rattle.c_parse.proofs.Paths.{Path, here, path_leads, path_leads_to, path_stuck, path_path, path_refused, takes, takes_alone, refuses, does_same}
+use Rattle.c_parse.proofs.Paths.{Path, here, path_leads, path_leads_to, path_stuck, path_path, path_refused, takes_alone, refuses, does_same}
 
 -- starting values
 minus_path : (end : ℕ) (a b : List Token) → Passes signs.Minus a b → Path end 0 (tasks.StartValue ∷ []) a (tasks.Token signs.Number ∷ []) b
@@ -93,7 +93,7 @@ global_same _ a b = refl
 pub global_alone : (source : List ℕ) (end : ℕ) (n : NameTree) (a : List Token) → next_sign a ≢ signs.LeftBracket → next_sign a ≢ signs.Assign → ReadsGlobal source end n a (RawGlobal n 0) a
 global_alone source end n a n1 n2 =
     let q : Path end 0 (tasks.AfterGlobalName ∷ []) a (tasks.MoreGlobals ∷ []) a =
-      does_same [] (tasks.MoreGlobals ∷ []) (λ rest. ap (λ m. after_move m rest (step rest (next_sign a))) (global_same (next_sign a) n1 n2)) (λ rest. refl)
+    does_same [] (tasks.MoreGlobals ∷ []) (λ rest. ap (λ m. after_move m rest (step rest (next_sign a))) (global_same (next_sign a) n1 n2)) (λ rest. refl)
     in
     record { tree = λ x p. IsGlobal.scalar p; no_longer = omega arith; leads = q.goes; small = (omega arith, tt) }
 
@@ -144,8 +144,8 @@ globals_more source end n m a now b c d old new newer item h e behind p k pushed
       is = h.is ++ (item ∷ []);
       pushed = pushed ∙ (ap (λ l. l ++ (item ∷ [])) h.pushed ∙ append_assoc old h.is (item ∷ []));
       tree = λ x y after others int named t.
-        let P : List RawItemTree → Type 0 = λ l. AreItem true source x l after in
-        subst P (sym (append_assoc h.is (item ∷ []) others)) (h.tree x y after (item ∷ others) int named (AreMoreGlobals.another_global comma (k.tree b p) t));
+          let P : List RawItemTree → Type 0 = λ l. AreItem true source x l after in
+          subst P (sym (append_assoc h.is (item ∷ []) others)) (h.tree x y after (item ∷ others) int named (AreMoreGlobals.another_global comma (k.tree b p) t));
       no_longer = (let l1 = h.no_longer in let l2 = passes_shorter comma (λ e. cc) in let l3 = passes_shorter p.passes (λ e. cc) in let l4 = k.no_longer in omega arith);
       leads = r.goes;
       small = within_append h.is (item ∷ []) h.small k.small;

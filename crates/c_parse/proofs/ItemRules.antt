@@ -1,5 +1,5 @@
 -- What the functions of items come to, exit by exit.
-use Rattle.std.proofs.Common.{ℕ, ◌≡◌, ◌≢◌, ◌+◌, ◌<◌, ◌≤◌, ◌⊎◌, inl, inr, refl, sym, ap, subst, ◌∙◌, true, false, List, [], ◌∷◌, ◌++◌, length, append_assoc, append-nil, Option, Some, None, arith}
+use Rattle.std.proofs.Common.{ℕ, ◌≡◌, ◌≢◌, ◌⊎◌, inl, inr, refl, sym, ap, subst, ◌∙◌, true, false, List, [], ◌∷◌, ◌++◌, append_assoc, append-nil, Some, arith}
 use Rattle.c_lex.specs.declared.tokens.Token.{Token}
 use Rattle.c_lex.specs.declared.tokens.TokenKind.{TokenKind}
 use Rattle.c_lex.specs.declared.tokens.TokenKind.TheVariants as kinds
@@ -8,7 +8,6 @@ use Rattle.c_lex.specs.declared.keywords.Keyword.TheVariants as keywords
 use Rattle.c_lex.specs.declared.marks.Mark.{Mark}
 use Rattle.c_lex.specs.declared.marks.Mark.TheVariants as marks
 use Rattle.c_tree.specs.RawTrees.{NameTree, RawItemTree}
-use Rattle.c_tree.specs.RawTemporaries.{AreWithinTemporaries}
 use Rattle.c_parse.specs.declared.errors.ParseError.{ParseError}
 use Rattle.c_parse.specs.declared.errors.ParseError.TheVariants.{Unexpected, Memory}
 use Rattle.c_parse.specs.declared.signs.Sign.{Sign}
@@ -16,15 +15,15 @@ use Rattle.c_parse.specs.declared.signs.Sign.TheVariants as signs
 use Rattle.c_parse.specs.Signs.{sign_of_lem, keyword_sign_lem, mark_sign_lem}
 use Rattle.c_parse.specs.Machine as tasks
 use Rattle.c_parse.specs.Machine.{Task, step, after_move, open_tasks}
-use Rattle.c_parse.specs.Reading.{run, sign_at}
+use Rattle.c_parse.specs.Reading.{sign_at}
 use Rattle.c_parse.specs.Tokens.{next_sign, next_place, rest_of, Passes, PassesName}
-use Rattle.c_parse.specs.Grammar.{IsResult, AreItem, AreItems}
-use Rattle.c_parse.specs.Steps.{Leads, Refused}
+use Rattle.c_parse.specs.Grammar.{IsResult, AreItems}
+use Rattle.c_parse.specs.Steps.{Refused}
 use Rattle.c_parse.specs.ItemSteps.{RefusedListed, ReadsFunction, ReadsTable, ReadsGlobals, ReadsAfterInt, ReadsAfterVoid, ReadsItem, RefusedItems, ReadingItems, ReadsItems}
 use Rattle.c_parse.proofs.Runs.{passes_shorter}
 use Rattle.c_parse.proofs.Verdicts.{run_end, run_refused}
 use Rattle.c_parse.proofs.GlobalRules.{within_append}
-use Rattle.c_parse.proofs.Paths.{Path, here, path_leads, path_stuck, path_path, path_refused, takes_alone, refuses}
+use Rattle.c_parse.proofs.Paths.{Path, here, path_leads, path_stuck, path_refused, takes_alone, refuses}
 
 -- behind `int`
 pub after_int_table : (source : List ℕ) (end : ℕ) (a b : List Token) (old new : List RawItemTree) (item : RawItemTree) → ReadsTable source end a item b → new ≡ old ++ (item ∷ []) → ReadsAfterInt source end a old new b
@@ -160,11 +159,11 @@ pub items_more : (source : List ℕ) (end : ℕ) (a now b : List Token) (old new
 items_more source end a now b old new h k =
     let P : List RawItemTree → Type 0 = λ l. ReadingItems source end a l b in
     subst P (sym k.pushed)
-        (record {
-          tree = λ others t. let Q : List RawItemTree → Type 0 = λ l. AreItems true source a l in subst Q (sym (append_assoc old k.is others)) (h.tree (k.is ++ others) (AreItems.another_item k.tree t));
-          leads = h.leads ∙ k.leads;
-          small = within_append old k.is h.small k.small;
-        })
+    (record {
+      tree = λ others t. let Q : List RawItemTree → Type 0 = λ l. AreItems true source a l in subst Q (sym (append_assoc old k.is others)) (h.tree (k.is ++ others) (AreItems.another_item k.tree t));
+      leads = h.leads ∙ k.leads;
+      small = within_append old k.is h.small k.small;
+    })
 
 pub items_refused : (source : List ℕ) (end : ℕ) (a now : List Token) (is : List RawItemTree) (error : ParseError) → ReadingItems source end a is now → RefusedItems end now error → RefusedItems end a error
 items_refused source end a now is error h r other = h.leads ∙ r other

@@ -1,17 +1,17 @@
 -- What the functions of sizes and declarations come to, exit by exit.
-use Rattle.std.proofs.Common.{ℕ, zero, suc, ◌≡◌, ◌≢◌, ◌+◌, ◌-◌, ◌*◌, ◌<◌, ◌≤◌, ◌⊎◌, inl, inr, max, min, refl, sym, ap, subst, ◌∙◌, Bool, true, false, List, [], ◌∷◌, ◌++◌, length, Option, Some, None, append_assoc, append-nil, arith}
+use Rattle.std.proofs.Common.{ℕ, ◌≡◌, ◌≢◌, ◌+◌, ◌-◌, ◌*◌, ◌≤◌, ◌⊎◌, inl, inr, refl, sym, ap, subst, ◌∙◌, List, [], ◌∷◌, ◌++◌, length, Some, append_assoc, append-nil, arith}
 use Rattle.c_lex.specs.declared.tokens.Token.{Token}
 use Rattle.c_tree.specs.RawTrees.{NameTree, RawExprTree, RawSimpleTree, RawDeclareScalar, RawDeclareArray, RawDeclareWith}
-use Rattle.c_tree.specs.RawTemporaries.{raw_temporaries, raw_simple_temporaries, raw_simples_temporaries}
+use Rattle.c_tree.specs.RawTemporaries.{raw_simple_temporaries, raw_simples_temporaries}
 use Rattle.c_parse.specs.declared.errors.ParseError.{ParseError}
-use Rattle.c_parse.specs.declared.errors.ParseError.TheVariants.{Unexpected, TooDeep, Memory}
+use Rattle.c_parse.specs.declared.errors.ParseError.TheVariants.{Unexpected, Memory}
 use Rattle.c_parse.specs.declared.signs.Sign.{Sign}
 use Rattle.c_parse.specs.declared.signs.Sign.TheVariants as signs
 use Rattle.c_parse.specs.Machine as tasks
 use Rattle.c_parse.specs.Machine.{Task, step, after_move, open_tasks}
-use Rattle.c_parse.specs.Reading.{sign_at, finishes, run}
+use Rattle.c_parse.specs.Reading.{sign_at, run}
 use Rattle.c_parse.specs.Tokens.{next_sign, next_place, rest_of, Passes, PassesName, PassesNumber, IsNotOpened}
-use Rattle.c_parse.specs.Grammar.{IsExpr, IsSize, IsLocal, AreMoreLocals, AreLocals}
+use Rattle.c_parse.specs.Grammar.{IsLocal, AreMoreLocals, AreLocals}
 use Rattle.c_parse.specs.Steps.{Leads, Refused, ReadsExpr}
 use Rattle.c_parse.specs.StmtSteps.{Sized, ReadsSize, RefusedSize, ReadsLocal, ReadsLocals, ReadingLocals}
 use Rattle.c_parse.proofs.Runs.{run_sign, run_passes, run_too_deep, run_none, shorter_sign, passes_shorter, refuses_but, right_bracket_only}

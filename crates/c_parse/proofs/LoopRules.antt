@@ -1,22 +1,20 @@
 -- What the functions of the parts of a `for` come to, exit by exit.
-use Rattle.std.proofs.Common.{ℕ, ◌≡◌, ◌≢◌, ◌+◌, ◌*◌, ◌<◌, ◌≤◌, ◌⊎◌, inl, inr, max, refl, sym, ap, subst, ◌∙◌, List, [], ◌∷◌, ◌++◌, length, Option, Some, None, arith}
+use Rattle.std.proofs.Common.{ℕ, ◌≡◌, ◌≢◌, ◌+◌, ◌≤◌, ◌⊎◌, inl, inr, refl, List, [], ◌∷◌, Option, Some, None, arith}
 use Rattle.c_lex.specs.declared.tokens.Token.{Token}
 use Rattle.c_tree.specs.RawTrees.{RawExprTree, RawSimpleTree}
-use Rattle.c_tree.specs.RawTemporaries.{raw_simple_temporaries, raw_simples_temporaries, raw_step_temporaries}
 use Rattle.c_parse.specs.declared.errors.ParseError.{ParseError}
-use Rattle.c_parse.specs.declared.errors.ParseError.TheVariants.{Unexpected, TooDeep, Memory}
+use Rattle.c_parse.specs.declared.errors.ParseError.TheVariants.{Unexpected}
 use Rattle.c_parse.specs.declared.signs.Sign.{Sign}
 use Rattle.c_parse.specs.declared.signs.Sign.TheVariants as signs
 use Rattle.c_parse.specs.Machine as tasks
 use Rattle.c_parse.specs.Machine.{Task, step, open_tasks}
-use Rattle.c_parse.specs.Reading.{run, finishes}
 use Rattle.c_parse.specs.Tokens.{next_sign, next_place, rest_of, Passes, IsNotOpened}
 use Rattle.c_parse.specs.Grammar.{IsForInit, IsForStep}
-use Rattle.c_parse.specs.Steps.{Leads, Refused}
+use Rattle.c_parse.specs.Steps.{Refused}
 use Rattle.c_parse.specs.StmtSteps.{ReadsSimple, RefusedSimple, ReadsLocals}
-use Rattle.c_parse.specs.BodySteps.{LeadsInside, RefusedInside, ReadsUpToSemicolon, ReadsForInit, ReadsForStep, ReadsForParts}
+use Rattle.c_parse.specs.BodySteps.{RefusedInside, ReadsUpToSemicolon, ReadsForInit, ReadsForStep, ReadsForParts}
 use Rattle.c_parse.proofs.Runs.{passes_shorter, semicolon_only, right_parenthesis_only}
-use Rattle.c_parse.proofs.Paths.{Path, Stuck, here, path_leads, path_refused, path_stuck, path_path, path_inside, path_refused_inside, takes, takes_alone, too_deep, refuses, leads_inside, refused_inside}
+use Rattle.c_parse.proofs.Paths.{Path, here, path_leads, path_refused, path_stuck, path_path, path_inside, path_refused_inside, takes, takes_alone, too_deep, refuses, leads_inside, refused_inside}
 
 -- the first part
 pub init_none : (source : List ℕ) (end depth : ℕ) (a b : List Token) → depth ≤ 64 → next_sign a ≡ signs.Semicolon → b ≡ rest_of a → ReadsForInit source end depth a [] b
@@ -76,8 +74,8 @@ init_read source end depth a b c s low h close =
       tree = IsForInit.simple_init h.tree close;
       shorter = (let l1 = h.shorter in let l2 = passes_shorter close (λ e. cc) in omega arith);
       leads = leads_inside end depth tasks.ForInit a (tasks.UpToSemicolon ∷ tasks.ForStep ∷ []) c (λ outer i.
-        let q : Path end outer (tasks.Token signs.Semicolon ∷ tasks.UpToSemicolon ∷ tasks.ForStep ∷ []) b (tasks.UpToSemicolon ∷ tasks.ForStep ∷ []) c = takes (tasks.UpToSemicolon ∷ tasks.ForStep ∷ []) [] close (λ e. cc) refl (omega arith) in
-        path_path (init_simple source end depth outer a b s low i h) q);
+          let q : Path end outer (tasks.Token signs.Semicolon ∷ tasks.UpToSemicolon ∷ tasks.ForStep ∷ []) b (tasks.UpToSemicolon ∷ tasks.ForStep ∷ []) c = takes (tasks.UpToSemicolon ∷ tasks.ForStep ∷ []) [] close (λ e. cc) refl (omega arith) in
+          path_path (init_simple source end depth outer a b s low i h) q);
       small = (let m = h.small in omega arith);
     }
 
@@ -123,8 +121,8 @@ step_read source end depth a b c s low h close =
       tree = IsForStep.step h.tree close;
       shorter = (let l1 = h.shorter in let l2 = passes_shorter close (λ e. cc) in omega arith);
       leads = leads_inside end depth tasks.ForStep a [] c (λ outer i.
-        let q : Path end outer (tasks.Token signs.RightParenthesis ∷ []) b [] c = takes_alone [] close (λ e. cc) refl (omega arith) in
-        path_path (step_simple source end depth outer a b s low i h) q);
+          let q : Path end outer (tasks.Token signs.RightParenthesis ∷ []) b [] c = takes_alone [] close (λ e. cc) refl (omega arith) in
+          path_path (step_simple source end depth outer a b s low i h) q);
       small = (let m = h.small in omega arith);
     }
 

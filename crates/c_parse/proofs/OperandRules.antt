@@ -1,5 +1,5 @@
 -- What the functions of operands, brackets and arguments come to, exit by exit.
-use Rattle.std.proofs.Common.{ℕ, zero, suc, ◌≡◌, ◌≢◌, ◌+◌, ◌-◌, ◌*◌, ◌<◌, ◌≤◌, max, min, refl, sym, ap, subst, ◌∙◌, Bool, true, false, List, [], ◌∷◌, ◌++◌, length, Option, Some, None, arith}
+use Rattle.std.proofs.Common.{ℕ, ◌≡◌, ◌≢◌, ◌+◌, ◌≤◌, refl, sym, ap, subst, ◌∙◌, List, [], ◌∷◌, length, Option, Some, None, arith}
 use Rattle.c_lex.specs.declared.tokens.Token.{Token}
 use Rattle.c_lex.specs.declared.tokens.TokenKind.{TokenKind}
 use Rattle.c_lex.specs.declared.tokens.TokenKind.TheVariants as kinds
@@ -8,22 +8,20 @@ use Rattle.c_lex.specs.declared.keywords.Keyword.TheVariants as keywords
 use Rattle.c_lex.specs.declared.marks.Mark.{Mark}
 use Rattle.c_lex.specs.declared.marks.Mark.TheVariants as marks
 use Rattle.c_tree.specs.declared.operators.UnaryOperator.{UnaryOperator}
-use Rattle.c_tree.specs.RawTrees.{NameTree, RawExprTree, RawExprTrees, RawNumber, RawName, RawElement, RawUnary, RawParenthesized, RawCall, RawTableCall, NoExprs, And}
-use Rattle.c_tree.specs.RawViews.{raw_arguments}
-use Rattle.c_tree.specs.RawTemporaries.{raw_temporaries, raw_arguments_temporaries}
+use Rattle.c_tree.specs.RawTrees.{NameTree, RawExprTree, RawExprTrees, RawNumber, RawName, RawElement, RawUnary, RawParenthesized, RawCall, RawTableCall}
 use Rattle.c_parse.specs.declared.errors.ParseError.{ParseError}
-use Rattle.c_parse.specs.declared.errors.ParseError.TheVariants.{Unexpected, TooDeep, Memory}
+use Rattle.c_parse.specs.declared.errors.ParseError.TheVariants.{Unexpected, TooDeep}
 use Rattle.c_parse.specs.declared.signs.Sign.{Sign}
 use Rattle.c_parse.specs.declared.signs.Sign.TheVariants as signs
-use Rattle.c_parse.specs.Signs.{sign_of_lem, keyword_sign_lem, mark_sign_lem}
+use Rattle.c_parse.specs.Signs.{sign_of_lem}
 use Rattle.c_parse.specs.Machine as tasks
 use Rattle.c_parse.specs.Machine.{Task, Move, step, after_move, open_tasks}
-use Rattle.c_parse.specs.Reading.{sign_at, finishes, run}
+use Rattle.c_parse.specs.Reading.{sign_at, run}
 use Rattle.c_parse.specs.Operators.{unary_of_lem}
 use Rattle.c_parse.specs.Tokens.{next_sign, next_kind, next_place, rest_of, Passes, PassesName, PassesNumber}
-use Rattle.c_parse.specs.Grammar.{PassesPrefix, IsExpr, IsUnary, IsPrimary, IsIndex, IsParenthesized, AreArguments, AreMoreArguments}
-use Rattle.c_parse.specs.Steps.{Leads, Refused, NoPrefix, ReadsExpr, ReadsUnary, ReadsPrimary, ReadsNamed, ReadsElement, ReadsParenthesized, ReadsIndex, ReadsArguments, ReadingArguments, followed_by}
-use Rattle.c_parse.proofs.Runs.{run_sign, run_passes, run_too_deep, run_none, shorter_sign, passes_shorter, refuses_but, parenthesized_only, right_parenthesis_only, right_bracket_only}
+use Rattle.c_parse.specs.Grammar.{IsUnary, IsPrimary}
+use Rattle.c_parse.specs.Steps.{Refused, NoPrefix, ReadsUnary, ReadsPrimary, ReadsNamed, ReadsElement, ReadsParenthesized, ReadsIndex, ReadsArguments}
+use Rattle.c_parse.proofs.Runs.{run_sign, run_passes, run_too_deep, run_none, shorter_sign, passes_shorter}
 use Rattle.c_parse.proofs.ExprRules.{done_run, pass_run, pass_end}
 use Rattle.c_parse.proofs.TreeAccepted.{number_passes}
 

@@ -1,19 +1,19 @@
 -- The machine's run from the start is the verdict of the grammar, and no other verdict stands.
-use Rattle.std.proofs.Common.{ℕ, ◌≡◌, ◌<◌, ◌≤◌, ◌⊎◌, inl, inr, ⊎_elim, refl, sym, ap, subst, ◌∙◌, Bool, true, false, List, [], ◌∷◌, ◌++◌, Option, Some, None, append_assoc, arith}
+use Rattle.std.proofs.Common.{ℕ, ◌≡◌, ◌<◌, ◌≤◌, ◌⊎◌, inl, inr, ⊎_elim, refl, sym, ap, subst, ◌∙◌, true, false, List, [], ◌∷◌, ◌++◌, Option, Some, None, append_assoc, arith}
 use Rattle.std.proofs.lemmas.Bool.{cases_lt, cases_Bool}
 use Rattle.std.proofs.lemmas.List.{append-nil}
 use Rattle.c_lex.specs.declared.tokens.Token.{Token}
 use Rattle.c_parse.specs.declared.errors.ParseError.{ParseError}
 use Rattle.c_parse.specs.declared.errors.ParseError.TheVariants.{Unexpected, TooDeep, NestedCall, Memory}
 use Rattle.c_parse.specs.declared.signs.Sign.{Sign}
-use Rattle.c_parse.specs.Rests.{Symbol, Way, Any, Nearest, TakesAll, CanBeNothing, open_in}
+use Rattle.c_parse.specs.Rests.{Symbol, Any, Nearest, CanBeNothing}
 use Rattle.c_parse.specs.Machine.{Task, step, open_tasks}
 use Rattle.c_parse.specs.Reading.{sign_at, signs_of, finishes, run}
-use Rattle.c_parse.specs.Refusals.{Leave, CanBeTaken, IsLeft, AreWhole, IsDeep, IsShallow, IsUnexpectedToken, IsUnexpectedEnd, IsUnexpected, IsTooDeep, IsWithin, Verdict}
+use Rattle.c_parse.specs.Refusals.{Leave, CanBeTaken, IsLeft, AreWhole, IsShallow, IsUnexpectedToken, IsUnexpectedEnd, IsTooDeep, IsWithin, Verdict}
 use Rattle.c_parse.proofs.Covers.{Covers}
 use Rattle.c_parse.proofs.Ends.{nothing_finishes}
 use Rattle.c_parse.proofs.Agreement.{Steps, follow}
-use Rattle.c_parse.proofs.Verdicts.{start, run_end, run_unfinished, run_refused, run_taken, run_deep, some_same, steps_same, steps_last, signs_append, MachineTakes, can_take, takes_it, deep_is, is_deep, reach, shallow_none, shallow_more, all_nearest_any}
+use Rattle.c_parse.proofs.Verdicts.{start, run_end, run_unfinished, run_refused, run_taken, run_deep, some_same, steps_same, steps_last, signs_append, can_take, takes_it, deep_is, is_deep, reach, shallow_none, shallow_more, all_nearest_any}
 
 -- the last step of several
 record LastStep (todo : List Task) (signs : List Sign) (sign : Sign) (left : List Task) : Type 0 where

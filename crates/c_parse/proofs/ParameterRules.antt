@@ -1,5 +1,5 @@
 -- What the functions of parameters come to, exit by exit.
-use Rattle.std.proofs.Common.{ℕ, ◌≡◌, ◌≢◌, ◌+◌, ◌<◌, ◌≤◌, ◌⊎◌, inl, inr, refl, sym, ap, subst, ◌∙◌, Bool, true, false, List, [], ◌∷◌, ◌++◌, length, append_assoc, append-nil, Option, Some, None, arith}
+use Rattle.std.proofs.Common.{ℕ, ◌≡◌, ◌≢◌, ◌⊎◌, inl, inr, refl, sym, ap, subst, ◌∙◌, Bool, true, false, List, [], ◌∷◌, ◌++◌, append_assoc, append-nil, Option, Some, None, arith}
 use Rattle.c_lex.specs.declared.tokens.Token.{Token}
 use Rattle.c_tree.specs.RawTrees.{NameTree}
 use Rattle.c_parse.specs.declared.errors.ParseError.{ParseError}
@@ -13,7 +13,7 @@ use Rattle.c_parse.specs.Tokens.{next_sign, next_place, rest_of, Passes, PassesN
 use Rattle.c_parse.specs.Grammar.{IsNameOption, AreMoreParameters, AreMoreNamed, AreParameters, AreNamed}
 use Rattle.c_parse.specs.Steps.{Leads, Refused}
 use Rattle.c_parse.specs.ItemSteps.{all_have_names, names_in, named_with, name_task, more_task, after_task, Listed, RefusedListed, ReadsParameter, RefusedParameter, ReadingParameters, ReadsParameterList, ReadsParameters}
-use Rattle.c_parse.proofs.Runs.{passes_shorter, right_parenthesis_only}
+use Rattle.c_parse.proofs.Runs.{passes_shorter}
 use Rattle.c_parse.proofs.Paths.{Path, here, path_leads_to, path_stuck, path_path, path_refused, takes, takes_alone, refuses, does_same}
 
 -- the tasks of parameters, with all names so far or without
@@ -80,9 +80,9 @@ parameter_named source end a b c n int p =
       name = IsNameOption.a_name p;
       shorter = (let l1 = passes_shorter int (λ e. cc) in let l2 = passes_shorter p.passes (λ e. cc) in omega arith);
       leads = λ named.
-        let o = more_open named in
-        let q : Path end 0 (name_task named ∷ []) b (more_task named ∷ []) c = takes_alone (more_task named ∷ []) p.passes (λ e. cc) (name_moves named) (omega arith) in
-        q.goes;
+          let o = more_open named in
+          let q : Path end 0 (name_task named ∷ []) b (more_task named ∷ []) c = takes_alone (more_task named ∷ []) p.passes (λ e. cc) (name_moves named) (omega arith) in
+          q.goes;
     }
 
 pub parameter_alone : (source : List ℕ) (end : ℕ) (a b : List Token) → Passes signs.Int a b → next_sign b ≢ signs.Name → ReadsParameter source end a None b
@@ -93,10 +93,10 @@ parameter_alone source end a b int other =
       name = IsNameOption.no_name;
       shorter = passes_shorter int (λ e. cc);
       leads = λ named.
-        let q : Path end 0 (name_task named ∷ []) b (tasks.MorePrototype ∷ []) b =
+          let q : Path end 0 (name_task named ∷ []) b (tasks.MorePrototype ∷ []) b =
           does_same [] (tasks.MorePrototype ∷ []) (λ rest. ap (λ m. after_move m rest (step rest (next_sign b))) (name_passes named (next_sign b) other)) (λ rest. name_unfinished named rest)
-        in
-        q.goes;
+          in
+          q.goes;
     }
 
 pub parameter_refused : (end : ℕ) (a : List Token) (error : ParseError) → error ≡ Unexpected (next_place end a) → next_sign a ≢ signs.Int → RefusedParameter end a error
@@ -175,12 +175,12 @@ list_more source end a now b c ps p h e behind k =
     let P : Bool → Type 0 = λ all. Leads end 0 (tasks.ParameterList ∷ []) a (more_task all ∷ []) c in
     record {
       tree = λ x after others paren t.
-        let Q : List (Option NameTree) → Type 0 = λ l. AreParameters source x l after in
-        subst Q (sym (append_assoc ps (p ∷ []) others)) (h.tree x after (p ∷ others) paren (AreMoreParameters.another_parameter comma k.int k.name t));
+          let Q : List (Option NameTree) → Type 0 = λ l. AreParameters source x l after in
+          subst Q (sym (append_assoc ps (p ∷ []) others)) (h.tree x after (p ∷ others) paren (AreMoreParameters.another_parameter comma k.int k.name t));
       named = λ x after others all paren t.
-        let Q : List NameTree → Type 0 = λ l. AreNamed source x l after in
-        let same = ap (λ l. l ++ others) (names_append ps p) ∙ append_assoc (names_in ps) (names_in (p ∷ [])) others in
-        subst Q (sym same) (h.named x after (names_in (p ∷ []) ++ others) (first_all ps p all) paren (more_named others k.name (last_all ps p all) comma k.int t));
+          let Q : List NameTree → Type 0 = λ l. AreNamed source x l after in
+          let same = ap (λ l. l ++ others) (names_append ps p) ∙ append_assoc (names_in ps) (names_in (p ∷ [])) others in
+          subst Q (sym same) (h.named x after (names_in (p ∷ []) ++ others) (first_all ps p all) paren (more_named others k.name (last_all ps p all) comma k.int t));
       shorter = (let l1 = h.shorter in let l2 = passes_shorter comma (λ e. cc) in let l3 = k.shorter in omega arith);
       leads = subst P (all_append ps p) q3.goes;
     }
@@ -226,9 +226,9 @@ parameters_none source end a b c e behind f last =
       named = λ all. AreNamed.no_named paren close;
       shorter = (let l1 = passes_shorter paren (λ e. cc) in let l2 = passes_shorter close (λ e. cc) in omega arith);
       leads = λ todo z.
-        let q : Path end 0 (tasks.ParameterList ∷ []) b (tasks.AfterParameters ∷ []) c = takes_alone (tasks.AfterParameters ∷ []) close (λ e. cc) refl (omega arith) in
-        let r = path_path (opens_list end todo a b z paren) q in
-        r.goes;
+          let q : Path end 0 (tasks.ParameterList ∷ []) b (tasks.AfterParameters ∷ []) c = takes_alone (tasks.AfterParameters ∷ []) close (λ e. cc) refl (omega arith) in
+          let r = path_path (opens_list end todo a b z paren) q in
+          r.goes;
     }
 
 void_path : (end : ℕ) (todo : Task) (a b c : List Token) → Listed todo → Passes signs.LeftParenthesis a b → Passes signs.Void b c → Path end 0 (todo ∷ []) a (tasks.ParametersEnd ∷ []) c
@@ -253,9 +253,9 @@ parameters_void source end a b c d e behind f last close =
       named = λ all. AreNamed.void_named paren void close;
       shorter = (let l1 = passes_shorter paren (λ e. cc) in let l2 = passes_shorter void (λ e. cc) in let l3 = passes_shorter close (λ e. cc) in omega arith);
       leads = λ todo z.
-        let q : Path end 0 (tasks.ParametersEnd ∷ []) c (tasks.AfterParameters ∷ []) d = takes_alone (tasks.AfterParameters ∷ []) close (λ e. cc) refl (omega arith) in
-        let r = path_path (void_path end todo a b c z paren void) q in
-        r.goes;
+          let q : Path end 0 (tasks.ParametersEnd ∷ []) c (tasks.AfterParameters ∷ []) d = takes_alone (tasks.AfterParameters ∷ []) close (λ e. cc) refl (omega arith) in
+          let r = path_path (void_path end todo a b c z paren void) q in
+          r.goes;
     }
 
 pub parameters_list : (source : List ℕ) (end : ℕ) (a b c : List Token) (ps : List (Option NameTree)) → next_sign a ≡ signs.LeftParenthesis → b ≡ rest_of a → ReadsParameterList source end b ps c → ReadsParameters source end a ps c

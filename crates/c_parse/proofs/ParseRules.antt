@@ -1,5 +1,5 @@
 -- What the machine's run from the start says of the tokens of a source, and that they have one tree or one refusal.
-use Rattle.std.proofs.Common.{ℕ, ◌≡◌, ◌≢◌, ◌⊎◌, inl, inr, refl, sym, ap, subst, ◌∙◌, List, [], ◌∷◌, length, Option, Some, None, Result, Ok, Err}
+use Rattle.std.proofs.Common.{ℕ, ◌≡◌, ◌≢◌, ◌⊎◌, inl, inr, refl, ap, subst, ◌∙◌, List, [], ◌∷◌, length, Option, Some, None, Result, Ok, Err}
 use Rattle.std.specs.Prelude.{IfOk, IfErr, IsErrOf, MatchResult}
 use Rattle.c_lex.specs.declared.tokens.Token.{Token}
 use Rattle.c_tree.specs.RawTrees.{RawItemTree}
@@ -9,7 +9,7 @@ use Rattle.c_parse.specs.declared.errors.ParseError.{ParseError}
 use Rattle.c_parse.specs.declared.errors.ParseError.TheVariants.{Unexpected, TooDeep, NestedCall, Memory}
 use Rattle.c_parse.specs.Machine as tasks
 use Rattle.c_parse.specs.Reading.{run}
-use Rattle.c_parse.specs.Refusals.{Verdict, IsWithin, IsUnexpected, IsTooDeep}
+use Rattle.c_parse.specs.Refusals.{Verdict, IsWithin, IsUnexpected}
 use Rattle.c_parse.specs.Grammar.{IsProgram}
 use Rattle.c_parse.specs.NestedCalls.{nested_in_items}
 use Rattle.c_parse.specs.Parsed.{IsParsed, IsNestedCall, IsParseErrorOf}

@@ -1,21 +1,21 @@
 -- Pieces of the machine's run put one behind another.
-use Rattle.std.proofs.Common.{ℕ, ◌≡◌, ◌≢◌, ◌+◌, ◌<◌, ◌≤◌, Result, rules, refl, sym, ap, subst, ◌∙◌, Bool, true, false, List, [], ◌∷◌, ◌++◌, length, Option, Some, None, append_assoc, arith}
+use Rattle.std.proofs.Common.{ℕ, ◌≡◌, ◌≢◌, ◌+◌, ◌<◌, ◌≤◌, Result, rules, refl, sym, ap, subst, ◌∙◌, true, false, List, [], ◌∷◌, ◌++◌, Some, append_assoc, arith}
 use Rattle.std.specs.Result.{IsErrAnd, IfErr}
 use Rattle.std.proofs.lemmas.Result.{err_from_is_err_and}
 use denote.Enum.Bare.{sameb, same_true, same_false}
 use Rattle.c_lex.specs.declared.tokens.Token.{Token}
 use Rattle.c_parse.specs.declared.errors.ParseError.{ParseError}
-use Rattle.c_parse.specs.declared.errors.ParseError.TheVariants.{Unexpected, TooDeep, Memory}
+use Rattle.c_parse.specs.declared.errors.ParseError.TheVariants.{Unexpected, TooDeep}
 use Rattle.c_parse.specs.declared.signs.Sign.{Sign}
 use Rattle.c_parse.specs.declared.signs.Sign.TheVariants as signs
 use Rattle.c_parse.specs.contracts.signs.Sign.{the_type}
 use Rattle.c_parse.specs.Machine as tasks
 use Rattle.c_parse.specs.Machine.{Task, Move, step, after_move, open_tasks}
 use Rattle.c_parse.specs.Reading.{sign_at, finishes, run}
-use Rattle.c_parse.specs.Tokens.{next_sign, next_place, rest_of, Passes}
+use Rattle.c_parse.specs.Tokens.{next_sign, next_place, Passes}
 use Rattle.c_parse.specs.Steps.{Leads, Refused}
 use Rattle.c_parse.specs.BodySteps.{LeadsInside, RefusedInside}
-use Rattle.c_parse.proofs.Runs.{run_sign, run_passes, run_too_deep, run_none}
+use Rattle.c_parse.proofs.Runs.{run_passes, run_too_deep, run_none}
 use Rattle.c_parse.proofs.ExprRules.{pass_run, pass_end}
 
 -- where so many constructs are open, the tasks from one list of tokens on lead to the others at another list

@@ -1,23 +1,22 @@
 -- What the functions of statements that hold no other statement come to, exit by exit.
-use Rattle.std.proofs.Common.{ℕ, ◌≡◌, ◌≢◌, ◌+◌, ◌*◌, ◌<◌, ◌≤◌, ◌⊎◌, inl, inr, max, refl, sym, ap, subst, ◌∙◌, true, false, List, [], ◌∷◌, ◌++◌, length, map, Option, Some, None, arith}
+use Rattle.std.proofs.Common.{ℕ, ◌≡◌, ◌≢◌, ◌+◌, ◌*◌, ◌≤◌, ◌⊎◌, inl, inr, refl, sym, ap, subst, ◌∙◌, true, List, [], ◌∷◌, ◌++◌, map, Option, Some, None, arith}
 use Rattle.c_lex.specs.declared.tokens.Token.{Token}
-use Rattle.c_tree.specs.RawTrees.{RawExprTree, RawSimpleTree, RawStmtTree, RawStmtTrees, RawDo, RawEmpty, RawBreak, RawContinue, RawReturn, RawThen}
-use Rattle.c_tree.specs.RawViews.{raw_in_order}
-use Rattle.c_tree.specs.RawTemporaries.{raw_simple_temporaries, raw_simples_temporaries, raw_stmt_temporaries, raw_stmts_temporaries}
+use Rattle.c_tree.specs.RawTrees.{RawExprTree, RawSimpleTree, RawStmtTree, RawStmtTrees, RawDo, RawBreak, RawContinue, RawReturn, RawThen}
+use Rattle.c_tree.specs.RawTemporaries.{raw_simples_temporaries, raw_stmt_temporaries}
 use Rattle.c_parse.specs.declared.errors.ParseError.{ParseError}
-use Rattle.c_parse.specs.declared.errors.ParseError.TheVariants.{Unexpected, Memory}
+use Rattle.c_parse.specs.declared.errors.ParseError.TheVariants.{Unexpected}
 use Rattle.c_parse.specs.declared.signs.Sign.{Sign}
 use Rattle.c_parse.specs.declared.signs.Sign.TheVariants as signs
 use Rattle.c_parse.specs.Machine as tasks
 use Rattle.c_parse.specs.Machine.{Task, step, open_tasks}
-use Rattle.c_parse.specs.Reading.{run, finishes}
+use Rattle.c_parse.specs.Reading.{run}
 use Rattle.c_parse.specs.Tokens.{next_sign, next_place, next_at, rest_of, Passes}
 use Rattle.c_parse.specs.Grammar.{IsUpToSemicolon, IsBody, AreStmts, declared_before}
-use Rattle.c_parse.specs.Steps.{Leads, Refused, ReadsExpr}
+use Rattle.c_parse.specs.Steps.{Refused, ReadsExpr}
 use Rattle.c_parse.specs.StmtSteps.{ReadsSimple, RefusedSimple, ReadsLocals}
-use Rattle.c_parse.specs.BodySteps.{RefusedInside, NoStatement, ReadsBody, ReadsUpToSemicolon, AreSoFar, AreSmall, ReadsBlockItem, stmts_before}
-use Rattle.c_parse.proofs.Runs.{run_sign, shorter_sign, passes_shorter, semicolon_only}
-use Rattle.c_parse.proofs.Paths.{Path, Stuck, here, path_leads, path_refused, path_stuck, path_path, takes, takes_alone, refuses, does_same}
+use Rattle.c_parse.specs.BodySteps.{RefusedInside, NoStatement, ReadsBody, ReadsUpToSemicolon, AreSmall, ReadsBlockItem, stmts_before}
+use Rattle.c_parse.proofs.Runs.{run_sign, passes_shorter, semicolon_only}
+use Rattle.c_parse.proofs.Paths.{Path, here, path_leads, path_refused, path_stuck, path_path, takes_alone, refuses, does_same}
 
 -- an expression that may be left out
 pub up_none : (source : List ℕ) (end depth : ℕ) (a b : List Token) → depth ≤ 64 → next_sign a ≡ signs.Semicolon → b ≡ rest_of a → ReadsUpToSemicolon source end depth a None b

@@ -1,21 +1,20 @@
 -- What the functions of assignments and calls come to, exit by exit.
-use Rattle.std.proofs.Common.{ℕ, zero, suc, ◌≡◌, ◌≢◌, ◌+◌, ◌-◌, ◌*◌, ◌<◌, ◌≤◌, ◌⊎◌, inl, inr, max, min, refl, sym, ap, subst, ◌∙◌, List, [], ◌∷◌, ◌++◌, length, Option, Some, None, arith}
+use Rattle.std.proofs.Common.{ℕ, ◌≡◌, ◌≢◌, ◌≤◌, ◌⊎◌, inl, inr, refl, sym, ap, subst, ◌∙◌, List, [], ◌∷◌, Some, arith}
 use Rattle.c_lex.specs.declared.tokens.Token.{Token}
 use Rattle.c_tree.specs.RawTrees.{NameTree, RawExprTree, RawExprTrees, RawSimpleTree, RawSet, RawSetElement, RawCalling, RawTableCalling}
-use Rattle.c_tree.specs.RawTemporaries.{raw_temporaries, raw_arguments_temporaries, raw_simple_temporaries}
 use Rattle.c_parse.specs.declared.errors.ParseError.{ParseError}
-use Rattle.c_parse.specs.declared.errors.ParseError.TheVariants.{Unexpected, TooDeep, Memory}
+use Rattle.c_parse.specs.declared.errors.ParseError.TheVariants.{Unexpected, Memory}
 use Rattle.c_parse.specs.declared.signs.Sign.{Sign}
 use Rattle.c_parse.specs.declared.signs.Sign.TheVariants as signs
 use Rattle.c_parse.specs.Machine as tasks
 use Rattle.c_parse.specs.Machine.{Task, step, after_move, open_tasks}
-use Rattle.c_parse.specs.Reading.{sign_at, finishes, run}
+use Rattle.c_parse.specs.Reading.{run}
 use Rattle.c_parse.specs.Tokens.{next_sign, next_place, rest_of, Passes, PassesName}
-use Rattle.c_parse.specs.Grammar.{IsExpr, IsIndex, IsParenthesized, AreArguments, IsSimple}
+use Rattle.c_parse.specs.Grammar.{IsSimple}
 use Rattle.c_parse.specs.Steps.{Leads, Refused, ReadsExpr, ReadsParenthesized, ReadsIndex, ReadsArguments}
 use Rattle.c_parse.specs.StmtSteps.{ReadsSimple, RefusedSimple, ReadsIndexed}
-use Rattle.c_parse.proofs.Runs.{run_sign, run_passes, run_none, shorter_sign, passes_shorter}
-use Rattle.c_parse.proofs.ExprRules.{pass_run, pass_end}
+use Rattle.c_parse.proofs.Runs.{run_passes, run_none, passes_shorter}
+use Rattle.c_parse.proofs.ExprRules.{pass_run}
 
 -- what is behind the name of the next token
 behind_name : {source : List ℕ} {a b : List Token} {n : NameTree} → PassesName source a n b → b ≡ rest_of a

@@ -1,7 +1,7 @@
 -- What the functions of tables come to, exit by exit.
-use Rattle.std.proofs.Common.{ℕ, ◌≡◌, ◌≢◌, ◌+◌, ◌<◌, ◌≤◌, ◌⊎◌, inl, inr, refl, sym, ap, subst, ◌∙◌, true, false, List, [], ◌∷◌, ◌++◌, length, append_assoc, append-nil, Option, Some, None, arith}
+use Rattle.std.proofs.Common.{ℕ, ◌≡◌, ◌≢◌, ◌⊎◌, inl, inr, refl, sym, ap, subst, true, List, [], ◌∷◌, ◌++◌, append_assoc, append-nil, arith}
 use Rattle.c_lex.specs.declared.tokens.Token.{Token}
-use Rattle.c_tree.specs.RawTrees.{NameTree, RawItemTree, RawTableItem}
+use Rattle.c_tree.specs.RawTrees.{NameTree, RawTableItem}
 use Rattle.c_parse.specs.declared.errors.ParseError.{ParseError}
 use Rattle.c_parse.specs.declared.errors.ParseError.TheVariants.{Unexpected, Memory}
 use Rattle.c_parse.specs.declared.signs.Sign.{Sign}
@@ -9,8 +9,8 @@ use Rattle.c_parse.specs.declared.signs.Sign.TheVariants as signs
 use Rattle.c_parse.specs.Machine as tasks
 use Rattle.c_parse.specs.Machine.{Task, open_tasks}
 use Rattle.c_parse.specs.Tokens.{next_sign, next_place, rest_of, Passes, PassesName}
-use Rattle.c_parse.specs.Grammar.{IsSize, AreMoreMembers, AreItem}
-use Rattle.c_parse.specs.Steps.{Leads, Refused}
+use Rattle.c_parse.specs.Grammar.{AreMoreMembers, AreItem}
+use Rattle.c_parse.specs.Steps.{Refused}
 use Rattle.c_parse.specs.StmtSteps.{ReadsSize, RefusedSize}
 use Rattle.c_parse.specs.ItemSteps.{ReadsDeclared, ReadsTableParameter, ReadingMembers, ReadsMembers, ReadsTable}
 use Rattle.c_parse.proofs.Runs.{passes_shorter, right_parenthesis_only, semicolon_only}
@@ -188,8 +188,8 @@ members_more source end a now b c ns n h e behind p =
       opened = h.opened;
       named = h.named;
       tree = λ others after t.
-        let P : List NameTree → Type 0 = λ l. AreMoreMembers source h.c l after in
-        subst P (sym (append_assoc h.more (n ∷ []) others)) (h.tree (n ∷ others) after (AreMoreMembers.another_member comma p t));
+          let P : List NameTree → Type 0 = λ l. AreMoreMembers source h.c l after in
+          subst P (sym (append_assoc h.more (n ∷ []) others)) (h.tree (n ∷ others) after (AreMoreMembers.another_member comma p t));
       shorter = (let l1 = h.shorter in let l2 = passes_shorter comma (λ e. cc) in let l3 = passes_shorter p.passes (λ e. cc) in omega arith);
       leads = r.goes;
     }
@@ -253,8 +253,8 @@ table_read source end n words ns a b c d f g h k assign m close =
     let r = path_path (members_path source end n words ns a b c d f h k assign m) last in
     record {
       tree = λ x int.
-        let P : List NameTree → Type 0 = λ l. AreItem true source x (RawTableItem n words l ∷ []) g in
-        subst P (sym m.some) (AreItem.table int h.opened h.star h.named h.sized h.closed k.opened k.int k.closed assign m.opened m.named m.tree close);
+          let P : List NameTree → Type 0 = λ l. AreItem true source x (RawTableItem n words l ∷ []) g in
+          subst P (sym m.some) (AreItem.table int h.opened h.star h.named h.sized h.closed k.opened k.int k.closed assign m.opened m.named m.tree close);
       shorter = (let l1 = h.shorter in let l2 = k.shorter in let l3 = passes_shorter assign (λ e. cc) in let l4 = m.shorter in let l5 = passes_shorter close (λ e. cc) in omega arith);
       leads = r.goes;
       small = (omega arith, tt);

@@ -1,5 +1,5 @@
 -- What has a tree by the grammar, the rests of the grammar take whole.
-use Rattle.std.proofs.Common.{ℕ, zero, suc, ◌≡◌, ◌≢◌, ◌+◌, ◌<◌, ◌≤◌, refl, sym, ap, subst, ◌∙◌, Bool, true, false, List, [], ◌∷◌, ◌++◌, Option, Some, None, append_assoc, lit<, arith}
+use Rattle.std.proofs.Common.{ℕ, zero, suc, ◌≡◌, ◌≢◌, ◌+◌, ◌<◌, ◌≤◌, refl, sym, ap, subst, ◌∙◌, Bool, true, List, [], ◌∷◌, ◌++◌, Option, Some, None, lit<, arith}
 use Rattle.c_lex.specs.declared.tokens.Token.{Token}
 use Rattle.c_lex.specs.declared.tokens.TokenKind.{TokenKind}
 use Rattle.c_lex.specs.declared.tokens.TokenKind.TheVariants as kinds
@@ -9,14 +9,14 @@ use Rattle.c_tree.specs.declared.operators.UnaryOperator.{UnaryOperator}
 use Rattle.c_tree.specs.RawTrees.{NameTree, RawExprTree, RawExprTrees, RawSimpleTree, RawStmtTree, RawStmtTrees, RawItemTree}
 use Rattle.c_parse.specs.declared.signs.Sign.{Sign}
 use Rattle.c_parse.specs.declared.signs.Sign.TheVariants as signs
-use Rattle.c_parse.specs.Signs.{Level, Tightest, Looser, Loosest, IsOperator, IsPrefix, sign_of_lem}
+use Rattle.c_parse.specs.Signs.{Level, Tightest, Looser, IsOperator, IsPrefix, sign_of_lem}
 use Rattle.c_parse.specs.Operators.{unary_of_lem, infix_of_lem, level_of_lem}
 use Rattle.c_parse.specs.Rests as symbols
 use Rattle.c_parse.specs.Rests.{Symbol, Nearest, Takes, TakesAll, CanBeNothing, Alternative}
-use Rattle.c_parse.specs.Reading.{sign_at, signs_of}
+use Rattle.c_parse.specs.Reading.{signs_of}
 use Rattle.c_parse.specs.Refusals.{AreWhole}
-use Rattle.c_parse.specs.Tokens.{next_sign, next_kind, next_at, rest_of, Passes, PassesName, PassesNumber}
-use Rattle.c_parse.specs.Grammar.{PassesPrefix, PassesInfix, IsExpr, IsBinary, IsRepeated, IsUnary, IsPrimary, IsIndex, IsParenthesized, AreArguments, AreMoreArguments, IsSize, IsSimple, IsLocal, AreMoreLocals, AreLocals, IsUpToSemicolon, IsForInit, IsForStep, declared_before, IsBody, IsBlock, AreStmts, IsStart, IsGlobal, AreMoreGlobals, AreMoreMembers, IsNameOption, AreMoreParameters, AreMoreNamed, AreParameters, AreNamed, IsResult, AreItem, AreItems}
+use Rattle.c_parse.specs.Tokens.{next_sign, Passes, PassesName, PassesNumber}
+use Rattle.c_parse.specs.Grammar.{PassesPrefix, PassesInfix, IsExpr, IsBinary, IsRepeated, IsUnary, IsPrimary, IsIndex, IsParenthesized, AreArguments, AreMoreArguments, IsSize, IsSimple, IsLocal, AreMoreLocals, AreLocals, IsUpToSemicolon, IsForInit, IsForStep, IsBody, IsBlock, AreStmts, IsStart, IsGlobal, AreMoreGlobals, AreMoreMembers, IsNameOption, AreMoreParameters, AreMoreNamed, AreParameters, AreNamed, IsResult, AreItem, AreItems}
 
 -- the rest takes the signs one after another, and leaves one that can be nothing
 pub record Accepts (rest : List Symbol) (signs : List Sign) : Type 0 where

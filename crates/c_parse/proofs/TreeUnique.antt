@@ -1,7 +1,6 @@
 -- A list of tokens has at most one tree, where each else belongs to the nearest if that can take it.
-use Rattle.std.proofs.Common.{ℕ, ◌≡◌, ◌≢◌, ◌+◌, ◌-◌, ◌%◌, ◌^◌, ◌<◌, ◌≤◌, refl, sym, ap, subst, ◌∙◌, Bool, true, false, List, [], ◌∷◌, ◌++◌, Option, Some, None, arith}
+use Rattle.std.proofs.Common.{ℕ, ◌≡◌, ◌≢◌, ◌+◌, ◌-◌, ◌%◌, ◌^◌, ◌≤◌, refl, sym, ap, subst, ◌∙◌, Bool, true, List, [], ◌∷◌, ◌++◌, Option, Some, arith}
 use Rattle.c_lex.specs.declared.tokens.Token.{Token}
-use Rattle.c_lex.specs.declared.tokens.TokenKind.{TokenKind}
 use Rattle.c_lex.specs.declared.tokens.TokenKind.TheVariants as kinds
 use Rattle.c_tree.specs.declared.operators.Infix.{Infix}
 use Rattle.c_tree.specs.declared.operators.UnaryOperator.{UnaryOperator}
@@ -9,7 +8,7 @@ use Rattle.c_tree.specs.RawTrees.{NameTree, RawExprTree, RawExprTrees, RawName, 
 use Rattle.c_tree.specs.RawViews.{raw_joined}
 use Rattle.c_parse.specs.declared.signs.Sign.{Sign}
 use Rattle.c_parse.specs.declared.signs.Sign.TheVariants as signs
-use Rattle.c_parse.specs.Signs.{Level, IsOperator, IsPrefix, sign_of_lem}
+use Rattle.c_parse.specs.Signs.{Level, IsOperator, IsPrefix}
 use Rattle.c_parse.specs.Operators.{unary_of_lem, infix_of_lem, level_of_lem}
 use Rattle.c_parse.specs.Tokens.{next_sign, next_kind, next_at, next_name, rest_of, Passes, PassesName, PassesNumber}
 use Rattle.c_parse.specs.Grammar.{PassesPrefix, PassesInfix, IsExpr, IsBinary, IsRepeated, IsUnary, IsPrimary, IsIndex, IsParenthesized, AreArguments, AreMoreArguments, IsSize, IsSimple, IsLocal, AreMoreLocals, AreLocals, IsUpToSemicolon, IsForInit, IsForStep, declared_before, IsBody, IsBlock, AreStmts, IsStart, IsGlobal, AreMoreGlobals, AreMoreMembers, IsNameOption, AreMoreParameters, AreMoreNamed, AreParameters, AreNamed, IsResult, AreItem, AreItems}

@@ -1,20 +1,19 @@
 -- The machine's run from the start gives just the refusal that the grammar gives.
-use Rattle.std.proofs.Common.{ℕ, ◌≡◌, ◌<◌, ◌≤◌, ◌⊎◌, inl, inr, ⊎_elim, refl, sym, ap, subst, ◌∙◌, Bool, true, false, IsTrue, List, [], ◌∷◌, ◌++◌, Option, Some, None, append_assoc, arith}
+use Rattle.std.proofs.Common.{ℕ, ◌≡◌, ◌<◌, ◌≤◌, ◌⊎◌, inl, inr, ⊎_elim, refl, ap, subst, ◌∙◌, true, false, List, [], ◌∷◌, ◌++◌, Option, Some, None, arith}
 use Rattle.std.specs.Prelude.{nat_le, if◌then◌else◌}
 use Rattle.std.proofs.lemmas.Bool.Decides.{nat_tests}
-use Rattle.std.proofs.lemmas.List.{append-nil}
 use Rattle.c_lex.specs.declared.tokens.Token.{Token}
 use Rattle.c_parse.specs.declared.errors.ParseError.{ParseError}
-use Rattle.c_parse.specs.declared.errors.ParseError.TheVariants.{Unexpected, TooDeep, NestedCall, Memory}
+use Rattle.c_parse.specs.declared.errors.ParseError.TheVariants.{Unexpected, TooDeep}
 use Rattle.c_parse.specs.declared.signs.Sign.{Sign}
 use Rattle.c_parse.specs.Rests as symbols
 use Rattle.c_parse.specs.Rests.{Symbol, Way, Any, Nearest, Takes, TakesAll, CanBeNothing, open_in}
 use Rattle.c_parse.specs.Machine as tasks
 use Rattle.c_parse.specs.Machine.{Task, step, open_tasks}
 use Rattle.c_parse.specs.Reading.{sign_at, signs_of, finishes, run}
-use Rattle.c_parse.specs.Refusals.{Leave, CanBeTaken, IsDeep, IsShallow, IsUnexpectedToken, IsUnexpectedEnd, IsTooDeep, IsWithin}
-use Rattle.c_parse.proofs.Covers.{Covers, Proper}
-use Rattle.c_parse.proofs.Ends.{same_open, nothing_finishes, some_rest}
+use Rattle.c_parse.specs.Refusals.{CanBeTaken, IsDeep, IsShallow}
+use Rattle.c_parse.proofs.Covers.{Covers}
+use Rattle.c_parse.proofs.Ends.{same_open, some_rest}
 use Rattle.c_parse.proofs.Agreement.{Steps, proper_steps, follow, derive}
 
 -- one token in a run

@@ -9,7 +9,7 @@ use Rattle.c_parse.specs.declared.signs.Sign.TheVariants as signs
 use Rattle.c_parse.specs.Machine as tasks
 use Rattle.c_parse.specs.Machine.{Task}
 use Rattle.c_parse.specs.Reading.{run}
-use Rattle.c_parse.specs.Tokens.{next_sign, next_place, Passes, PassesName, PassesNumber}
+use Rattle.c_parse.specs.Tokens.{next_sign, next_place, Passes, PassesName}
 use Rattle.c_parse.specs.Grammar.{IsSize, IsStart, IsGlobal, AreMoreGlobals, AreMoreMembers, IsNameOption, AreMoreParameters, AreMoreNamed, AreParameters, AreNamed, IsResult, AreItem, AreItems}
 use Rattle.c_parse.specs.Steps.{Leads, Refused}
 

@@ -1,6 +1,5 @@
 -- Which tokens are operators, and how tightly those between operands bind.
 use Rattle.std.specs.Prelude.{ℕ, Option, Some, None}
-use Rattle.c_lex.specs.declared.marks.Mark.{Mark}
 use Rattle.c_lex.specs.declared.marks.Mark.TheVariants as marks
 use Rattle.c_lex.specs.declared.tokens.TokenKind.{TokenKind}
 use Rattle.c_lex.specs.declared.tokens.TokenKind.TheVariants as kinds

@@ -1,10 +1,9 @@
 -- How the machine reads tokens one after another.
-use Rattle.std.specs.Prelude.{ℕ, ◌+◌, Bool, true, false, nat_le, if◌then◌else◌, List, [], ◌∷◌, map, Option, Some, None}
+use Rattle.std.specs.Prelude.{ℕ, Bool, true, false, nat_le, if◌then◌else◌, List, [], ◌∷◌, Option, Some, None}
 use Rattle.c_lex.specs.declared.tokens.Token.{Token}
 use Rattle.c_parse.specs.declared.errors.ParseError.{ParseError}
 use Rattle.c_parse.specs.declared.errors.ParseError.TheVariants.{Unexpected, TooDeep}
 use Rattle.c_parse.specs.declared.signs.Sign.{Sign}
-use Rattle.c_parse.specs.declared.signs.Sign.TheVariants as signs
 use Rattle.c_parse.specs.Signs.{sign_of_lem}
 use Rattle.c_parse.specs.Machine as tasks
 use Rattle.c_parse.specs.Machine.{Task, step, open_tasks}

@@ -1,8 +1,8 @@
 -- What a function of the reader does to the tokens, and to the machine's run along them.
-use Rattle.std.specs.Prelude.{ℕ, ◌≡◌, ◌≢◌, ◌+◌, ◌*◌, ◌<◌, ◌≤◌, List, [], ◌∷◌, ◌++◌, length, map, Option, Some, None}
+use Rattle.std.specs.Prelude.{ℕ, ◌≡◌, ◌≢◌, ◌+◌, ◌*◌, ◌<◌, ◌≤◌, List, [], ◌∷◌, ◌++◌, length, Some, None}
 use Rattle.c_lex.specs.declared.tokens.Token.{Token}
 use Rattle.c_tree.specs.declared.operators.Infix.{Infix}
-use Rattle.c_tree.specs.RawTrees.{NameTree, RawExprTree, RawExprTrees, NoExprs, And}
+use Rattle.c_tree.specs.RawTrees.{NameTree, RawExprTree, RawExprTrees, And}
 use Rattle.c_tree.specs.RawViews.{raw_chained}
 use Rattle.c_tree.specs.RawTemporaries.{raw_temporaries, raw_arguments_temporaries}
 use Rattle.c_parse.specs.declared.errors.ParseError.{ParseError}

@@ -1,5 +1,5 @@
 -- What the functions of declarations, assignments and calls do to the tokens, and to the machine's run along them.
-use Rattle.std.specs.Prelude.{ℕ, ◌≡◌, ◌≢◌, ◌+◌, ◌*◌, ◌<◌, ◌≤◌, ◌⊎◌, List, [], ◌∷◌, ◌++◌, length, Option, Some}
+use Rattle.std.specs.Prelude.{ℕ, ◌≡◌, ◌≢◌, ◌+◌, ◌*◌, ◌<◌, ◌≤◌, ◌⊎◌, List, [], ◌∷◌, ◌++◌, length, Some}
 use Rattle.c_lex.specs.declared.tokens.Token.{Token}
 use Rattle.c_tree.specs.RawTrees.{NameTree, RawExprTree, RawSimpleTree}
 use Rattle.c_tree.specs.RawTemporaries.{raw_temporaries, raw_simple_temporaries, raw_simples_temporaries}

@@ -1,7 +1,5 @@
 -- The next token of a list of tokens, and what is left behind it.
 use Rattle.std.specs.Prelude.{ℕ, ◌≡◌, ◌≢◌, ◌≤◌, ◌⊎◌, List, [], ◌∷◌, Option, Some, None}
-use Rattle.c_tree.specs.declared.operators.Infix.{Infix}
-use Rattle.c_tree.specs.declared.operators.UnaryOperator.{UnaryOperator}
 use Rattle.c_tree.specs.RawTrees.{NameTree}
 use Rattle.c_lex.specs.declared.tokens.Token.{Token}
 use Rattle.c_lex.specs.declared.tokens.TokenKind.{TokenKind}

@@ -1,17 +1,12 @@
-use Rattle.std.proofs.Common.{ℕ, ◌≡◌, ◌≢◌, ◌+◌, ◌<◌, ◌≤◌, ◌∙◌, ◌∷◌, ◌++◌, [], List, map, length, vec_len, nat_eq, refl, sym, ap, subst, arith, Bool, true, false}
+use Rattle.std.proofs.Common.{ℕ, ◌≡◌, ◌∙◌, ◌∷◌, [], List, map, length, vec_len, nat_eq, refl, subst, arith, Bool, true}
 use Rattle.std.proofs.lemmas.Bool.Decides.{nat_tests}
 use Rattle.std.proofs.lemmas.List.{map-append}
 use Rattle.std.proofs.lemmas.Result.{IfOk-weaker, IfErr-weaker, err_from_is_err_and}
-use Rattle.c_lex.specs.declared.tokens.Token.{Token}
 use Rattle.c_tree.specs.declared.operators.Infix.{Infix}
 use Rattle.c_tree.specs.declared.raw_expressions.RawExpr.{RawExpr}
-use Rattle.c_tree.specs.RawTrees.{RawExprTree}
 use Rattle.c_tree.specs.RawViews.{name_tree, raw_expr_tree, raw_expr_trees, raw_chained}
 use Rattle.c_tree.proofs.RawExprEquations.{raw_operand_tree, raw_expr_tree-Number, raw_expr_tree-Name, raw_expr_tree-Element, raw_expr_tree-Unary, raw_expr_tree-Parenthesized, raw_expr_tree-Chain, raw_expr_tree-Conditional, raw_expr_tree-Call, raw_expr_tree-TableCall}
-use Rattle.c_parse.specs.declared.signs.Sign.TheVariants as signs
 use Rattle.c_parse.specs.Machine as tasks
-use Rattle.c_parse.specs.Operators.{unary_of_lem}
-use Rattle.c_parse.specs.Tokens.{next_sign, next_kind}
 use Rattle.c_parse.specs.Steps.{Refused, NoPrefix, ReadsBinary}
 use Rattle.c_parse.proofs.SignTests.{is_sign, other_sign, no_other_sign, not_that_sign}
 use Rattle.c_parse.proofs.ExprRules as rules

@@ -1,4 +1,4 @@
-use Rattle.std.proofs.Common.{◌≤◌, ◌+◌, ◌-◌, ◌*◌, map, length}
+use Rattle.std.proofs.Common.{◌+◌, ◌-◌, ◌*◌, map, length}
 use Rattle.c_tree.specs.RawViews.{raw_expr_tree}
 use Rattle.c_tree.proofs.RawExprEquations.{raw_operand_tree}
 use Rattle.c_parse.specs.Steps.{ReadingRepeated, ReadingArguments}

@@ -1,10 +1,5 @@
-use Rattle.std.proofs.Common.{◌≡◌, ◌≢◌, ◌∙◌, ◌∷◌, ◌++◌, [], List, Option, map, length, refl, sym, ap, subst}
-use Rattle.std.specs.Prelude.{option_map}
-use Rattle.std.proofs.lemmas.List.{map-append}
-use Rattle.std.proofs.lemmas.Result.{IfOk-weaker, IfErr-weaker}
-use Rattle.c_tree.specs.RawViews.{name_tree, raw_item_tree}
-use Rattle.c_parse.proofs.Paths.{exit, sign_is, sign_other}
-use Rattle.c_parse.proofs.SignTests.{no_other_sign, not_that_sign}
+use Rattle.std.proofs.Common.{◌∙◌}
+use Rattle.c_parse.proofs.Paths.{exit}
 use Rattle.c_parse.proofs.GlobalRules.{global_array, global_size_refused, global_value, global_value_refused, global_alone}
 use Rattle.c_parse.proofs.globals.global.Goals as goal
 
@@ -21,6 +16,6 @@ pub returns-in_ok-start-in-Assign-clause-read : goal.returns-in_ok-start-in-Assi
 returns-in_ok-start-in-Assign-clause-read c = global_value _ _ _ _ _ _ _ (cc (c.in-Assign.ensures)) c.pass.ensures c.in_ok-start-in-Assign.ensures.read
 
 pub returns-in_default : goal.returns-in_default
-returns-in_default c = 
+returns-in_default c =
     let e = c.sign.ensures in
     record { read = global_alone _ _ _ _ (λ n. c.in_default.not-LeftBracket (e ∙ n)) (λ n. c.in_default.not-Assign (e ∙ n)); refused = tt }

@@ -1,10 +1,6 @@
-use Rattle.std.proofs.Common.{◌≡◌, ◌≢◌, ◌∙◌, ◌∷◌, ◌++◌, [], List, Option, map, length, refl, sym, ap, subst}
-use Rattle.std.specs.Prelude.{option_map}
+use Rattle.std.proofs.Common.{refl}
 use Rattle.std.proofs.lemmas.List.{map-append}
-use Rattle.std.proofs.lemmas.Result.{IfOk-weaker, IfErr-weaker}
-use Rattle.c_tree.specs.RawViews.{name_tree, raw_item_tree}
 use Rattle.c_parse.proofs.Paths.{exit, sign_is, sign_other}
-use Rattle.c_parse.proofs.SignTests.{no_other_sign, not_that_sign}
 use Rattle.c_parse.proofs.GlobalRules.{globals_first_refused, globals_first, globals_more, globals_no_name, globals_more_refused, globals_open_end, globals_read}
 use Rattle.c_parse.proofs.globals.globals.Goals as goal
 
@@ -15,7 +11,7 @@ pub loop-cursor-init : goal.loop-cursor-init
 loop-cursor-init c = globals_first _ _ _ _ _ _ _ _ c.requires c.in_ok-global.ensures.read (rw (c.in_ok-push.ensures.items, map-append) refl)
 
 pub loop-cursor-preserved : goal.loop-cursor-preserved
-loop-cursor-preserved c = 
+loop-cursor-preserved c =
     globals_more _ _ _ _ _ _ _ _ _ _ _ _ _ c.loop-cursor.invariant (sign_is c.sign.ensures c.loop-cursor-test.ensures) c.pass.ensures c.in_ok-name.ensures.taken c.in_ok-global-2.ensures.read (rw (c.in_ok-push-2.ensures.items, map-append) refl)
 
 pub returns-in_err-name-clause-refused : goal.returns-in_err-name-clause-refused

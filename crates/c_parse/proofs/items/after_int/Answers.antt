@@ -1,14 +1,9 @@
-use Rattle.std.proofs.Common.{◌≡◌, ◌≢◌, ◌∙◌, ◌∷◌, ◌++◌, [], List, Option, map, length, refl, sym, ap, subst}
-use Rattle.std.specs.Prelude.{option_map}
+use Rattle.std.proofs.Common.{◌∷◌, [], refl}
 use Rattle.std.proofs.lemmas.List.{map-append}
 use Rattle.std.proofs.lemmas.Result.{IfOk-weaker, IfErr-weaker}
-use Rattle.c_tree.specs.RawViews.{name_tree, raw_item_tree}
-use Rattle.c_parse.specs.declared.errors.ParseError.TheVariants.{Memory}
 use Rattle.c_parse.specs.Machine as tasks
 use Rattle.c_parse.specs.Steps.{Refused}
-use Rattle.c_parse.specs.ItemSteps.{RefusedListed, RefusedItems, ReadsParameters, ReadsFunction, ReadsItem, ReadsAfterInt}
-use Rattle.c_parse.proofs.Paths.{exit, sign_is, sign_other}
-use Rattle.c_parse.proofs.SignTests.{no_other_sign, not_that_sign}
+use Rattle.c_parse.proofs.Paths.{exit, sign_other}
 use Rattle.c_parse.proofs.ItemRules.{after_int_table, after_int_no_name, after_int_function, after_int_function_refused, after_int_globals, after_int_globals_refused}
 use Rattle.c_parse.proofs.items.after_int.Goals as goal
 
@@ -25,10 +20,10 @@ pub returns-then-eq-2-clause-read : goal.returns-then-eq-2-clause-read
 returns-then-eq-2-clause-read c = after_int_function _ _ _ _ _ _ _ _ _ c.in_ok-name.ensures.taken c.in_ok-item.ensures.read (rw (c.in_ok-push-2.ensures.items, map-append) refl)
 
 pub returns-clause-read : goal.returns-clause-read
-returns-clause-read c = 
+returns-clause-read c =
     IfOk-weaker c.globals.result _ _ (λ x h. after_int_globals _ _ _ _ _ _ _ _ c.in_ok-name.ensures.taken h) c.globals.ensures.read
 
 pub returns-clause-refused : goal.returns-clause-refused
-returns-clause-refused c = 
+returns-clause-refused c =
     IfErr-weaker c.globals.result (λ error. Refused c.args.text.end 0 (tasks.AfterIntName ∷ []) c.take_name.new.self.tokens.now error) (λ error. Refused c.args.text.end 0 (tasks.AfterInt ∷ []) c.args.cursor.now.tokens.now error)
-        (λ error h. after_int_globals_refused _ _ _ _ _ _ c.in_ok-name.ensures.taken h) c.globals.ensures.refused
+    (λ error h. after_int_globals_refused _ _ _ _ _ _ c.in_ok-name.ensures.taken h) c.globals.ensures.refused

@@ -1,14 +1,10 @@
-use Rattle.std.proofs.Common.{◌≡◌, ◌≢◌, ◌∙◌, ◌∷◌, ◌++◌, [], List, Option, map, length, refl, sym, ap, subst}
-use Rattle.std.specs.Prelude.{option_map}
-use Rattle.std.proofs.lemmas.List.{map-append}
+use Rattle.std.proofs.Common.{◌∷◌, []}
 use Rattle.std.proofs.lemmas.Result.{IfOk-weaker, IfErr-weaker}
-use Rattle.c_tree.specs.RawViews.{name_tree, raw_item_tree}
-use Rattle.c_parse.specs.declared.errors.ParseError.TheVariants.{Memory}
 use Rattle.c_parse.specs.Machine as tasks
 use Rattle.c_parse.specs.Steps.{Refused}
-use Rattle.c_parse.specs.ItemSteps.{RefusedListed, RefusedItems, ReadsParameters, ReadsFunction, ReadsItem, ReadsAfterInt}
-use Rattle.c_parse.proofs.Paths.{exit, sign_is, sign_other}
-use Rattle.c_parse.proofs.SignTests.{no_other_sign, not_that_sign}
+use Rattle.c_parse.specs.ItemSteps.{RefusedListed}
+use Rattle.c_parse.proofs.Paths.{exit}
+use Rattle.c_parse.proofs.SignTests.{not_that_sign}
 use Rattle.c_parse.proofs.ItemRules.{after_void_no_name, after_void_no_parameters, after_void_function, after_void_function_refused}
 use Rattle.c_parse.proofs.items.after_void.Goals as goal
 
@@ -22,6 +18,6 @@ pub returns-clause-read : goal.returns-clause-read
 returns-clause-read c = IfOk-weaker _ _ _ (λ item h. after_void_function _ _ _ _ _ _ _ c.in_ok-name.ensures.taken h) c.function.ensures.read
 
 pub returns-clause-refused : goal.returns-clause-refused
-returns-clause-refused c = 
+returns-clause-refused c =
     IfErr-weaker c.function.result (λ error. RefusedListed c.args.text.end c.take_name.new.self.tokens.now error) (λ error. Refused c.args.text.end 0 (tasks.AfterVoid ∷ []) c.args.cursor.now.tokens.now error) (λ error h. after_void_function_refused _ _ _ _ _ _ c.in_ok-name.ensures.taken h)
-        c.function.ensures.refused
+    c.function.ensures.refused

@@ -1,14 +1,10 @@
-use Rattle.std.proofs.Common.{◌≡◌, ◌≢◌, ◌∙◌, ◌∷◌, ◌++◌, [], List, Option, map, length, refl, sym, ap, subst}
-use Rattle.std.specs.Prelude.{option_map}
+use Rattle.std.proofs.Common.{◌∙◌, ◌∷◌, [], refl}
 use Rattle.std.proofs.lemmas.List.{map-append}
 use Rattle.std.proofs.lemmas.Result.{IfOk-weaker, IfErr-weaker}
-use Rattle.c_tree.specs.RawViews.{name_tree, raw_item_tree}
-use Rattle.c_parse.specs.declared.errors.ParseError.TheVariants.{Memory}
 use Rattle.c_parse.specs.Machine as tasks
 use Rattle.c_parse.specs.Steps.{Refused}
-use Rattle.c_parse.specs.ItemSteps.{RefusedListed, RefusedItems, ReadsParameters, ReadsFunction, ReadsItem, ReadsAfterInt}
-use Rattle.c_parse.proofs.Paths.{exit, sign_is, sign_other}
-use Rattle.c_parse.proofs.SignTests.{no_other_sign, not_that_sign}
+use Rattle.c_parse.specs.ItemSteps.{RefusedItems}
+use Rattle.c_parse.proofs.Paths.{exit}
 use Rattle.c_parse.proofs.ItemRules.{item_int, item_int_refused, item_void, item_void_refused, item_other}
 use Rattle.c_parse.proofs.items.item.Goals as goal
 
@@ -16,7 +12,7 @@ pub returns-in-Int-clause-read : goal.returns-in-Int-clause-read
 returns-in-Int-clause-read c = IfOk-weaker c.after_int.result _ _ (λ x h. item_int _ _ _ _ _ _ _ (cc (c.in-Int.ensures)) c.pass.ensures h) c.after_int.ensures.read
 
 pub returns-in-Int-clause-refused : goal.returns-in-Int-clause-refused
-returns-in-Int-clause-refused c = 
+returns-in-Int-clause-refused c =
     IfErr-weaker c.after_int.result (λ error. Refused c.args.text.end 0 (tasks.AfterInt ∷ []) c.pass.new.self.tokens.now error) (λ error. RefusedItems c.args.text.end c.args.cursor.now.tokens.now error) (λ error h. item_int_refused _ _ _ _ (cc (c.in-Int.ensures)) c.pass.ensures h) c.after_int.ensures.refused
 
 pub returns-in_err-item-in-Void-clause-refused : goal.returns-in_err-item-in-Void-clause-refused

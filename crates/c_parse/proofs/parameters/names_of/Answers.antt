@@ -1,8 +1,7 @@
-use Rattle.std.proofs.Common.{◌≡◌, ◌∙◌, ◌∷◌, ◌++◌, [], List, Option, Some, None, map, append-nil, refl, sym, ap}
+use Rattle.std.proofs.Common.{◌≡◌, ◌∙◌, ◌∷◌, ◌++◌, [], List, Option, Some, None, map, append-nil, sym, ap}
 use Rattle.std.specs.Prelude.{option_map}
 use Rattle.std.proofs.lemmas.List.{map-append}
 use Rattle.c_tree.specs.declared.raw_expressions.Name.{Name}
-use Rattle.c_tree.specs.RawTrees.{NameTree}
 use Rattle.c_tree.specs.RawViews.{name_tree}
 use Rattle.c_parse.specs.ItemSteps.{names_in}
 use Rattle.c_parse.proofs.ParameterRules.{names_append}

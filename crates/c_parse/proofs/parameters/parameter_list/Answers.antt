@@ -1,10 +1,5 @@
-use Rattle.std.proofs.Common.{◌≡◌, ◌≢◌, ◌∙◌, ◌∷◌, ◌++◌, [], List, Option, map, length, refl, sym, ap, subst}
-use Rattle.std.specs.Prelude.{option_map}
 use Rattle.std.proofs.lemmas.List.{map-append}
-use Rattle.std.proofs.lemmas.Result.{IfOk-weaker, IfErr-weaker}
-use Rattle.c_tree.specs.RawViews.{name_tree, raw_item_tree}
 use Rattle.c_parse.proofs.Paths.{exit, sign_is, sign_other}
-use Rattle.c_parse.proofs.SignTests.{no_other_sign, not_that_sign}
 use Rattle.c_parse.proofs.ParameterRules.{list_first_refused, list_first, list_more, list_more_refused, list_open_end, list_read}
 use Rattle.c_parse.proofs.parameters.parameter_list.Goals as goal
 
@@ -15,7 +10,7 @@ pub loop-cursor-init : goal.loop-cursor-init
 loop-cursor-init c = rw (c.in_ok-push.ensures.items, c.new-params.ensures.items) (list_first _ _ _ _ _ c.in_ok-parameter.ensures.read)
 
 pub loop-cursor-preserved : goal.loop-cursor-preserved
-loop-cursor-preserved c = 
+loop-cursor-preserved c =
     rw (c.in_ok-push-2.ensures.items, map-append) (list_more _ _ _ _ _ _ _ _ c.loop-cursor.invariant (sign_is c.sign.ensures c.loop-cursor-test.ensures) c.pass.ensures c.in_ok-parameter-2.ensures.read)
 
 pub returns-in_err-parameter-2-clause-refused : goal.returns-in_err-parameter-2-clause-refused

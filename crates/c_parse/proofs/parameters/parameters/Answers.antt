@@ -1,14 +1,9 @@
-use Rattle.std.proofs.Common.{◌≡◌, ◌≢◌, ◌∙◌, ◌∷◌, ◌++◌, [], List, Option, map, length, refl, sym, ap, subst}
-use Rattle.std.specs.Prelude.{option_map}
-use Rattle.std.proofs.lemmas.List.{map-append}
+use Rattle.std.proofs.Common.{◌∷◌, []}
 use Rattle.std.proofs.lemmas.Result.{IfOk-weaker, IfErr-weaker}
-use Rattle.c_tree.specs.RawViews.{name_tree, raw_item_tree}
-use Rattle.c_parse.specs.declared.errors.ParseError.TheVariants.{Memory}
 use Rattle.c_parse.specs.Machine as tasks
 use Rattle.c_parse.specs.Steps.{Refused}
-use Rattle.c_parse.specs.ItemSteps.{RefusedListed, RefusedItems, ReadsParameters, ReadsFunction, ReadsItem, ReadsAfterInt}
-use Rattle.c_parse.proofs.Paths.{exit, sign_is, sign_other}
-use Rattle.c_parse.proofs.SignTests.{no_other_sign, not_that_sign}
+use Rattle.c_parse.specs.ItemSteps.{RefusedListed}
+use Rattle.c_parse.proofs.Paths.{exit}
 use Rattle.c_parse.proofs.ParameterRules.{parameters_none, parameters_void_open, parameters_void, parameters_list, parameters_list_refused}
 use Rattle.c_parse.proofs.parameters.parameters.Goals as goal
 
@@ -25,6 +20,6 @@ pub returns-in_default-clause-read : goal.returns-in_default-clause-read
 returns-in_default-clause-read c = IfOk-weaker _ _ _ (λ ps h. parameters_list _ _ _ _ _ _ c.requires c.pass.ensures h) c.parameter_list.ensures.read
 
 pub returns-in_default-clause-refused : goal.returns-in_default-clause-refused
-returns-in_default-clause-refused c = 
+returns-in_default-clause-refused c =
     IfErr-weaker c.parameter_list.result (λ error. Refused c.args.text.end 0 (tasks.ParameterList ∷ []) c.pass.new.self.tokens.now error) (λ error. RefusedListed c.args.text.end c.args.cursor.now.tokens.now error) (λ error h. parameters_list_refused _ _ _ _ c.requires c.pass.ensures h)
-        c.parameter_list.ensures.refused
+    c.parameter_list.ensures.refused

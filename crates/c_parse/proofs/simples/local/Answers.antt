@@ -1,10 +1,6 @@
-use Rattle.std.proofs.Common.{◌≡◌, ◌≢◌, ◌∙◌, ◌∷◌, [], map, length, refl, sym}
-use Rattle.std.proofs.lemmas.List.{map-append}
-use Rattle.std.proofs.lemmas.Result.{IfOk-weaker, IfErr-weaker, err_from_is_err_and}
-use Rattle.c_tree.specs.RawViews.{name_tree, raw_expr_tree, raw_expr_trees, raw_simple_tree}
-use Rattle.c_parse.specs.declared.signs.Sign.TheVariants as signs
-use Rattle.c_parse.specs.Tokens.{next_sign}
-use Rattle.c_parse.proofs.SignTests.{is_sign, other_sign, no_other_sign, not_that_sign}
+use Rattle.std.proofs.Common.{◌∙◌}
+use Rattle.std.proofs.lemmas.Result.{err_from_is_err_and}
+use Rattle.c_tree.specs.RawViews.{name_tree, raw_expr_tree}
 use Rattle.c_parse.proofs.LocalRules.{local_no_name, local_size_refused, local_array, local_value_refused, local_with, local_scalar}
 use Rattle.c_parse.proofs.simples.local.Goals as goal
 

@@ -1,11 +1,7 @@
-use Rattle.std.proofs.Common.{◌≡◌, ◌≢◌, ◌∙◌, ◌∷◌, [], map, length, refl, sym}
-use Rattle.std.proofs.lemmas.List.{map-append}
-use Rattle.std.proofs.lemmas.Result.{IfOk-weaker, IfErr-weaker, err_from_is_err_and}
-use Rattle.c_tree.specs.RawViews.{name_tree, raw_expr_tree, raw_expr_trees, raw_simple_tree}
-use Rattle.c_parse.specs.declared.signs.Sign.TheVariants as signs
-use Rattle.c_parse.specs.Tokens.{next_sign}
-use Rattle.c_parse.proofs.SignTests.{is_sign, other_sign, no_other_sign, not_that_sign}
-use Rattle.c_parse.proofs.SimpleRules.{simple_no_name, simple_refused, simple_call, simple_indexed, simple_indexed_refused, simple_no_assign, simple_set_refused, simple_set}
+use Rattle.std.proofs.Common.{◌∙◌}
+use Rattle.std.proofs.lemmas.Result.{err_from_is_err_and}
+use Rattle.c_tree.specs.RawViews.{name_tree, raw_expr_tree, raw_expr_trees}
+use Rattle.c_parse.proofs.SimpleRules.{simple_call, simple_no_assign, simple_set_refused, simple_set}
 use Rattle.c_parse.proofs.simples.simple.Goals as goal
 
 pub returns-in_ok-arguments-in-LeftParenthesis-clause-read : goal.returns-in_ok-arguments-in-LeftParenthesis-clause-read

@@ -1,10 +1,4 @@
-use Rattle.std.proofs.Common.{◌≡◌, ◌≢◌, ◌∙◌, ◌∷◌, [], map, length, refl, sym}
-use Rattle.std.proofs.lemmas.List.{map-append}
-use Rattle.std.proofs.lemmas.Result.{IfOk-weaker, IfErr-weaker, err_from_is_err_and}
-use Rattle.c_tree.specs.RawViews.{name_tree, raw_expr_tree, raw_expr_trees, raw_simple_tree}
-use Rattle.c_parse.specs.declared.signs.Sign.TheVariants as signs
-use Rattle.c_parse.specs.Tokens.{next_sign}
-use Rattle.c_parse.proofs.SignTests.{is_sign, other_sign, no_other_sign, not_that_sign}
+use Rattle.std.proofs.lemmas.Result.{err_from_is_err_and}
 use Rattle.c_parse.proofs.LocalRules.{size_not_opened, size_no_number_refused, size_open_end_refused, size_read}
 use Rattle.c_parse.proofs.simples.size.Goals as goal
 

@@ -1,8 +1,8 @@
-use Rattle.std.proofs.Common.{◌≡◌, [], ◌∷◌, ◌++◌, map, sym, ap, ◌∙◌}
+use Rattle.std.proofs.Common.{[], ◌∷◌, map, ap, ◌∙◌}
 use Rattle.std.proofs.lemmas.List.{map-append}
 use Rattle.c_tree.specs.RawViews.{raw_stmt_tree}
 use Rattle.c_tree.proofs.RawStmtEquations.{raw_stmt_tree-Empty, raw_stmt_tree-Block, raw_stmt_tree-If, raw_stmt_tree-IfElse, raw_stmt_tree-While, raw_stmt_tree-For}
-use Rattle.c_parse.proofs.SignTests.{is_sign, other_sign, no_other_sign, not_that_sign}
+use Rattle.c_parse.proofs.SignTests.{other_sign, no_other_sign, not_that_sign}
 use Rattle.c_parse.proofs.Paths.{exit, arm_is, arm_other}
 use Rattle.c_parse.proofs.BodyRules as rules
 use Rattle.c_parse.proofs.BodyRules.{Construct}

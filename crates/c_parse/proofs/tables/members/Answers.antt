@@ -1,10 +1,5 @@
-use Rattle.std.proofs.Common.{◌≡◌, ◌≢◌, ◌∙◌, ◌∷◌, ◌++◌, [], List, Option, map, length, refl, sym, ap, subst}
-use Rattle.std.specs.Prelude.{option_map}
 use Rattle.std.proofs.lemmas.List.{map-append}
-use Rattle.std.proofs.lemmas.Result.{IfOk-weaker, IfErr-weaker}
-use Rattle.c_tree.specs.RawViews.{name_tree, raw_item_tree}
 use Rattle.c_parse.proofs.Paths.{exit, sign_is, sign_other}
-use Rattle.c_parse.proofs.SignTests.{no_other_sign, not_that_sign}
 use Rattle.c_parse.proofs.TableRules.{members_no_brace, members_no_name, members_first, members_more_no_name, members_more, members_open_end, members_read}
 use Rattle.c_parse.proofs.tables.members.Goals as goal
 
@@ -15,11 +10,11 @@ pub returns-in_err-take_name-clause-refused : goal.returns-in_err-take_name-clau
 returns-in_err-take_name-clause-refused c = exit _ _ c.from_residual-in_err-take_name.ensures.1 (members_no_name _ _ _ _ c.in_ok-take.ensures.taken c.in_err-take_name.ensures.refused)
 
 pub loop-cursor-init : goal.loop-cursor-init
-loop-cursor-init c = 
+loop-cursor-init c =
     rw (c.in_ok-push.ensures.items, c.new-members.ensures.items) (members_first _ _ _ _ _ _ c.in_ok-take.ensures.taken c.in_ok-take_name.ensures.taken)
 
 pub loop-cursor-preserved : goal.loop-cursor-preserved
-loop-cursor-preserved c = 
+loop-cursor-preserved c =
     rw (c.in_ok-push-2.ensures.items, map-append) (members_more _ _ _ _ _ _ _ _ c.loop-cursor.invariant (sign_is c.sign.ensures c.loop-cursor-test.ensures) c.pass.ensures c.in_ok-take_name-2.ensures.taken)
 
 pub returns-in_err-take_name-2-clause-refused : goal.returns-in_err-take_name-2-clause-refused
