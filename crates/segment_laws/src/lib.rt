@@ -1,0 +1,2 @@
+// One thread simulated, lemma by lemma.
+#![tactic(auto)]
