@@ -1,2 +1,5 @@
 pub mod Spots
 pub mod Words
+pub mod Ways
+pub mod Facts
+pub mod Stacks
