@@ -3,3 +3,5 @@ pub mod Words
 pub mod Ways
 pub mod Facts
 pub mod Stacks
+pub mod Registers
+pub mod Inside
