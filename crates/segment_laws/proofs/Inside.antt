@@ -97,7 +97,7 @@ IsGoodState-inside c code l f i w op frame below instr at word is fetch good = r
 }
 
 -- pc after an instruction that goes on
-pc_next : (c : Checked) (code : List ℕ) (l : Local) (f i w : ℕ) (op : Op) → IsOperationAt c code f i op → w < size (function_at c.flat f).sizes (kind_of c.certificate op) op → l.core.pc ≡ begin c.flat c.certificate f i + 4 * w →
+pub pc_next : (c : Checked) (code : List ℕ) (l : Local) (f i w : ℕ) (op : Op) → IsOperationAt c code f i op → w < size (function_at c.flat f).sizes (kind_of c.certificate op) op → l.core.pc ≡ begin c.flat c.certificate f i + 4 * w →
     word.add l.core.pc 4 ≡ begin c.flat c.certificate f i + 4 * (w + 1)
 pc_next c code l f i w op at small pc =
     let room = at.room in

@@ -5,3 +5,4 @@ pub mod Facts
 pub mod Stacks
 pub mod Registers
 pub mod Inside
+pub mod FrameWords
