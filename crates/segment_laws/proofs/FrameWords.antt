@@ -103,19 +103,27 @@ InFrame-inside c code l f i w frame below offset facts there is aligned fits =
       inside = inside;
     }
 
-framed_lw : (c : Checked) (l : Local) (frame : Frame) (below : List Frame) (rd offset : ℕ) → InFrame l frame offset → IsGoodAccess c (frame ∷ below) (accessed (Instr.Lw rd 2 (pos offset)) (machine_of l))
+-- the access of a load or store at a word of the frame, whatever register and immediate give its address
+pub framed_lw : (c : Checked) (l : Local) (frame : Frame) (below : List Frame) (rd rs1 offset : ℕ) (imm : ℤ) → InFrame l frame offset → word.add (read l.core.x rs1) (word_of imm) ≡ frame.low + offset → IsGoodAccess c (frame ∷ below) (accessed (Instr.Lw rd rs1 imm) (machine_of l))
 unfolding accessed
-framed_lw c l frame below rd offset is =
-    let address = is.address in
+framed_lw c l frame below rd rs1 offset imm is address =
     let inside = is.inside in
     inl (omega (arith, address), omega (arith, address, inside))
 
-framed_sw : (c : Checked) (l : Local) (frame : Frame) (below : List Frame) (rs offset : ℕ) → InFrame l frame offset → IsGoodAccess c (frame ∷ below) (accessed (Instr.Sw 2 rs (pos offset)) (machine_of l))
+pub framed_sw : (c : Checked) (l : Local) (frame : Frame) (below : List Frame) (rs1 rs2 offset : ℕ) (imm : ℤ) → InFrame l frame offset → word.add (read l.core.x rs1) (word_of imm) ≡ frame.low + offset → IsGoodAccess c (frame ∷ below) (accessed (Instr.Sw rs1 rs2 imm) (machine_of l))
 unfolding accessed
-framed_sw c l frame below rs offset is =
-    let address = is.address in
+framed_sw c l frame below rs1 rs2 offset imm is address =
     let inside = is.inside in
     inl (omega (arith, address), omega (arith, address, inside))
+
+-- lw rd, imm(rs1), where that is a word of the frame
+pub load_at : (c : Checked) (code : List ℕ) (l : Local) (f i w : ℕ) (op : Op) (frame : Frame) (below : List Frame) (rd rs1 offset : ℕ) (imm : ℤ) → CodeFacts c code → IsOperationAt c code f i op → IsWholeWord c f w op → Inside c l f i w frame below →
+    instruction_at code l.core.pc ≡ Ok (Instr.Lw rd rs1 imm) → InFrame l frame offset → word.add (read l.core.x rs1) (word_of imm) ≡ frame.low + offset → IsValueRegister rd →
+    IsSet c code l f i w frame below rd (word_in l.areas.pool frame.chunk (frame.low + offset))
+load_at c code l f i w op frame below rd rs1 offset imm facts at word is fetch in_frame address register =
+    set_register c code l f i w op frame below (Instr.Lw rd rs1 imm) rd (word_in l.areas.pool frame.chunk (frame.low + offset)) at word is fetch
+    (effect-lw l rd rs1 (frame.low + offset) (word_in l.areas.pool frame.chunk (frame.low + offset)) imm address in_frame.payload.aligned (loaded-payload l.areas frame.chunk (frame.low + offset) (Fit-areas c code l.areas facts is.form.areas) in_frame.payload))
+    (framed_lw c l frame below rd rs1 offset imm in_frame address) register
 
 -- lw rd, offset(sp)
 pub load_word : (c : Checked) (code : List ℕ) (l : Local) (f i w : ℕ) (op : Op) (frame : Frame) (below : List Frame) (rd offset : ℕ) → CodeFacts c code → IsOperationAt c code f i op → IsWholeWord c f w op → Inside c l f i w frame below →
@@ -123,9 +131,7 @@ pub load_word : (c : Checked) (code : List ℕ) (l : Local) (f i w : ℕ) (op : 
     IsSet c code l f i w frame below rd (word_in l.areas.pool frame.chunk (frame.low + offset))
 load_word c code l f i w op frame below rd offset facts at word is fetch aligned fits register =
     let in_frame = InFrame-inside c code l f i w frame below offset facts at.function is aligned fits in
-    set_register c code l f i w op frame below (Instr.Lw rd 2 (pos offset)) rd _ at word is fetch
-    (effect-lw l rd 2 (frame.low + offset) _ (pos offset) in_frame.address in_frame.payload.aligned (loaded-payload l.areas frame.chunk (frame.low + offset) (Fit-areas c code l.areas facts is.form.areas) in_frame.payload))
-    (framed_lw c l frame below rd offset in_frame) register
+    load_at c code l f i w op frame below rd 2 offset (pos offset) facts at word is fetch in_frame in_frame.address register
 
 -- the thread after one instruction that stored a word in the running frame
 pub record IsStored (c : Checked) (code : List ℕ) (l : Local) (f i w : ℕ) (frame : Frame) (below : List Frame) (offset value : ℕ) : Type 0 where
@@ -135,28 +141,27 @@ pub record IsStored (c : Checked) (code : List ℕ) (l : Local) (f i w : ℕ) (f
   pub registers : (r : ℕ) → read next.core.x r ≡ read l.core.x r
   pub areas : next.areas ≡ record l.areas { pool = with_pool_word l.areas.pool frame.chunk (word_number l.areas.pool frame.chunk (frame.low + offset)) value }
 
-once_of : (c : Checked) (l : Local) (f i w : ℕ) (frame : Frame) (below : List Frame) → Inside c l f i w frame below → IsOnce l.core.chain
+pub once_of : (c : Checked) (l : Local) (f i w : ℕ) (frame : Frame) (below : List Frame) → Inside c l f i w frame below → IsOnce l.core.chain
 once_of c l f i w frame below is chunk =
     let most = is.form.owns.once chunk in
     let one = cond_both (nat_lt chunk l.areas.pool.count) 1 0 (λ (n : ℕ). n ≤ 1) (λ _. omega arith) (λ _. omega arith) in
     omega (arith, most, one)
 
--- sw rs, offset(sp), but for the place of the return address
-pub store_word : (c : Checked) (code : List ℕ) (l : Local) (f i w : ℕ) (op : Op) (frame : Frame) (below : List Frame) (rs offset value : ℕ) → CodeFacts c code → IsOperationAt c code f i op → IsWholeWord c f w op → Inside c l f i w frame below →
-    instruction_at code l.core.pc ≡ Ok (Instr.Sw 2 rs (pos offset)) → offset % 4 ≡ 0 → offset + 4 ≤ frame_bytes c f → (offset ≡ (fact_at c.certificate f).ra → ⊥) → read l.core.x rs ≡ value →
+-- sw rs, imm(rs1), where that is a word of the frame, but for the place of the return address
+pub store_at : (c : Checked) (code : List ℕ) (l : Local) (f i w : ℕ) (op : Op) (frame : Frame) (below : List Frame) (rs1 rs2 offset value : ℕ) (imm : ℤ) → CodeFacts c code → IsOperationAt c code f i op → IsWholeWord c f w op → Inside c l f i w frame below →
+    instruction_at code l.core.pc ≡ Ok (Instr.Sw rs1 rs2 imm) → InFrame l frame offset → word.add (read l.core.x rs1) (word_of imm) ≡ frame.low + offset → offset % 4 ≡ 0 → (offset ≡ (fact_at c.certificate f).ra → ⊥) → read l.core.x rs2 ≡ value →
     IsStored c code l f i w frame below offset value
-store_word c code l f i w op frame below rs offset value facts at word is fetch aligned fits not_ra value_is =
-    let in_frame = InFrame-inside c code l f i w frame below offset facts at.function is aligned fits in
+store_at c code l f i w op frame below rs1 rs2 offset value imm facts at word is fetch in_frame address aligned not_ra value_is =
     let fit = Fit-areas c code l.areas facts is.form.areas in
     let k = word_number l.areas.pool frame.chunk (frame.low + offset) in
-    let value_below : value < 2 ^ 32 = subst (λ (n : ℕ). n < 2 ^ 32) value_is (read-below l.core.x rs is.form.core.registers) in
+    let value_below : value < 2 ^ 32 = subst (λ (n : ℕ). n < 2 ^ 32) value_is (read-below l.core.x rs2 is.form.core.registers) in
     let after : Areas = record l.areas { pool = with_pool_word l.areas.pool frame.chunk k value } in
-    let written : with_word with_byte l.areas (frame.low + offset) (read l.core.x rs) ≡ after =
+    let written : with_word with_byte l.areas (frame.low + offset) (read l.core.x rs2) ≡ after =
     ap (with_word with_byte l.areas (frame.low + offset)) value_is ∙ stored-payload l.areas frame.chunk (frame.low + offset) value fit in_frame.payload value_below in
     let next : Local = with_areas l after in
     let step : local_step code l ≡ Goes next =
-    step-is code l (Instr.Sw 2 rs (pos offset)) fetch
-    ∙ move-sw l 2 rs (frame.low + offset) (pos offset) in_frame.address in_frame.payload.aligned (writable-payload l.areas frame.chunk (frame.low + offset) fit in_frame.payload)
+    step-is code l (Instr.Sw rs1 rs2 imm) fetch
+    ∙ move-sw l rs1 rs2 (frame.low + offset) imm address in_frame.payload.aligned (writable-payload l.areas frame.chunk (frame.low + offset) fit in_frame.payload)
     ∙ ap (λ (a : Areas). Goes (with_areas l a)) written in
     let away = stack_away c l.areas.pool l.core.chain frame below is.stack is.front (once_of c l f i w frame below is) in
     let fact = facts.frame f at.function in
@@ -166,7 +171,7 @@ store_word c code l f i w op frame below rs offset value facts at word is fetch 
     let low_in = in_frame.low_in in
     record {
       next = next;
-      leads = Leads-one c code l next (IsGoodState-inside c code l f i w op frame below (Instr.Sw 2 rs (pos offset)) at word is fetch (framed_sw c l frame below rs offset in_frame)) step;
+      leads = Leads-one c code l next (IsGoodState-inside c code l f i w op frame below (Instr.Sw rs1 rs2 imm) at word is fetch (framed_sw c l frame below rs1 rs2 offset imm in_frame address)) step;
       inside = record {
         form = HasForm-next c code l next is.form step;
         pc = pc_next c code l f i w op at word.small is.pc;
@@ -186,3 +191,11 @@ store_word c code l f i w op frame below rs offset value facts at word is fetch 
       registers = λ r. refl;
       areas = refl;
     }
+
+-- sw rs, offset(sp)
+pub store_word : (c : Checked) (code : List ℕ) (l : Local) (f i w : ℕ) (op : Op) (frame : Frame) (below : List Frame) (rs offset value : ℕ) → CodeFacts c code → IsOperationAt c code f i op → IsWholeWord c f w op → Inside c l f i w frame below →
+    instruction_at code l.core.pc ≡ Ok (Instr.Sw 2 rs (pos offset)) → offset % 4 ≡ 0 → offset + 4 ≤ frame_bytes c f → (offset ≡ (fact_at c.certificate f).ra → ⊥) → read l.core.x rs ≡ value →
+    IsStored c code l f i w frame below offset value
+store_word c code l f i w op frame below rs offset value facts at word is fetch aligned fits not_ra value_is =
+    let in_frame = InFrame-inside c code l f i w frame below offset facts at.function is aligned fits in
+    store_at c code l f i w op frame below 2 rs offset value (pos offset) facts at word is fetch in_frame in_frame.address aligned not_ra value_is

@@ -6,3 +6,6 @@ pub mod Stacks
 pub mod Registers
 pub mod Inside
 pub mod FrameWords
+pub mod Simulation
+pub mod Variables
+pub mod Finish
