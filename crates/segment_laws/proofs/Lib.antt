@@ -9,3 +9,5 @@ pub mod FrameWords
 pub mod Simulation
 pub mod Variables
 pub mod Finish
+pub mod Numbers
+pub mod Immediate
