@@ -11,3 +11,4 @@ pub mod Variables
 pub mod Finish
 pub mod Numbers
 pub mod Immediate
+pub mod Straight
