@@ -12,3 +12,5 @@ pub mod Finish
 pub mod Numbers
 pub mod Immediate
 pub mod Straight
+pub mod Binary
+pub mod Jumping

@@ -66,7 +66,7 @@ copy_reaches c code l t d x v facts there simulates value =
     Reaches-after c code 1 l set.next (flat_set t d v) set.leads stored
 
 -- an operation that loads a scalar, does one instruction on t0 and stores it
-unary_reaches : (c : Checked) (code : List ℕ) (l : Local) (t : FlatThread) (op : Op) (instr : Instr) (d x v result : ℕ) → CodeFacts c code → IsOperationAt c code t.frame.function t.frame.next op → Simulates c l t →
+pub unary_reaches : (c : Checked) (code : List ℕ) (l : Local) (t : FlatThread) (op : Op) (instr : Instr) (d x v result : ℕ) → CodeFacts c code → IsOperationAt c code t.frame.function t.frame.next op → Simulates c l t →
     IsOneWord c t.frame.function d → IsOneWord c t.frame.function x → scalar t x ≡ Some v →
     IsWholeWord c t.frame.function 0 op → IsWholeWord c t.frame.function 1 op → IsWholeWord c t.frame.function 2 op → 3 ≡ size (function_at c.flat t.frame.function).sizes (kind_of c.certificate op) op →
     slice_get (words_of c t.frame.function t.frame.next op) 0 ≡ Some (Instr.Lw 5 2 (pos (get_or (fact_at c.certificate t.frame.function).places x 0))) →
@@ -108,14 +108,14 @@ flip_reaches c code l t d x v facts there simulates value =
 -- ---- operators of two values
 
 -- both values in t0 and t1
-record BothLoaded (c : Checked) (code : List ℕ) (l : Local) (t : FlatThread) (frame : Frame) (below : List Frame) (a b : ℕ) : Type 0 where
-  next : Local
-  leads : Leads c code 2 l next
-  during : During c next t 2 frame below
-  left : read next.core.x 5 ≡ a
-  right : read next.core.x 6 ≡ b
+pub record BothLoaded (c : Checked) (code : List ℕ) (l : Local) (t : FlatThread) (frame : Frame) (below : List Frame) (a b : ℕ) : Type 0 where
+  pub next : Local
+  pub leads : Leads c code 2 l next
+  pub during : During c next t 2 frame below
+  pub left : read next.core.x 5 ≡ a
+  pub right : read next.core.x 6 ≡ b
 
-load_both : (c : Checked) (code : List ℕ) (l : Local) (t : FlatThread) (op : BinOp) (d x y a b : ℕ) → CodeFacts c code → IsOperationAt c code t.frame.function t.frame.next (Op.Bin op d x y) → (simulates : Simulates c l t) → scalar t x ≡ Some a → scalar t y ≡ Some b →
+pub load_both : (c : Checked) (code : List ℕ) (l : Local) (t : FlatThread) (op : BinOp) (d x y a b : ℕ) → CodeFacts c code → IsOperationAt c code t.frame.function t.frame.next (Op.Bin op d x y) → (simulates : Simulates c l t) → scalar t x ≡ Some a → scalar t y ≡ Some b →
     IsWholeWord c t.frame.function 0 (Op.Bin op d x y) → IsWholeWord c t.frame.function 1 (Op.Bin op d x y) →
     BothLoaded c code l t simulates.frame simulates.below a b
 load_both c code l t op d x y a b facts there simulates sa sb w0 w1 =
