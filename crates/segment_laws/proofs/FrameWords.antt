@@ -103,6 +103,14 @@ InFrame-inside c code l f i w frame below offset facts there is aligned fits =
       inside = inside;
     }
 
+-- a frame ends below the end of the map
+pub frame_bounded : (c : Checked) (l : Local) (f i w : ℕ) (frame : Frame) (below : List Frame) → Inside c l f i w frame below → frame.low + frame.bytes ≤ 0x8400_0000
+frame_bounded c l f i w frame below is =
+    let frame_is = stack_frame c l.areas.pool l.core.chain frame below is.stack in
+    let bounded : place_of l.areas.pool frame.chunk + 4 * l.areas.pool.words ≤ 0x8400_0000 = place_of-bounded l.areas.pool frame.chunk is.form.areas.pool frame_is.chunk in
+    let highest : frame.low + frame.bytes ≤ place_of l.areas.pool frame.chunk + 4 * l.areas.pool.words = frame_is.highest in
+    omega (arith, bounded, highest)
+
 -- the access of a load or store at a word of the frame, whatever register and immediate give its address
 pub framed_lw : (c : Checked) (l : Local) (frame : Frame) (below : List Frame) (rd rs1 offset : ℕ) (imm : ℤ) → InFrame l frame offset → word.add (read l.core.x rs1) (word_of imm) ≡ frame.low + offset → IsGoodAccess c (frame ∷ below) (accessed (Instr.Lw rd rs1 imm) (machine_of l))
 unfolding accessed

@@ -14,3 +14,5 @@ pub mod Immediate
 pub mod Straight
 pub mod Binary
 pub mod Jumping
+pub mod Guards
+pub mod LocalArrays
