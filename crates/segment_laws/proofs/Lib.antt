@@ -16,3 +16,6 @@ pub mod Binary
 pub mod Jumping
 pub mod Guards
 pub mod LocalArrays
+pub mod Rows
+pub mod GlobalWords
+pub mod GlobalOps
