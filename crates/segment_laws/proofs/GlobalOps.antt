@@ -1,0 +1,105 @@
+-- Operations on globals and their elements.
+use Rattle.std.proofs.Common.{◌≡◌, ℕ, zero, suc, ◌+◌, ◌-◌, ◌*◌, ◌/◌, ◌%◌, ◌^◌, ◌<◌, ◌≤◌, List, [], ◌∷◌, length, get_or, set, map, take, ℤ, pos, Option, Some, None, Ok, refl, sym, ap, subst, ◌∙◌, arith}
+use Rattle.std.specs.Prelude.{slice_get, sum}
+use Rattle.std.proofs.lemmas.List.{length-map, get_or-map}
+use Rattle.cap_word.specs.Word as word
+use Rattle.cap_word.specs.Word.{word_of}
+use Rattle.cap_word.specs.Rows.{width, word_at, with_word}
+use Rattle.cap_word.specs.Runs.{Goes, Stops}
+use Rattle.cap_word.specs.declared.traps.TrapKind.{TrapKind}
+use Rattle.rv_code.specs.declared.instructions.Instr.{Instr}
+use Rattle.rv_machine.specs.Registers.{read}
+use Rattle.flat_code.specs.declared.operations.Op.{Op}
+use Rattle.flat_code.specs.declared.programs.FlatGlobal.{FlatGlobal}
+use Rattle.flat_code.specs.Codes.{FlatCode, function_at}
+use Rattle.flat_code.specs.Frames.{FlatThread, passed}
+use Rattle.flat_code.specs.Step.{scalar}
+use Rattle.flat_code.specs.WellFormed.{IsGlobalScalar, context_of}
+use Rattle.stack_certificate.specs.Certificates.{global_address, global_words}
+use Rattle.machine_world.specs.Areas.{globals_place}
+use Rattle.machine_world.specs.Globals.{global_widths, AreGlobals}
+use Rattle.machine_world.specs.InPlace.{Frame}
+use Rattle.machine_world.specs.Local.{Local, Trapped}
+use Rattle.machine_world.specs.Places.{Checked}
+use Rattle.segment_laws.proofs.Facts.{CodeFacts, IsOperationAt}
+use Rattle.segment_laws.proofs.Finish.{store_scalar, Simulates-at, behind_last, Reaches-after}
+use Rattle.segment_laws.proofs.GlobalWords.{element_of, load_global, store_global}
+use Rattle.segment_laws.proofs.Guards.{IsGuarded, guard_passes, guard_traps}
+use Rattle.segment_laws.proofs.Immediate.{words_of, fetch_at, is_t0, is_t1, load_immediate}
+use Rattle.segment_laws.proofs.Inside.{IsWholeWord}
+use Rattle.segment_laws.proofs.LocalArrays.{scales, adds}
+use Rattle.segment_laws.proofs.Registers.{add-small, word_of-small}
+use Rattle.segment_laws.proofs.Rows.{HasGlobal, HasGlobal-at}
+use Rattle.segment_laws.proofs.Simulation.{During, Simulates, Reaches, load_scalar}
+use Rattle.segment_laws.proofs.Straight.{one_word, flat_set}
+use Rattle.segment_laws.proofs.Ways.{Leads, Leads-then, ComesTo}
+
+-- a global is there, with as many words as its row
+widths_are : (code : FlatCode) (rows : List (List ℕ)) (words : List ℕ) (g : ℕ) → AreGlobals code rows words → g < length code.globals → width rows g ≡ global_words code g
+widths_are code rows words g are there =
+    let lengths : length rows ≡ length code.globals = sym (length-map rows length) ∙ ap length are.widths ∙ length-map code.globals (λ (x : FlatGlobal). x.words) in
+    sym (get_or-map length rows g [] 0 (omega (arith, lengths, there))) ∙ ap (λ (ns : List ℕ). get_or ns g 0) are.widths
+
+global_there : (code : FlatCode) (g : ℕ) → g < length (map (λ (x : FlatGlobal). x.words) code.globals) → g < length code.globals
+global_there code g below = subst (λ (n : ℕ). g < n) (length-map code.globals (λ (x : FlatGlobal). x.words)) below
+
+-- the address of a word of a global is a word
+address_below : (c : Checked) (rows : List (List ℕ)) (words : List ℕ) (g k : ℕ) → HasGlobal c.flat rows words g k → length words ≤ 65536 → element_of c g k < 2 ^ 32
+address_below c rows words g k has few =
+    let address = has.address in
+    let inside = has.inside in
+    omega (arith, address, inside, few)
+
+few_globals : (c : Checked) (code : List ℕ) (l : Local) (t : FlatThread) (w : ℕ) (frame : Frame) (below : List Frame) → CodeFacts c code → During c l t w frame below → length l.areas.globals ≤ 65536
+few_globals c code l t w frame below facts during = omega (arith, during.inside.form.areas.globals, facts.globals_small)
+
+pub load_global_reaches : (c : Checked) (code : List ℕ) (l : Local) (t : FlatThread) (d g : ℕ) → CodeFacts c code → IsOperationAt c code t.frame.function t.frame.next (Op.LoadGlobal d g) → Simulates c l t → Reaches c code l (flat_set t d (word_at t.globals g 0))
+load_global_reaches c code l t d g facts there simulates =
+    let op = Op.LoadGlobal d g in
+    let f = t.frame.function in
+    let i = t.frame.next in
+    let frame = simulates.frame in
+    let below = simulates.below in
+    let during = simulates.during in
+    let is_global : g < length c.flat.globals = global_there c.flat g there.formed.1.0 in
+    let one : width t.globals g ≡ 1 = widths_are c.flat t.globals l.areas.globals g during.globals is_global ∙ there.formed.1.1 in
+    let has = HasGlobal-at c.flat t.globals l.areas.globals g 0 during.globals is_global (omega (arith, one)) in
+    let below_32 = address_below c t.globals l.areas.globals g 0 has (few_globals c code l t 0 frame below facts during) in
+    let whole = (λ (w : ℕ) (small : w < 4). (let word : IsWholeWord c f w op = record { small = small; row_is = refl } in word)) in
+    let set = load_immediate c code l t 0 op frame below 6 (global_address c.flat g) there (whole 0 (omega arith)) (whole 1 (omega arith)) during refl refl is_t1 (omega (arith, below_32)) in
+    let has' : HasGlobal c.flat t.globals set.next.areas.globals g 0 = HasGlobal-at c.flat t.globals set.next.areas.globals g 0 set.during.globals is_global (omega (arith, one)) in
+    let loaded = load_global c code set.next t 2 op frame below 5 6 g 0 (pos 0) facts there (whole 2 (omega arith)) set.during (fetch_at c code set.next f i 2 op frame below _ there set.during.inside refl) is_global has'
+        ((λ i. word.add (set.value_is i) (word_of-small 0 (omega arith) i)) ∙ add-small (global_address c.flat g) 0 (omega (arith, below_32)) ∙ (let e : global_address c.flat g + 0 ≡ element_of c g 0 = omega arith in e)) is_t0 in
+    let stored = store_scalar c code loaded.next t 3 op frame below 5 d (word_at t.globals g 0) facts there (whole 3 (omega arith)) loaded.during (fetch_at c code loaded.next f i 3 op frame below _ there loaded.during.inside refl) (one_word c f d there.formed.0) loaded.value_is refl in
+    Reaches-after c code 3 l loaded.next (flat_set t d (word_at t.globals g 0)) (Leads-then c code 2 1 l set.next loaded.next set.leads loaded.leads) stored
+
+-- the flat thread after a word of a global was set
+abbrev pub flat_with_globals : FlatThread → List (List ℕ) → FlatThread
+flat_with_globals t globals = record t { frame = passed t.frame; globals = globals }
+
+pub store_global_reaches : (c : Checked) (code : List ℕ) (l : Local) (t : FlatThread) (g x v : ℕ) → CodeFacts c code → IsOperationAt c code t.frame.function t.frame.next (Op.StoreGlobal g x) → Simulates c l t → scalar t x ≡ Some v → Reaches c code l (flat_with_globals t (with_word t.globals g 0 v))
+store_global_reaches c code l t g x v facts there simulates value =
+    let op = Op.StoreGlobal g x in
+    let f = t.frame.function in
+    let i = t.frame.next in
+    let frame = simulates.frame in
+    let below = simulates.below in
+    let during = simulates.during in
+    let is_global : g < length c.flat.globals = global_there c.flat g there.formed.0.0 in
+    let one : width t.globals g ≡ 1 = widths_are c.flat t.globals l.areas.globals g during.globals is_global ∙ there.formed.0.1 in
+    let has = HasGlobal-at c.flat t.globals l.areas.globals g 0 during.globals is_global (omega (arith, one)) in
+    let below_32 = address_below c t.globals l.areas.globals g 0 has (few_globals c code l t 0 frame below facts during) in
+    let whole = (λ (w : ℕ) (small : w < 4). (let word : IsWholeWord c f w op = record { small = small; row_is = refl } in word)) in
+    let first = load_scalar c code l t 0 op frame below 5 x v facts there (whole 0 (omega arith)) during (fetch_at c code l f i 0 op frame below _ there during.inside refl) (one_word c f x there.formed.1) value is_t0 in
+    let set = load_immediate c code first.next t 1 op frame below 6 (global_address c.flat g) there (whole 1 (omega arith)) (whole 2 (omega arith)) first.during refl refl is_t1 (omega (arith, below_32)) in
+    let has' : HasGlobal c.flat t.globals set.next.areas.globals g 0 = HasGlobal-at c.flat t.globals set.next.areas.globals g 0 set.during.globals is_global (omega (arith, one)) in
+    let stored = store_global c code set.next t 3 op frame below 6 5 g 0 v (pos 0) facts there (whole 3 (omega arith)) set.during (fetch_at c code set.next f i 3 op frame below _ there set.during.inside refl) is_global has'
+        ((λ i. word.add (set.value_is i) (word_of-small 0 (omega arith) i)) ∙ add-small (global_address c.flat g) 0 (omega (arith, below_32)) ∙ (let e : global_address c.flat g + 0 ≡ element_of c g 0 = omega arith in e))
+        (set.others 5 (λ e. absurd (omega arith)) ∙ first.value_is) in
+    record {
+      steps = 3;
+      after = stored.next;
+      leads = Leads-then c code 3 1 l set.next stored.next (Leads-then c code 1 2 l first.next set.next first.leads set.leads) stored.leads;
+      simulates = Simulates-at c stored.next (record t { globals = with_word t.globals g 0 v }) 4 (i + 1) frame below stored.during
+          (behind_last c code stored.next f i 3 op frame below there stored.during.inside refl);
+    }
