@@ -49,6 +49,8 @@ pub record CodeFacts (c : Checked) (code : List ℕ) : Type 0 where
   pub prologue_fetch : (f w : ℕ) (instr : Instr) → f < length c.flat.functions → slice_get (prologue (fact_at c.certificate f) (function_at c.flat f).params) w ≡ Some instr →
     instruction_at code ((fact_at c.certificate f).entry + 4 * w) ≡ Ok instr
   pub stub_fetch : (w : ℕ) (instr : Instr) → slice_get end_stub w ≡ Some instr → instruction_at code (4096 + 4 * w) ≡ Ok instr
+  -- an array that is zeroed has a word: the lowering of a source makes no other
+  pub zeroed : (f i a : ℕ) → f < length c.flat.functions → operation_at c.flat f i ≡ Some (Op.Zero a) → 0 < get_or (function_at c.flat f).sizes a 0
   pub globals_small : sum (global_widths c.flat) ≤ 65536
   pub tables_small : length (member_entries c) ≤ 65536
 

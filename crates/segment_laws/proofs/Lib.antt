@@ -19,3 +19,5 @@ pub mod LocalArrays
 pub mod Rows
 pub mod GlobalWords
 pub mod GlobalOps
+pub mod Zeroing
+pub mod Arguments

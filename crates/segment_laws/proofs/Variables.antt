@@ -67,16 +67,16 @@ variable_word-other c l frame x j value y k fact is has other apart =
 -- ---- the flat frame
 
 -- a variable that is set is there
-set_there : (flat : FlatFrame) (y : ℕ) (words : List ℕ) → variable flat y ≡ Some words → y < length flat.variables
+pub set_there : (flat : FlatFrame) (y : ℕ) (words : List ℕ) → variable flat y ≡ Some words → y < length flat.variables
 set_there flat y words is = ⊎_elim
     (λ (within : y < length flat.variables). within)
     (λ (past : length flat.variables ≤ y). absurd (let none : get_or flat.variables y None ≡ None = get_or_past flat.variables y None past in cc))
     (cases_lt y (length flat.variables))
 
-variable-set_same : (flat : FlatFrame) (x : ℕ) (row : List ℕ) → x < length flat.variables → variable (set_to flat x row) x ≡ Some row
+pub variable-set_same : (flat : FlatFrame) (x : ℕ) (row : List ℕ) → x < length flat.variables → variable (set_to flat x row) x ≡ Some row
 variable-set_same flat x row there = get_or-set_same flat.variables x (Some row) None there
 
-variable-set_other : (flat : FlatFrame) (x y : ℕ) (row : List ℕ) → (y ≡ x → ⊥) → variable (set_to flat x row) y ≡ variable flat y
+pub variable-set_other : (flat : FlatFrame) (x y : ℕ) (row : List ℕ) → (y ≡ x → ⊥) → variable (set_to flat x row) y ≡ variable flat y
 variable-set_other flat x y row apart = get_or-set_other flat.variables x y (Some row) None apart
 
 pub IsShaped-set : (c : Checked) (flat : FlatFrame) (x : ℕ) (row : List ℕ) → IsShaped c flat → x < length (function_at c.flat flat.function).sizes → length row ≡ get_or (function_at c.flat flat.function).sizes x 0 → IsShaped c (set_to flat x row)
