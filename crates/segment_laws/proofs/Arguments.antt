@@ -41,7 +41,7 @@ is_argument : (r : ℕ) → 10 ≤ r → r < 17 → IsValueRegister r
 is_argument r low high = record { some = omega arith; there = omega arith; not_sp = λ e. absurd (omega arith); not_tp = λ e. absurd (omega arith) }
 
 -- the values of the first scalar and of the others
-both_values : (first : Option ℕ) (rest : Option (List ℕ)) (vs : List ℕ) → both first rest ≡ Some vs → (v : ℕ) × (ws : List ℕ) × (first ≡ Some v) × (rest ≡ Some ws) × (vs ≡ v ∷ ws)
+pub both_values : (first : Option ℕ) (rest : Option (List ℕ)) (vs : List ℕ) → both first rest ≡ Some vs → (v : ℕ) × (ws : List ℕ) × (first ≡ Some v) × (rest ≡ Some ws) × (vs ≡ v ∷ ws)
 both_values None rest vs e = absurd (cc)
 both_values (Some v) None vs e = absurd (cc)
 both_values (Some v) (Some ws) vs e = (v, ws, refl, refl, (cc))
@@ -101,3 +101,9 @@ load_arguments c code l t w r op (x ∷ xs) vs frame below facts there during lo
       areas = rest.areas ∙ first.areas;
       count = ap length parts.4 ∙ ap suc rest.count;
     }
+
+pub scalars-length : (t : FlatThread) (xs vs : List ℕ) → scalars t xs ≡ Some vs → length vs ≡ length xs
+scalars-length t [] vs e = (let none : [] ≡ vs = cc in ap length (sym none))
+scalars-length t (x ∷ xs) vs e =
+    let parts = both_values (scalar t x) (scalars t xs) vs e in
+    ap length parts.4 ∙ ap suc (scalars-length t xs parts.1 parts.3)

@@ -21,3 +21,5 @@ pub mod GlobalWords
 pub mod GlobalOps
 pub mod Zeroing
 pub mod Arguments
+pub mod ModelledCalls
+pub mod Asking

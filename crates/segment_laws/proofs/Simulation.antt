@@ -116,7 +116,7 @@ IsWordPlace-scalar c code f x fact one =
     subst (IsWordPlace c f) same (IsWordPlace-variable c code f x 0 fact one.there (omega (arith, one.one)))
 
 -- the word of a scalar that is set
-scalar_word : (o : Option (List ℕ)) (v : ℕ) → first o ≡ Some v → (ws : List ℕ) × (o ≡ Some (v ∷ ws))
+pub scalar_word : (o : Option (List ℕ)) (v : ℕ) → first o ≡ Some v → (ws : List ℕ) × (o ≡ Some (v ∷ ws))
 scalar_word None v e = absurd (cc)
 scalar_word (Some []) v e = absurd (cc)
 scalar_word (Some (w ∷ ws)) v e = (ws, (let same : w ≡ v = cc in ap (λ (k : ℕ). Some (k ∷ ws)) same))
