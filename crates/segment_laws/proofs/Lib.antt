@@ -23,3 +23,4 @@ pub mod Zeroing
 pub mod Arguments
 pub mod ModelledCalls
 pub mod Asking
+pub mod FlatSteps
