@@ -24,3 +24,5 @@ pub mod Arguments
 pub mod ModelledCalls
 pub mod Asking
 pub mod FlatSteps
+pub mod TrapSteps
+pub mod AskSteps
