@@ -14,19 +14,13 @@ use Rattle.segment_laws.proofs.Asking.{AtAsk, model_asks, spawn_asks}
 use Rattle.segment_laws.proofs.Facts.{CodeFacts, IsOperationAt}
 use Rattle.segment_laws.proofs.FlatSteps.{was_there, function_there}
 use Rattle.segment_laws.proofs.Simulation.{Simulates}
+pub use Rattle.segment_laws.specs.Asking.{AsksAlike, StartsAlike}
 
 lost_asks : (q : Question) (w : FlatWaiting) → (let m : FlatMove = Stops Lost in m) ≡ Asks q w → ⊥
 lost_asks q w e = cc
 
 asked_call : (t : FlatThread) (call : Call) (q : Question) (w : FlatWaiting) → asks t call ≡ Asks q w → (q ≡ record { call = call; globals = t.globals }) × (w ≡ record { frame = t.frame; below = t.below })
 asked_call t call q w e = ((cc), (cc))
-
--- the machine rests at the ECALL of the operation and asks the flat thread's call, with the globals as they stand
-pub record AsksAlike (c : Checked) (code : List ℕ) (l : Local) (t : FlatThread) (site n : ℕ) (d : Option ℕ) (args : List ℕ) (q : Question) (w : FlatWaiting) (simulates : Simulates c l t) : Type 0 where
-  pub call : Call
-  pub question : q ≡ record { call = call; globals = t.globals }
-  pub waiting : w ≡ record { frame = t.frame; below = t.below }
-  pub at : AtAsk c code l t (Op.Model site d n args) (length args + 1) (local.Calls call) simulates.frame simulates.below
 
 pub step_asks : (c : Checked) (code : List ℕ) (l : Local) (t : FlatThread) (site n : ℕ) (d : Option ℕ) (args : List ℕ) (q : Question) (w : FlatWaiting) → CodeFacts c code → (simulates : Simulates c l t) → standing c.flat t.frame ≡ Some (Op.Model site d n args) → flat_step c.flat t ≡ Asks q w →
     AsksAlike c code l t site n d args q w simulates
@@ -43,13 +37,6 @@ step_asks c code l t site n d args q w facts simulates is e =
       waiting = same.1;
       at = model_asks c code l t site n d args values.value call.value facts there simulates values.is call.is;
     }
-
--- a spawn asks for a thread at its function's entry, on a chunk for the need
-pub record StartsAlike (c : Checked) (code : List ℕ) (l : Local) (t : FlatThread) (site : ℕ) (d : Option ℕ) (g x : ℕ) (q : Question) (w : FlatWaiting) (simulates : Simulates c l t) : Type 0 where
-  pub argument : ℕ
-  pub question : q ≡ record { call = spawn_of g argument; globals = t.globals }
-  pub waiting : w ≡ record { frame = t.frame; below = t.below }
-  pub at : AtAsk c code l t (Op.Spawn site d g x) 6 (local.Starts (fact_at c.certificate g).entry argument (need_of (kind_of c.certificate (Op.Spawn site d g x)))) simulates.frame simulates.below
 
 pub step_starts : (c : Checked) (code : List ℕ) (l : Local) (t : FlatThread) (site : ℕ) (d : Option ℕ) (g x : ℕ) (q : Question) (w : FlatWaiting) → CodeFacts c code → (simulates : Simulates c l t) → standing c.flat t.frame ≡ Some (Op.Spawn site d g x) → flat_step c.flat t ≡ Asks q w →
     (fact_at c.certificate g).entry < 2 ^ 32 → need_of (kind_of c.certificate (Op.Spawn site d g x)) < 2 ^ 32 → StartsAlike c code l t site d g x q w simulates

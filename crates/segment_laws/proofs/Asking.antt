@@ -34,15 +34,9 @@ use Rattle.segment_laws.proofs.Registers.{add-small, word_of-small}
 use Rattle.segment_laws.proofs.Simulation.{During, Simulates, Reaches, Sets, load_scalar, scalar_word, IsOneWord}
 use Rattle.segment_laws.proofs.Straight.{one_word, flat_set}
 use Rattle.segment_laws.proofs.Ways.{IsGoodState, Leads, Leads-none, Leads-then}
+pub use Rattle.segment_laws.specs.Asking.{Arrives, AtAsk}
 
 -- ---- the result of a call
-
--- some good steps, maybe none, lead to a thread that stands for this flat thread
-pub record Arrives (c : Checked) (code : List ℕ) (l : Local) (t : FlatThread) : Type 0 where
-  pub steps : ℕ
-  pub after : Local
-  pub leads : Leads c code steps l after
-  pub simulates : Simulates c after t
 
 -- behind the call of an operation whose result, in a0, goes to d if one is wanted
 pub result_arrives : (c : Checked) (code : List ℕ) (l : Local) (t : FlatThread) (w v : ℕ) (op : Op) (d : Option ℕ) (frame : Frame) (below : List Frame) → CodeFacts c code → IsOperationAt c code t.frame.function t.frame.next op → During c l t w frame below →
@@ -70,17 +64,6 @@ result_arrives c code l t w v op (Some d) frame below facts there during last wo
     record { steps = suc reaches.steps; after = reaches.after; leads = reaches.leads; simulates = reaches.simulates }
 
 -- ---- modelled calls
-
--- the thread rests at its ECALL and asks
-pub record AtAsk (c : Checked) (code : List ℕ) (l : Local) (t : FlatThread) (op : Op) (word : ℕ) (question : local.Question) (frame : Frame) (below : List Frame) : Type 0 where
-  pub steps : ℕ
-  pub at : Local
-  pub leads : Leads c code steps l at
-  pub during : During c at t word frame below
-  pub rests : IsAtCall c at.areas.pool at.core t.frame.function t.frame.next op word (frame ∷ below)
-  pub good : IsGoodState c code at
-  pub asks : local_step code at ≡ Asks question at
-  pub areas : at.areas ≡ l.areas
 
 -- what the argument registers hold is what the scalars' words are
 hold_arguments : (c : Checked) (at : Local) (t : FlatThread) (frame : Frame) (xs vs : List ℕ) (r : ℕ) → HoldsVariables c at.areas.pool frame t.frame → scalars t xs ≡ Some vs → ((j : ℕ) → j < length xs → read at.core.x (r + j) ≡ get_or vs j 0) →

@@ -26,6 +26,7 @@ use Rattle.segment_laws.proofs.Simulation.{Simulates, Reaches}
 use Rattle.segment_laws.proofs.Straight.{const_reaches, copy_reaches, neg_reaches, not_reaches, flip_reaches}
 use Rattle.segment_laws.proofs.Ways.{ComesTo}
 use Rattle.segment_laws.proofs.Zeroing.{zero_reaches}
+pub use Rattle.segment_laws.specs.Straight.{IsStraight}
 
 -- ---- reading a move back
 
@@ -54,15 +55,6 @@ was_within t t' i size move e = ⊎_elim
     (cases_lt i size)
 
 -- ---- silent steps
-
--- operations that stay in their frame and ask nothing
-abbrev pub IsStraight : Op → Type 0
-IsStraight (Op.Call site d f args) = ⊥
-IsStraight (Op.CallTable site d t i s) = ⊥
-IsStraight (Op.Model site d n args) = ⊥
-IsStraight (Op.Spawn site d f s) = ⊥
-IsStraight (Op.Return s) = ⊥
-IsStraight _ = Unit {0}
 
 -- the function of a thread that stands for a flat thread is there
 pub function_there : (c : Checked) (l : Local) (t : FlatThread) → Simulates c l t → t.frame.function < length c.flat.functions

@@ -23,31 +23,14 @@ use Rattle.machine_world.specs.Held.{copies, copies_in}
 use Rattle.machine_world.specs.InPlace.{Frame, word_in, frame_bytes, return_word, IsFrame, IsStack, IsRunning, FramesAt, HeadersName, TpIsFront, HasFrames, IsGoodAccess, LiesIn}
 use Rattle.machine_world.specs.Local.{Core, Local, sp, tp, machine_of, local_move, local_step, access_at}
 use Rattle.machine_world.specs.Places.{Checked, InOperation, IsAt, Row, Whole, row_in, row_at, row_of, size_in}
-use Rattle.machine_world.proofs.FormLaws.{HasForm, Owns}
+use Rattle.segment_laws.specs.Ways.{HasForm, Owns}
 use Rattle.segment_laws.proofs.Facts.{CodeFacts, FrameFacts, IsOperationAt, Fit-areas}
 use Rattle.segment_laws.proofs.Registers.{read-write_same, read-write_other, add-small, word_of-small, step-is, access-is, with_register, move-sets, with_areas, effect-lw, move-sw}
 use Rattle.segment_laws.proofs.Spots.{Fit}
 use Rattle.segment_laws.proofs.Stacks.{AreAway, IsFront, IsOnce, EndsBy, stack_away, word_of-other, IsStack-with_word, HeadersName-with_word}
 use Rattle.segment_laws.proofs.Ways.{IsGoodState, Leads, Leads-one, HasForm-next}
 use Rattle.segment_laws.proofs.Words.{PayloadWord, word_number, loaded-payload, stored-payload, writable-payload}
-
--- the running frame of a thread in operation i of function f
-pub record IsBody (c : Checked) (pool : Pool) (f i : ℕ) (frame : Frame) : Type 0 where
-  pub function : frame.function ≡ f
-  pub operation : frame.operation ≡ i
-  pub bytes : frame.bytes ≡ frame_bytes c f
-  pub returns : frame.returns ≡ return_word c pool f frame.chunk frame.low
-
--- the thread stands at word w of operation i of function f, with these frames
-pub record Inside (c : Checked) (l : Local) (f i w : ℕ) (frame : Frame) (below : List Frame) : Type 0 where
-  pub form : HasForm c l
-  pub pc : l.core.pc ≡ begin c.flat c.certificate f i + 4 * w
-  pub sp_is : read l.core.x sp ≡ frame.low
-  pub tp_is : read l.core.x tp ≡ payload_place_of l.areas.pool frame.chunk
-  pub front : IsFront l.core.chain frame.chunk
-  pub body : IsBody c l.areas.pool f i frame
-  pub stack : IsStack c l.areas.pool l.core.chain frame below
-  pub headers : HeadersName l.areas.pool l.core.chain
+pub use Rattle.segment_laws.specs.Simulation.{IsBody, Inside}
 
 -- the word is one of the operation, and the frame is whole there
 pub record IsWholeWord (c : Checked) (f w : ℕ) (op : Op) : Type 0 where

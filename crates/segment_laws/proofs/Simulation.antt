@@ -30,27 +30,7 @@ use Rattle.segment_laws.proofs.Inside.{IsBody, Inside, IsWholeWord, IsValueRegis
 use Rattle.segment_laws.proofs.Stacks.{AreAway, stack_away, word_of-other, IsStack-operation, AreFlatFrames-with_word}
 use Rattle.segment_laws.proofs.Ways.{Leads, Leads-then}
 use Rattle.segment_laws.proofs.Words.{word_number}
-
--- the machine thread stands at word w of the operation of a flat thread, which has set nothing yet
-pub record During (c : Checked) (l : Local) (t : FlatThread) (w : ℕ) (frame : Frame) (below : List Frame) : Type 0 where
-  pub inside : Inside c l t.frame.function t.frame.next w frame below
-  pub shape : IsShaped c t.frame
-  pub variables : HoldsVariables c l.areas.pool frame t.frame
-  pub flats : AreFlatFrames c l.areas.pool below t.below
-  pub globals : AreGlobals c.flat t.globals l.areas.globals
-
--- it stands for the flat thread at the operation's first word
-pub record Simulates (c : Checked) (l : Local) (t : FlatThread) : Type 0 where
-  pub frame : Frame
-  pub below : List Frame
-  pub during : During c l t 0 frame below
-
--- one or more good steps lead to a thread that stands for this flat thread
-pub record Reaches (c : Checked) (code : List ℕ) (l : Local) (t : FlatThread) : Type 0 where
-  pub steps : ℕ
-  pub after : Local
-  pub leads : Leads c code (suc steps) l after
-  pub simulates : Simulates c after t
+pub use Rattle.segment_laws.specs.Simulation.{During, Simulates, Reaches}
 
 -- ---- a register is set
 

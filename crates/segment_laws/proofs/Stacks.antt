@@ -13,6 +13,7 @@ use Rattle.machine_world.specs.Rests.{HoldsVariables, AreFlatFrames}
 use Rattle.flat_code.specs.Frames.{FlatFrame}
 use Rattle.stack_certificate.specs.Certificates.{fact_at}
 use Rattle.machine_world.proofs.HeldLaws.{copies-cons}
+pub use Rattle.segment_laws.specs.Simulation.{IsFront}
 
 -- ---- one word written
 
@@ -42,11 +43,6 @@ ChunksIn-more chunk chain (b ∷ bs) is = (omega (arith, is.0, copies-cons b.chu
 
 copies-front : (chunk : ℕ) (chain : List ℕ) → copies chunk (chunk ∷ chain) ≡ 1 + copies chunk chain
 copies-front chunk chain = copies-cons chunk chunk chain ∙ ap (λ (b : Bool). cond b 1 0 + copies chunk chain) (eq-eqb chunk chunk refl)
-
--- the chain that a frame's chunk is in front of
-pub record IsFront (chain : List ℕ) (chunk : ℕ) : Type 0 where
-  pub rest : List ℕ
-  pub is : chain ≡ chunk ∷ rest
 
 front_of : (chain : List ℕ) (chunk : ℕ) → slice_get chain 0 ≡ Some chunk → IsFront chain chunk
 front_of [] chunk e = absurd (cc)

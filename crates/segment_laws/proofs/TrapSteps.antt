@@ -20,12 +20,7 @@ use Rattle.segment_laws.proofs.GlobalOps.{load_array_traps, store_array_traps}
 use Rattle.segment_laws.proofs.LocalArrays.{load_local_traps, store_local_traps}
 use Rattle.segment_laws.proofs.Simulation.{Simulates}
 use Rattle.segment_laws.proofs.Ways.{ComesTo}
-
--- the machine comes to the same trap
-pub record TrapsAlike (c : Checked) (code : List ℕ) (l : Local) (t : FlatThread) (finish : Finish) : Type 0 where
-  pub steps : ℕ
-  pub comes : ComesTo c code steps l (Stops (Trapped TrapKind.Index))
-  pub same : finish ≡ record { trap = Some TrapKind.Index; globals = t.globals }
+pub use Rattle.segment_laws.specs.Straight.{TrapsAlike}
 
 goes_never : (t : FlatThread) (finish : Finish) → (let m : FlatMove = Goes t in m) ≡ Stops (Finished finish) → ⊥
 goes_never t finish e = cc

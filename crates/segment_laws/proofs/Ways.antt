@@ -6,23 +6,10 @@ use Rattle.machine_world.specs.Held.{copies_in, KeepsCopies, KeepsSize, size_of}
 use Rattle.machine_world.specs.InPlace.{Frame, HasFrames, IsGoodAccess}
 use Rattle.machine_world.specs.Local.{Local, LocalMove, local_step, access_at}
 use Rattle.machine_world.specs.Places.{Checked, Place}
-use Rattle.machine_world.proofs.FormLaws.{HasForm, KeepsForm, KeepsForm-step}
+use Rattle.machine_world.proofs.FormLaws as forms
+use Rattle.machine_world.proofs.FormLaws.{KeepsForm, KeepsForm-step}
 use Rattle.machine_world.proofs.HeldLaws.{KeepsCopies-step, KeepsSize-step}
-
--- the thread is in place, and its next load or store is good
-pub record IsGoodState (c : Checked) (code : List ℕ) (l : Local) : Type 0 where
-  pub place : Place
-  pub frames : List Frame
-  pub in_place : HasFrames c l.areas.pool l.core place frames
-  pub access : IsGoodAccess c frames (access_at code l)
-
-abbrev pub WayIn : Checked → List ℕ → ℕ → Local → Local → Type 0
-WayIn c code zero l after = l ≡ after
-WayIn c code (suc n) l after = IsGoodState c code l × ((next : Local) × (local_step code l ≡ Goes next) × WayIn c code n next after)
-
--- so many good steps lead from one state to another
-pub record Leads (c : Checked) (code : List ℕ) (n : ℕ) (l after : Local) : Type 0 where
-  pub way : WayIn c code n l after
+pub use Rattle.segment_laws.specs.Ways.{Owns, HasForm, IsGoodState, WayIn, Leads, ComesTo}
 
 way_joined : (c : Checked) (code : List ℕ) (m n : ℕ) (l middle after : Local) → WayIn c code m l middle → WayIn c code n middle after → WayIn c code (m + n) l after
 way_joined c code zero n l middle after first second =
@@ -41,13 +28,6 @@ Leads-one c code l next good e = record { way = (good, (next, e, refl)) }
 pub Leads-then : (c : Checked) (code : List ℕ) (m n : ℕ) (l middle after : Local) → Leads c code m l middle → Leads c code n middle after → Leads c code (m + n) l after
 Leads-then c code m n l middle after first second = record { way = way_joined c code m n l middle after first.way second.way }
 
--- good steps, and then a step with this outcome, from a good state
-pub record ComesTo (c : Checked) (code : List ℕ) (n : ℕ) (l : Local) (move : LocalMove) : Type 0 where
-  pub at : Local
-  pub leads : Leads c code n l at
-  pub good : IsGoodState c code at
-  pub move_is : local_step code at ≡ move
-
 -- ---- form
 
 abbrev most_once : ℕ → ℕ → ℕ
@@ -56,7 +36,8 @@ most_once chunk count = cond (nat_lt chunk count) 1 0
 -- each step keeps the form of areas and thread
 pub HasForm-next : (c : Checked) (code : List ℕ) (l next : Local) → HasForm c l → local_step code l ≡ Goes next → HasForm c next
 HasForm-next c code l next form e =
-    let kept : KeepsForm c (Goes next) = subst (KeepsForm c) e (KeepsForm-step c code l form) in
+    let kept_form : forms.HasForm c l = record { areas = form.areas; core = form.core; owns = record { once = form.owns.once } } in
+    let kept : KeepsForm c (Goes next) = subst (KeepsForm c) e (KeepsForm-step c code l kept_form) in
     let size : size_of next.areas.pool ≡ size_of l.areas.pool = subst (KeepsSize l) e (KeepsSize-step code l) in
     record {
       areas = kept.0;
