@@ -132,54 +132,20 @@ fn rows(rt: HostRuntime) -> Result<(), Fail> {
     ];
     for (words, source, trace, status, out, err) in table {
         let given = answer(rt.alloc(), words, source, trace)?;
-        assert_eq!(rt; given.0, status);
-        assert_eq!(rt; given.1.as_slice(), out);
-        assert_eq!(rt; given.2.as_slice(), err);
+        assert!(rt;
+            given.0 == status && given.1.as_slice() == out && given.2.as_slice() == err,
+            "{source:?}"
+        );
     }
     Ok(())
 }
 
-/// A source of so many puts, of 0, 1 and so on.
-fn source_of(alloc: Global, puts: u32) -> Result<String, AllocError> {
-    let mut source = String::from_str(alloc, "int main() {")?;
-    for number in 0..puts {
-        write!(source, " put({number});")?;
-    }
-    source.push_str(" return 0; }\n")?;
-    Ok(source)
-}
-
-/// The log of such a source, by the rule that its run has 11 instructions and 6 for each put.
-fn log_of_puts(alloc: Global, puts: u32) -> Result<String, AllocError> {
-    let cost = 11 + 6 * u64::from(puts);
-    let mut log = String::from_str(alloc, "run 0 0 0\n")?;
-    for number in 0..puts {
-        writeln!(log, "out 0 {number}")?;
-    }
-    writeln!(log, "end 0 {cost} 1024")?;
-    let average = 256 * cost;
-    writeln!(log, "edge 0 1 1 {average} -256")?;
-    writeln!(log, "stop done")?;
-    Ok(log)
-}
-
+// A source of one byte more than it may have.
 #[test]
-fn many_puts(rt: HostRuntime) -> Result<(), Fail> {
-    for (puts, status) in [(999, 0), (1000, 0), (1001, 2)] {
-        let source = source_of(rt.alloc(), puts)?;
-        let given = answer(rt.alloc(), &["serve", "put.c"], source.as_bytes(), b"")?;
-        assert_eq!(rt; given.0, status);
-        let log = if status == 0 {
-            log_of_puts(rt.alloc(), puts)?
-        } else {
-            String::new(rt.alloc())
-        };
-        assert_eq!(rt; given.1.as_slice(), log.as_bytes());
-    }
+fn a_long_source_is_refused(rt: HostRuntime) -> Result<(), Fail> {
     let long = vec![in rt.alloc(); b' '; 1048577]?;
-    let given = answer(rt.alloc(), &["serve", "put.c"], long.as_slice(), b"")?;
-    assert_eq!(rt; given.0, 2);
-    assert_eq!(rt; given.2.as_slice(), b"source: TooLong\n".as_slice());
+    let (status, _, err) = answer(rt.alloc(), &["serve", "put.c"], long.as_slice(), b"")?;
+    assert!(rt; status == 2 && err.as_slice() == b"source: TooLong\n".as_slice());
     Ok(())
 }
 
@@ -236,12 +202,11 @@ fn failing_objects(rt: HostRuntime) -> Result<(), Fail> {
     ];
     for (fails, status, taken, err) in table {
         let given = failing(rt.alloc(), fails)?;
-        assert_eq!(rt; given.0, status);
-        assert_eq!(rt;
-            given.1.as_slice(),
-            LOG_OF_SEVEN.get(..taken).ok_or("a prefix")?
+        let log = LOG_OF_SEVEN.get(..taken).ok_or("a prefix")?;
+        assert!(rt;
+            given.0 == status && given.1.as_slice() == log && given.2.as_slice() == err,
+            "{err:?}"
         );
-        assert_eq!(rt; given.2.as_slice(), err);
     }
     Ok(())
 }
@@ -256,7 +221,7 @@ const CODE_OF_SEVEN: [u32; 24] = [
 #[test]
 fn code_words(rt: HostRuntime) -> Result<(), Fail> {
     let code = compile(rt.alloc(), &[7])?;
-    assert_eq!(rt; code.as_slice(), CODE_OF_SEVEN.as_slice());
+    assert!(rt; code.as_slice() == CODE_OF_SEVEN.as_slice());
     Ok(())
 }
 
@@ -299,8 +264,7 @@ fn fill(buf: &mut [u8], word: &[u8]) -> Result<usize, FillError>
 #[test]
 fn words_of_the_command_line(rt: HostRuntime) -> Result<(), Fail> {
     let two = given_words(&CommandLine { last: b"put.c" }, rt.alloc())?;
-    assert_eq!(rt; two.len(), 2);
     let bad = given_words(&CommandLine { last: b"put\xff.c" }, rt.alloc())?;
-    assert_eq!(rt; bad.len(), 0);
+    assert!(rt; two.len() == 2 && bad.is_empty());
     Ok(())
 }

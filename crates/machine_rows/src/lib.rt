@@ -1,9 +1,9 @@
-// Rows over the public calls of the instructions, of the machine's step and of the pool.
+// Rows over the public calls of the operators on words, of the instructions, of the machine's step and of the pool.
 //
 // `Ram` and `WordRam` are memories for the rows, kept by bytes and by words: the second reads and writes whole words, has
-// numbers that are no memory, and shows what a memory above the machine has to prove. `instructions` compares words with
-// the manual's vectors, `steps` has each fault, extension, store and link, and `pools` a pool that is taken dry and
-// given back in another order, and addresses worked out by hand.
+// numbers that are no memory, and shows what a memory above the machine has to prove. `words` has the public suite's rows
+// of each operator, `instructions` compares words with the manual's vectors, `steps` has each fault, extension, store and
+// link, and `pools` a pool that is taken dry and given back in another order, and addresses worked out by hand.
 #![tactic(auto)]
 
 mod ram;
@@ -18,3 +18,5 @@ mod instructions;
 mod pools;
 #[cfg(test)]
 mod steps;
+#[cfg(test)]
+mod words;

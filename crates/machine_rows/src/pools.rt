@@ -5,37 +5,43 @@ use std::alloc::{AllocError, Global};
 use std::process::Abort;
 use std::test::Fail;
 
-/// Three chunks taken dry and given back in another order. The links are those of the machine's layout: the number of
-/// the next free chunk, or 3 where there is none.
+/// Two chunks taken dry and given back in another order. The links are those of the machine's layout: the number of the
+/// next free chunk, or 2 where there is none.
 #[test]
 fn gives_back_in_another_order(rt: HostRuntime) -> Result<(), Fail> {
-    let mut pool = ChunkPool::new(rt.alloc(), 3, 64)?;
-    assert_eq!(rt; pool.free(), 3);
-    assert_eq!(rt; pool.read(0, 0), 1);
-    assert_eq!(rt; pool.read(2, 0), 3);
-    assert_eq!(rt; pool.read(2, 15), 0);
-    assert_eq!(rt; pool.take(), Some(0));
-    assert_eq!(rt; pool.take(), Some(1));
-    assert_eq!(rt; pool.take(), Some(2));
-    assert_eq!(rt; pool.take(), None);
-    assert_eq!(rt; pool.free(), 0);
+    let mut pool = ChunkPool::new(rt.alloc(), 2, 64)?;
+    let first = pool.take();
+    let second = pool.take();
+    let third = pool.take();
+    pool.give(0);
+    pool.give(1);
+    let links = [pool.read(0, 0), pool.read(1, 0)];
+    let again = pool.take();
+    assert!(rt; [first, second, third, again] == [Some(0), Some(1), None, Some(1)]);
+    assert!(rt; links == [2, 0] && pool.free() == 1);
+    Ok(())
+}
+
+#[test]
+fn keeps_what_is_written(rt: HostRuntime) -> Result<(), Fail> {
+    let mut pool = ChunkPool::new(rt.alloc(), 2, 64)?;
     pool.write(1, 4, 41);
     pool.write(1, 15, 55);
-    pool.write(2, 0, 20);
-    pool.give(1);
-    pool.give(2);
-    pool.give(0);
-    assert_eq!(rt; pool.read(1, 0), 3);
-    assert_eq!(rt; pool.read(2, 0), 1);
-    assert_eq!(rt; pool.read(0, 0), 2);
-    assert_eq!(rt; pool.take(), Some(0));
-    assert_eq!(rt; pool.take(), Some(2));
-    assert_eq!(rt; pool.free(), 1);
-    assert_eq!(rt;
-        pool.payload(1),
-        [41, 0, 0, 0, 0, 0, 0, 0, 0, 0, 0, 55].as_slice()
-    );
+    let want = [41, 0, 0, 0, 0, 0, 0, 0, 0, 0, 0, 55];
+    assert!(rt; pool.payload(1) == want.as_slice() && pool.read(1, 0) == 2);
     Ok(())
+}
+
+/// The number of a pool's chunks and their bytes, and the address of the last one.
+fn is_laid_out(pool: &ChunkPool, count: u32, bytes: u32, last_place: u32) -> bool
+    requires some_chunks { 1 ≤ count }
+    requires of_count { pool.now.count ≡ count }
+{
+    let last = count - 1;
+    pool.free() == count
+        && pool.place_of(0) == 0x8000_0000
+        && pool.place_of(last) == last_place
+        && pool.bytes_of(last) == bytes
 }
 
 /// A pool's addresses, each worked out by hand: its last chunk's place, and an address with the chunk that has it.
@@ -55,13 +61,9 @@ fn addresses(
     requires size_bounded { count * bytes ≤ 67108864 }
 {
     let pool = ChunkPool::new(alloc, count, bytes)?;
-    assert_eq!(rt; pool.free(), count);
-    assert_eq!(rt; pool.place_of(0), 0x8000_0000);
-    assert_eq!(rt; pool.place_of(count - 1), last_place);
-    assert_eq!(rt; pool.bytes_of(count - 1), bytes);
-    assert_eq!(rt; pool.read(count - 1, 0), count);
+    assert!(rt; is_laid_out(&pool, count, bytes, last_place));
     for (address, chunk) in rows {
-        assert_eq!(rt; pool.chunk_at(*address), *chunk, "at {address}");
+        assert!(rt; pool.chunk_at(*address) == *chunk, "at {address}");
     }
     Ok(())
 }

@@ -60,9 +60,12 @@ fn faults(rt: HostRuntime) -> Result<(), Fail> {
         let mut now = start(pc);
         let code = one_word(rt.alloc(), word)?;
         let result = step(&code, &mut memory, &mut now);
-        assert_eq!(rt; result, StepResult::Fault { pc, kind }, "at {word:08x}");
-        assert!(rt; now == start(pc));
-        assert_eq!(rt; memory.bytes, sample().bytes);
+        assert!(rt;
+            result == StepResult::Fault { pc, kind }
+                && now == start(pc)
+                && memory.bytes == sample().bytes,
+            "at {word:08x}"
+        );
     }
     Ok(())
 }
@@ -95,10 +98,13 @@ fn registers(rt: HostRuntime) -> Result<(), Fail> {
         let mut now = start(0x1000);
         let code = one_word(rt.alloc(), word)?;
         let result = step(&code, &mut memory, &mut now);
-        assert_eq!(rt; result, StepResult::Went, "at {word:08x}");
-        assert_eq!(rt; now.pc, pc, "at {word:08x}");
-        assert_eq!(rt; now.read(rv_code::Register::T0), value, "at {word:08x}");
-        assert_eq!(rt; memory.bytes, sample().bytes);
+        assert!(rt;
+            result == StepResult::Went
+                && now.pc == pc
+                && now.read(rv_code::Register::T0) == value
+                && memory.bytes == sample().bytes,
+            "at {word:08x}"
+        );
     }
     Ok(())
 }
@@ -115,9 +121,12 @@ fn stores(rt: HostRuntime) -> Result<(), Fail> {
         let mut now = start(0x1000);
         let code = one_word(rt.alloc(), word)?;
         let result = step(&code, &mut memory, &mut now);
-        assert_eq!(rt; result, StepResult::Went);
-        assert_eq!(rt; memory.bytes[..4], bytes[..]);
-        assert_eq!(rt; memory.bytes[4..], sample().bytes[4..]);
+        assert!(rt;
+            result == StepResult::Went
+                && memory.bytes[..4] == bytes[..]
+                && memory.bytes[4..] == sample().bytes[4..],
+            "at {word:08x}"
+        );
     }
     Ok(())
 }
@@ -129,14 +138,12 @@ fn calls_and_links(rt: HostRuntime) -> Result<(), Fail> {
     let mut now = start(0x1000);
     let ecall = one_word(rt.alloc(), 0x0000_0073)?;
     let result = step(&ecall, &mut memory, &mut now);
-    assert_eq!(rt; result, StepResult::Call { number: 3 });
-    assert!(rt; now == start(0x1000));
+    assert!(rt; result == (StepResult::Call { number: 3 }) && now == start(0x1000));
     let jalr = one_word(rt.alloc(), 0x0050_80e7)?; // jalr x1,5(x1)
     let went = step(&jalr, &mut memory, &mut now);
-    assert_eq!(rt; went, StepResult::Went);
-    assert_eq!(rt; (now.pc, now.x[1]), (0x1004, 0x1004));
+    assert!(rt; went == StepResult::Went && now.pc == 0x1004 && now.x[1] == 0x1004);
     now.write(rv_code::Register::ZERO, 9);
-    assert_eq!(rt; now.read(rv_code::Register::ZERO), 0);
+    assert!(rt; now.read(rv_code::Register::ZERO) == 0);
     Ok(())
 }
 
@@ -158,14 +165,14 @@ fn words_and_bytes(rt: HostRuntime) -> Result<(), Fail> {
         let mut now = start(0x1000);
         let code = one_word(rt.alloc(), word)?;
         let _ = step(&code, &mut memory, &mut now);
-        assert_eq!(rt;
-            memory.words,
-            [first, second, 0x0302_0100, 0x0706_0504],
+        assert!(rt;
+            memory.words == [first, second, 0x0302_0100, 0x0706_0504] && memory.free == [8, 9],
             "at {word:08x}"
         );
-        assert_eq!(rt; memory.free, [8, 9]);
-        assert_eq!(rt; memory.load_word(0), Some(first));
-        assert_eq!(rt; memory.load(7), Some((second >> 24) as u8));
+        assert!(rt;
+            memory.load_word(0) == Some(first) && memory.load(7) == Some((second >> 24) as u8),
+            "at {word:08x}"
+        );
     }
     Ok(())
 }

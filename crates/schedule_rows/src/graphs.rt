@@ -21,12 +21,21 @@ fn segment(from: u32, to: u32, cost: u64, change: i64) -> SegmentRecord
 }
 
 #[test]
+fn keys_are_their_sites(rt: HostRuntime) {
+    let full = SiteKey::new(&[1, 2, 3, 4, 5, 6, 7, 8]);
+    assert!(rt; full.length() == 8 && full.site(0) == 1 && full.site(7) == 8);
+    let key = SiteKey::new(&[7, 0]);
+    assert!(rt; key.sites() == [7, 0].as_slice() && key != SiteKey::new(&[7, 0, 0]));
+}
+
+#[test]
 fn keys_are_numbered_from_2(rt: HostRuntime) -> Result<(), Fail> {
     let mut graph = Graph::new(rt.alloc());
-    assert_eq!(rt; graph.node_of(&SiteKey::new(&[7, 3]))?, 2);
-    assert_eq!(rt; graph.node_of(&SiteKey::new(&[7]))?, 3);
-    assert_eq!(rt; graph.node_of(&SiteKey::new(&[7, 3]))?, 2);
-    assert_eq!(rt; graph.node_of(&SiteKey::new(&[3, 7]))?, 4);
+    let first = graph.node_of(&SiteKey::new(&[7, 3]))?;
+    let shorter = graph.node_of(&SiteKey::new(&[7]))?;
+    let again = graph.node_of(&SiteKey::new(&[7, 3]))?;
+    let turned = graph.node_of(&SiteKey::new(&[3, 7]))?;
+    assert!(rt; [first, shorter, again, turned] == [2, 3, 2, 4]);
     Ok(())
 }
 
@@ -44,8 +53,7 @@ fn an_edge_has_its_count_and_averages(rt: HostRuntime) -> Result<(), Fail> {
         change: [0, -224, 0, 0, 0, 0, 0, 0],
     };
     assert!(rt; edges.as_slice() == [edge].as_slice());
-    assert_eq!(rt; graph.predicted(0, 1), -224);
-    assert_eq!(rt; graph.predicted(2, 1), 0);
+    assert!(rt; graph.predicted(0, 1) == -224 && graph.predicted(2, 1) == 0);
     Ok(())
 }
 
@@ -56,7 +64,6 @@ fn predictions_are_weighted_by_counts(rt: HostRuntime) -> Result<(), Fail> {
     graph.note(segment(4, 2, 5, -1))?;
     graph.note(segment(4, 2, 5, -1))?;
     graph.note(segment(4, 2, 5, -1))?;
-    assert_eq!(rt; graph.predicted(4, 1), -192);
-    assert_eq!(rt; graph.predicted(4, 0), 0);
+    assert!(rt; graph.predicted(4, 1) == -192 && graph.predicted(4, 0) == 0);
     Ok(())
 }

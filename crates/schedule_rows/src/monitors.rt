@@ -37,15 +37,19 @@ fn follow_rows<C: Measure + Copy>(rt: &impl Abort, alloc: Global, call: C) -> Re
         gauges.push(Gauge::new(Curve::Linear, call))?;
     }
     let mut monitor = Monitor::new(gauges, [0, 10, 3, 0, 0, 0, 0, 0], 900, 700);
-    assert!(rt; monitor.gate());
-    assert_eq!(rt; monitor.pressure(1), 0);
+    assert!(rt; monitor.gate() && monitor.pressure(1) == 0);
     for (first, second, first_pressure, second_pressure, is_open) in ROWS {
         assert!(rt; first <= 10 && second <= 3);
         observe_two(&mut monitor, first, second);
-        assert_eq!(rt; monitor.pressure(0), 0);
-        assert_eq!(rt; monitor.pressure(1), first_pressure);
-        assert_eq!(rt; monitor.pressure(2), second_pressure);
-        assert_eq!(rt; monitor.gate(), is_open);
+        let pressures = [
+            monitor.pressure(0),
+            monitor.pressure(1),
+            monitor.pressure(2),
+        ];
+        assert!(rt;
+            pressures == [0, first_pressure, second_pressure] && monitor.gate() == is_open,
+            "at {first} and {second}"
+        );
     }
     Ok(())
 }

@@ -50,7 +50,7 @@ fn long_body(alloc: Global) -> Result<Vec<Stmt>, AllocError> {
 fn long_lists_are_built_walked_and_dropped(rt: HostRuntime) -> Result<(), Fail> {
     let alloc = rt.alloc();
     let sum = long_sum(alloc)?;
-    assert_eq!(rt; sum.temporaries(), 2);
+    assert!(rt; sum.temporaries() == 2);
     let name = vec![in alloc; b'm']?;
     let function = Function {
         name,
@@ -59,7 +59,7 @@ fn long_lists_are_built_walked_and_dropped(rt: HostRuntime) -> Result<(), Fail> 
         sizes: Vec::new(alloc),
         body: long_body(alloc)?,
     };
-    assert_eq!(rt; function.temporaries(), 2);
+    assert!(rt; function.temporaries() == 2);
     Ok(())
 }
 
@@ -82,7 +82,7 @@ fn long_raw_lists_are_built_and_dropped(rt: HostRuntime) -> Result<(), Fail> {
     for at in 1..STATEMENTS {
         body.push(RawStmt::Break { at })?;
     }
-    assert_eq!(rt; body.len(), 100_000);
+    assert!(rt; body.len() == 100_000);
     Ok(())
 }
 
@@ -148,10 +148,8 @@ fn sample(alloc: Global) -> Result<Program, AllocError> {
 #[test]
 fn a_program_tells_its_parts(rt: HostRuntime) -> Result<(), Fail> {
     let program = sample(rt.alloc())?;
-    assert_eq!(rt; program.functions().len(), 2);
-    assert_eq!(rt; program.main_number(), 1);
-    assert_eq!(rt; program.globals().len(), 1);
-    assert_eq!(rt; program.tables().len(), 1);
+    assert!(rt; program.functions().len() == 2 && program.main_number() == 1);
+    assert!(rt; program.globals().len() == 1 && program.tables().len() == 1);
     let site = Site {
         number: 0,
         kind: SiteKind::Function(0),
@@ -174,7 +172,7 @@ fn modelled_calls_have_numbers(rt: HostRuntime) {
         (ModelledCall::Take, 20),
     ];
     for (call, number) in rows {
-        assert_eq!(rt; call.number(), number);
+        assert!(rt; call.number() == number, "{number}");
     }
 }
 
@@ -205,6 +203,6 @@ fn a_raw_program_tells_its_items(rt: HostRuntime) -> Result<(), Fail> {
         },
     ]?;
     let raw = RawProgram::new(items);
-    assert_eq!(rt; raw.items().len(), 1);
+    assert!(rt; raw.items().len() == 1);
     Ok(())
 }

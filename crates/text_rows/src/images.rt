@@ -1,6 +1,6 @@
 // Images.
-use cap_word::{Which, Words};
-use stack_image::{Image, ImageError, read_image, write_image};
+use cap_word::Which;
+use stack_image::{ImageError, read_image, write_image};
 use std::test::Fail;
 
 // The image of a `main` that puts one number, as the format's worked example has it.
@@ -42,6 +42,12 @@ const EXAMPLE_CODE: [u32; 24] = [
     0x0000_8067,
 ];
 
+// An image of two code words, one global, no table word and two entries.
+const FOUR: [u8; 40] = [
+    0x43, 0x41, 0x50, 0x31, 2, 0, 0, 0, 1, 0, 0, 0, 0, 0, 0, 0, 2, 0, 0, 0, 1, 0, 0, 0, 4, 3, 2, 1,
+    0xff, 0xff, 0xff, 0xff, 4, 0, 0, 0, 5, 0, 0, 0,
+];
+
 // Bytes that begin an image of these numbers of words, and end there.
 fn header(sizes: [u32; 4]) -> [u8; 20] {
     let [code, globals, tables, entries] = sizes;
@@ -56,64 +62,89 @@ fn header(sizes: [u32; 4]) -> [u8; 20] {
 #[test]
 fn the_example_is_read_and_written(rt: HostRuntime) -> Result<(), Fail> {
     let image = read_image(rt.alloc(), &EXAMPLE)?;
-    assert_eq!(rt; image.code.as_slice(), EXAMPLE_CODE.as_slice());
-    assert!(rt; image.globals.is_empty());
-    assert_eq!(rt; image.tables.len(), 0);
-    assert_eq!(rt; image.entries.as_slice(), [0x1008].as_slice());
+    assert!(rt;
+        image.code.as_slice() == EXAMPLE_CODE.as_slice()
+            && image.globals.is_empty()
+            && image.tables.is_empty()
+            && image.entries.as_slice() == [0x1008].as_slice()
+    );
     let written = write_image(rt.alloc(), &image)?;
-    assert_eq!(rt; written.as_slice(), EXAMPLE.as_slice());
+    assert!(rt; written.as_slice() == EXAMPLE.as_slice());
     Ok(())
 }
 
 #[test]
 fn four_lists_are_told_apart(rt: HostRuntime) -> Result<(), Fail> {
-    let image = Image {
-        code: Words::new(Vec::from_slice(rt.alloc(), &[1, 0x0102_0304])?),
-        globals: Words::new(Vec::from_slice(rt.alloc(), &[u32::MAX])?),
-        tables: Words::new(Vec::new(rt.alloc())),
-        entries: Words::new(Vec::from_slice(rt.alloc(), &[4, 5])?),
-    };
+    let image = read_image(rt.alloc(), &FOUR)?;
+    assert!(rt;
+        image.code.as_slice() == [1, 0x0102_0304].as_slice()
+            && image.globals.as_slice() == [u32::MAX].as_slice()
+            && image.tables.is_empty()
+            && image.entries.as_slice() == [4, 5].as_slice()
+    );
     let written = write_image(rt.alloc(), &image)?;
-    let expected = [
-        0x43, 0x41, 0x50, 0x31, 2, 0, 0, 0, 1, 0, 0, 0, 0, 0, 0, 0, 2, 0, 0, 0, 1, 0, 0, 0, 4, 3,
-        2, 1, 0xff, 0xff, 0xff, 0xff, 4, 0, 0, 0, 5, 0, 0, 0,
-    ];
-    assert_eq!(rt; written.as_slice(), expected.as_slice());
-    assert!(rt; read_image(rt.alloc(), &written)? == image);
-    let entries = image.entries.into_vec();
-    assert_eq!(rt; entries.as_slice(), [4, 5].as_slice());
+    assert!(rt; written.as_slice() == FOUR.as_slice());
     Ok(())
 }
 
 #[test]
-fn bytes_that_end_elsewhere_are_refused(rt: HostRuntime) {
-    assert!(rt; read_image(rt.alloc(), &[]) == Err(ImageError::Short { at: 0 }));
-    assert!(rt; read_image(rt.alloc(), b"CA") == Err(ImageError::Short { at: 2 }));
-    assert!(rt; read_image(rt.alloc(), &EXAMPLE[..10]) == Err(ImageError::Short { at: 10 }));
-    assert!(rt; read_image(rt.alloc(), &EXAMPLE[..119]) == Err(ImageError::Short { at: 119 }));
+fn other_bytes_are_refused(rt: HostRuntime) {
     let mut long = [0; 121];
     long[..120].copy_from_slice(&EXAMPLE);
-    assert!(rt; read_image(rt.alloc(), &long) == Err(ImageError::Long { at: 120 }));
+    let rows: [(&[u8], ImageError); 7] = [
+        (b"", ImageError::Short { at: 0 }),
+        (b"CA", ImageError::Short { at: 2 }),
+        (&EXAMPLE[..10], ImageError::Short { at: 10 }),
+        (&EXAMPLE[..119], ImageError::Short { at: 119 }),
+        (&long, ImageError::Long { at: 120 }),
+        (b"CB", ImageError::Magic),
+        (b"CAP2", ImageError::Magic),
+    ];
+    for (bytes, want) in rows {
+        assert!(rt; read_image(rt.alloc(), bytes) == Err(want), "{want}");
+    }
 }
 
 #[test]
-fn other_beginnings_are_refused(rt: HostRuntime) {
-    assert!(rt; read_image(rt.alloc(), b"CB") == Err(ImageError::Magic));
-    assert!(rt; read_image(rt.alloc(), b"CAP2") == Err(ImageError::Magic));
+fn limits_have_names(rt: HostRuntime) {
+    assert!(rt; Which::Functions.name() == "functions" && Which::Entries.name() == "entries");
 }
 
 #[test]
 fn the_first_limit_is_named(rt: HostRuntime) {
     let rows = [
-        ([200_001, 0, 0, 0], Which::Code),
-        ([200_001, 65_537, 65_537, 4_097], Which::Code),
-        ([200_000, 65_537, 65_537, 4_097], Which::Globals),
-        ([200_000, 65_536, 65_537, 4_097], Which::Tables),
-        ([200_000, 65_536, 65_536, 4_097], Which::Entries),
+        ([200_001, 0, 0, 0], ImageError::Limit { which: Which::Code }),
+        (
+            [200_001, 65_537, 65_537, 4_097],
+            ImageError::Limit { which: Which::Code },
+        ),
+        (
+            [200_000, 65_537, 65_537, 4_097],
+            ImageError::Limit {
+                which: Which::Globals,
+            },
+        ),
+        (
+            [200_000, 65_536, 65_537, 4_097],
+            ImageError::Limit {
+                which: Which::Tables,
+            },
+        ),
+        (
+            [200_000, 65_536, 65_536, 4_097],
+            ImageError::Limit {
+                which: Which::Entries,
+            },
+        ),
+        (
+            [200_000, 65_536, 65_536, 4_096],
+            ImageError::Short { at: 20 },
+        ),
     ];
-    for (sizes, which) in rows {
-        assert!(rt; read_image(rt.alloc(), &header(sizes)) == Err(ImageError::Limit { which }));
+    for (sizes, want) in rows {
+        assert!(rt;
+            read_image(rt.alloc(), &header(sizes)) == Err(want),
+            "{want}"
+        );
     }
-    let full = header([200_000, 65_536, 65_536, 4_096]);
-    assert!(rt; read_image(rt.alloc(), &full) == Err(ImageError::Short { at: 20 }));
 }

@@ -1,13 +1,11 @@
 // Rows over the public calls of the crates that read and write text and files.
 //
 // It has tests alone: numbers, fields and lines (`cap_text`), sources, sinks and shelves (`cap_io`), traces
-// (`event_trace`), logs (`schedule_log`), images (`stack_image`) and certificates (`stack_certificate`). The rows come
-// from the formats of docs/FORMATS.md and their worked examples, and from what a call must not do where a read, a write
-// or an allocation fails. They stand here and not in the libraries, since a crate with tests is proved twice.
+// (`event_trace`), logs (`schedule_log`) and images (`stack_image`). The rows come from the formats of docs/FORMATS.md
+// and their worked examples, and from what a call must not do where a read, a write or an allocation fails. They stand
+// here and not in the libraries, since a crate with tests is proved twice.
 #![tactic(auto)]
 
-#[cfg(test)]
-mod certificates;
 #[cfg(test)]
 mod images;
 #[cfg(test)]

@@ -80,9 +80,8 @@ fn puts_numbers_after_what_is_there(rt: HostRuntime) -> Result<(), Fail> {
     for (value, want) in cases {
         let mut out = Vec::from_slice(rt.alloc(), b"x ")?;
         put_dec(&mut out, value)?;
-        assert_eq!(rt; out.len(), 2 + want.len(), "at {value}");
         assert!(rt;
-            out.as_slice().starts_with(b"x ") && out.as_slice().ends_with(want),
+            out.as_slice().strip_prefix(b"x ".as_slice()) == Some(want),
             "at {value}"
         );
     }

@@ -9,7 +9,6 @@ use std::alloc::{AllocError, Global};
 use std::fs::File;
 use std::io;
 use std::io::{ErrorKind, Read, Write};
-use std::process::Abort;
 use std::test::Fail;
 
 /// Reads to the end in pieces of at most `room` bytes, trying again after each failure, and counts the failures.
@@ -33,30 +32,42 @@ fn read_all<S: Source>(
     Ok((bytes, failures))
 }
 
+/// Whether a source gives these bytes, in reads of at most `room`, with so many failures.
+fn gives<S: Source>(
+    alloc: Global,
+    source: &mut S,
+    room: usize,
+    want: &[u8],
+    failures: u32,
+) -> Result<bool, AllocError>
+    requires { room ≤ 16 }
+{
+    let (bytes, failed) = read_all(alloc, source, room)?;
+    Ok(bytes.as_slice() == want && failed == failures)
+}
+
 #[test]
 fn sources_give_their_bytes(rt: HostRuntime) -> Result<(), Fail> {
-    let table: [(u32, [u64; 2], u32); 5] = [
-        (1, [0, 0], 0),
-        (3, [1, 3], 2),
-        (3, [2, 2], 1),
-        (100, [1, 2], 2),
-        (8, [9, 9], 0),
+    let alloc = rt.alloc();
+    // The bytes of a call, the calls that fail, the room of a read, and how often it fails.
+    let table: [(u32, [u64; 2], usize, u32); 6] = [
+        (1, [0, 0], 16, 0),
+        (3, [1, 3], 1, 2),
+        (3, [2, 2], 5, 1),
+        (100, [1, 2], 16, 2),
+        (8, [9, 9], 5, 0),
+        (8, [9, 9], 1, 1),
     ];
-    for (per_call, fails, want) in table {
-        for room in [1usize, 5, 16] {
-            let bytes = b"abcdefgh".to_vec(rt.alloc())?;
-            let mut source = MemSource::new(bytes, per_call.max(1), fails.to_vec(rt.alloc())?);
-            let (read, failures) = read_all(rt.alloc(), &mut source, room)?;
-            assert_eq!(rt; read.as_slice(), b"abcdefgh".as_slice());
-            if room == 16 {
-                assert_eq!(rt; failures, want, "at {per_call} bytes a call");
-            }
-            let mut source = CleanSource::new(b"abcdefgh".to_vec(rt.alloc())?);
-            let (read, failures) = read_all(rt.alloc(), &mut source, room)?;
-            assert_eq!(rt; read.as_slice(), b"abcdefgh".as_slice());
-            assert_eq!(rt; failures, 0);
-        }
+    for (per_call, fails, room, failures) in table {
+        let bytes = b"abcdefgh".to_vec(alloc)?;
+        let mut source = MemSource::new(bytes, per_call.max(1), fails.to_vec(alloc)?);
+        assert!(rt;
+            gives(alloc, &mut source, room.min(16), b"abcdefgh", failures)?,
+            "at {per_call} bytes a call"
+        );
     }
+    let mut source = CleanSource::new(b"abcdefgh".to_vec(alloc)?);
+    assert!(rt; gives(alloc, &mut source, 5, b"abcdefgh", 0)?);
     Ok(())
 }
 
@@ -68,101 +79,92 @@ fn put_two<K: Sink>(out: &mut K) -> [Result<(), SinkError>; 2] {
 #[test]
 fn sinks_take_whole_pieces(rt: HostRuntime) -> Result<(), Fail> {
     let failed = Err(SinkError::Failed);
-    let mut sink = MemSink::new(rt.alloc(), 2, Vec::new(rt.alloc()));
-    assert_eq!(rt; put_two(&mut sink), [Ok(()), Ok(())]);
-    assert_eq!(rt; sink.bytes(), b"abcdexyz".as_slice());
-    let mut sink = MemSink::new(rt.alloc(), 2, vec![in rt.alloc(); 2, 4]?);
-    assert_eq!(rt; put_two(&mut sink), [failed, failed]);
-    assert_eq!(rt; sink.bytes(), b"abxy".as_slice());
-    let mut sink = MemSink::new(rt.alloc(), 100, vec![in rt.alloc(); 1]?);
-    assert_eq!(rt; put_two(&mut sink), [failed, Ok(())]);
-    assert_eq!(rt; sink.bytes(), b"xyz".as_slice());
+    let table: [(u32, [u64; 2], [Result<(), SinkError>; 2], &[u8]); 3] = [
+        (2, [0, 0], [Ok(()), Ok(())], b"abcdexyz"),
+        (2, [2, 4], [failed, failed], b"abxy"),
+        (100, [1, 0], [failed, Ok(())], b"xyz"),
+    ];
+    for (per_call, fails, want, bytes) in table {
+        let mut sink = MemSink::new(rt.alloc(), per_call.max(1), fails.to_vec(rt.alloc())?);
+        let answers = put_two(&mut sink);
+        assert!(rt;
+            answers == want && sink.bytes() == bytes,
+            "at {per_call} bytes a call"
+        );
+    }
     let mut sink = CleanSink::new(rt.alloc());
-    assert_eq!(rt; put_two(&mut sink), [Ok(()), Ok(())]);
-    assert_eq!(rt; sink.bytes(), b"abcdexyz".as_slice());
+    let answers = put_two(&mut sink);
+    assert!(rt; answers == [Ok(()), Ok(())] && sink.bytes() == b"abcdexyz".as_slice());
     Ok(())
 }
 
-/// Loads a file as text of at most 8 bytes.
-fn load_text<H: Shelf>(alloc: Global, shelf: &mut H, name: &str) -> Result<Vec<u8>, ShelfError> {
-    shelf.load(alloc, name, 8)
+/// Whether a file has these bytes, and may have so many.
+fn has<H: Shelf>(alloc: Global, shelf: &mut H, name: &str, most: u32, want: &[u8]) -> bool {
+    match shelf.load(alloc, name, most) {
+        Ok(bytes) => bytes.as_slice() == want,
+        Err(_) => false,
+    }
+}
+
+/// Whether a load of at most 8 bytes ends so.
+fn is_refused<H: Shelf>(alloc: Global, shelf: &mut H, name: &str, want: ShelfError) -> bool {
+    match shelf.load(alloc, name, 8) {
+        Ok(_) => false,
+        Err(error) => error == want,
+    }
+}
+
+fn file(alloc: Global, name: &str, bytes: &[u8]) -> Result<(String, Vec<u8>), AllocError> {
+    Ok((String::from_str(alloc, name)?, bytes.to_vec(alloc)?))
 }
 
 fn files(alloc: Global) -> Result<Vec<(String, Vec<u8>)>, AllocError> {
-    let mut files = Vec::new(alloc);
-    files.push((
-        String::from_str(alloc, "eight")?,
-        b"12345678".to_vec(alloc)?,
-    ))?;
-    files.push((
-        String::from_str(alloc, "nine")?,
-        b"123456789".to_vec(alloc)?,
-    ))?;
-    Ok(files)
+    let eight = file(alloc, "cap_io_eight", b"12345678")?;
+    let nine = file(alloc, "cap_io_nine", b"123456789")?;
+    Ok(vec![in alloc; eight, nine]?)
 }
 
-/// Loads, stores over a file and anew, and loads again; the shelf is one of `files` that does not fail.
-fn use_shelf<H: Shelf>(rt: &impl Abort, alloc: Global, shelf: &mut H) -> Result<(), Fail> {
-    assert_eq!(rt;
-        load_text(alloc, shelf, "eight")?.as_slice(),
-        b"12345678".as_slice()
-    );
-    assert!(rt; matches!(load_text(alloc, shelf, "nine"), Err(ShelfError::TooLong)));
-    assert!(rt; matches!(load_text(alloc, shelf, "none"), Err(ShelfError::Absent)));
-    shelf.store(alloc, "eight", b"new")?;
-    shelf.store(alloc, "none", b"")?;
-    assert_eq!(rt;
-        load_text(alloc, shelf, "eight")?.as_slice(),
-        b"new".as_slice()
-    );
-    assert_eq!(rt; load_text(alloc, shelf, "none")?.as_slice(), b"".as_slice());
-    assert_eq!(rt;
-        shelf.load(alloc, "nine", 9)?.as_slice(),
-        b"123456789".as_slice()
-    );
-    Ok(())
+/// Loads from a shelf of `files` that does not fail.
+fn loads_files<H: Shelf>(alloc: Global, shelf: &mut H) -> bool {
+    has(alloc, shelf, "cap_io_eight", 8, b"12345678")
+        && has(alloc, shelf, "cap_io_nine", 9, b"123456789")
+        && is_refused(alloc, shelf, "cap_io_nine", ShelfError::TooLong)
+        && is_refused(alloc, shelf, "cap_io_none", ShelfError::Absent)
+}
+
+/// Stores over a file of such a shelf and anew, and loads again.
+fn stores_files<H: Shelf>(alloc: Global, shelf: &mut H) -> bool {
+    shelf.store(alloc, "cap_io_eight", b"new").is_ok()
+        && shelf.store(alloc, "cap_io_none", b"").is_ok()
+        && has(alloc, shelf, "cap_io_eight", 8, b"new")
+        && has(alloc, shelf, "cap_io_none", 8, b"")
 }
 
 #[test]
 fn shelves_keep_files(rt: HostRuntime) -> Result<(), Fail> {
     let alloc = rt.alloc();
-    use_shelf(
-        &rt,
-        alloc,
-        &mut MemShelf::new(alloc, files(alloc)?, Vec::new(alloc)),
-    )?;
-    use_shelf(&rt, alloc, &mut CleanShelf::new(alloc, files(alloc)?))?;
+    let mut shelf = MemShelf::new(alloc, files(alloc)?, Vec::new(alloc));
+    assert!(rt; loads_files(alloc, &mut shelf) && stores_files(alloc, &mut shelf));
+    let mut shelf = CleanShelf::new(alloc, files(alloc)?);
+    assert!(rt; loads_files(alloc, &mut shelf) && stores_files(alloc, &mut shelf));
     Ok(())
 }
 
 #[test]
 fn a_shelf_fails_where_it_is_told(rt: HostRuntime) -> Result<(), Fail> {
     let alloc = rt.alloc();
-    let failed = Err(ShelfError::Failed);
-    let mut shelf = MemShelf::new(
-        alloc,
-        files(alloc)?,
-        vec![in alloc; (1, 0), (3, 2), (4, 9)]?,
-    );
+    let fails = vec![in alloc; (1, 0), (3, 2), (4, 9)]?;
+    let mut shelf = MemShelf::new(alloc, files(alloc)?, fails);
     assert!(rt;
-        matches!(
-            load_text(alloc, &mut shelf, "none"),
-            Err(ShelfError::Failed)
-        )
+        is_refused(alloc, &mut shelf, "cap_io_none", ShelfError::Failed)
+            && has(alloc, &mut shelf, "cap_io_eight", 8, b"12345678")
     );
-    assert_eq!(rt;
-        load_text(alloc, &mut shelf, "eight")?.as_slice(),
-        b"12345678".as_slice()
-    );
-    assert_eq!(rt; shelf.store(alloc, "eight", b"abc"), failed);
-    assert_eq!(rt; shelf.store(alloc, "none", b"abc"), failed);
-    assert_eq!(rt;
-        load_text(alloc, &mut shelf, "eight")?.as_slice(),
-        b"ab".as_slice()
-    );
-    assert_eq!(rt;
-        load_text(alloc, &mut shelf, "none")?.as_slice(),
-        b"abc".as_slice()
+    let first = shelf.store(alloc, "cap_io_eight", b"abc");
+    let second = shelf.store(alloc, "cap_io_none", b"abc");
+    assert!(rt; first == Err(ShelfError::Failed) && second == Err(ShelfError::Failed));
+    assert!(rt;
+        has(alloc, &mut shelf, "cap_io_eight", 8, b"ab")
+            && has(alloc, &mut shelf, "cap_io_none", 8, b"abc")
     );
     Ok(())
 }
@@ -205,20 +207,22 @@ impl Write for Flaky {
 }
 
 #[test]
-fn streams_fail_and_go_on(rt: HostRuntime) -> Result<(), Fail> {
+fn sources_fail_and_go_on(rt: HostRuntime) {
     let mut source = StdSource::new(Flaky { calls: 0 });
     let mut block = *b"......";
-    assert_eq!(rt; source.read(&mut block[..2]), Ok(2));
-    assert_eq!(rt; block, *b"zz....");
-    assert_eq!(rt; source.read(&mut block), Err(Failed));
-    assert_eq!(rt; source.read(&mut block), Ok(3));
-    assert_eq!(rt; source.read(&mut block), Ok(0));
-    assert_eq!(rt; block, *b"zzz...");
+    assert!(rt; source.read(&mut block[..2]) == Ok(2) && block == *b"zz....");
+    assert!(rt; source.read(&mut block) == Err(Failed) && source.read(&mut block) == Ok(3));
+    assert!(rt; source.read(&mut block) == Ok(0) && block == *b"zzz...");
+}
+
+#[test]
+fn sinks_fail_and_go_on(rt: HostRuntime) {
     let mut sink = StdSink::new(Flaky { calls: 0 });
-    assert_eq!(rt; sink.write(b"abcdef"), Ok(3));
-    assert_eq!(rt; put_two(&mut sink), [Err(SinkError::Failed), Ok(())]);
-    assert_eq!(rt; put_two(&mut sink), [Err(SinkError::Failed), Ok(())]);
-    Ok(())
+    assert!(rt; sink.write(b"abcdef") == Ok(3));
+    let first = put_two(&mut sink);
+    let second = put_two(&mut sink);
+    let want = [Err(SinkError::Failed), Ok(())];
+    assert!(rt; first == want && second == want);
 }
 
 #[test]
@@ -226,30 +230,24 @@ fn the_present_folder_keeps_files(rt: HostRuntime) -> Result<(), Fail> {
     let alloc = rt.alloc();
     let mut shelf = DirShelf::new(rt);
     shelf.store(alloc, "cap_io_eight", b"12345678")?;
-    assert_eq!(rt;
-        load_text(alloc, &mut shelf, "cap_io_eight")?.as_slice(),
-        b"12345678".as_slice()
-    );
+    shelf.store(alloc, "cap_io_nine", b"123456789")?;
+    assert!(rt; loads_files(alloc, &mut shelf) && stores_files(alloc, &mut shelf));
     assert!(rt;
-        matches!(
-            shelf.load(alloc, "cap_io_eight", 7),
-            Err(ShelfError::TooLong)
-        )
+        is_refused(alloc, &mut shelf, ".", ShelfError::Failed)
+            && shelf.store(alloc, ".", b"") == Err(ShelfError::Failed)
     );
-    assert!(rt;
-        matches!(
-            load_text(alloc, &mut shelf, "cap_io_none"),
-            Err(ShelfError::Absent)
-        )
-    );
-    assert!(rt; matches!(load_text(alloc, &mut shelf, "."), Err(ShelfError::Failed)));
-    assert_eq!(rt; shelf.store(alloc, ".", b""), Err(ShelfError::Failed));
-    let mut sink = StdSink::new(File::create(&rt, "cap_io_eight")?);
-    assert_eq!(rt; put_two(&mut sink), [Ok(()), Ok(())]);
-    let mut source = StdSource::new(File::open(&rt, "cap_io_eight")?);
-    let (read, failures) = read_all(alloc, &mut source, 3)?;
-    assert_eq!(rt; read.as_slice(), b"abcdexyz".as_slice());
-    assert_eq!(rt; failures, 0);
-    std::fs::remove_file(&rt, "cap_io_eight")?;
+    for name in ["cap_io_eight", "cap_io_nine", "cap_io_none"] {
+        std::fs::remove_file(&rt, name)?;
+    }
+    Ok(())
+}
+
+#[test]
+fn files_are_streams(rt: HostRuntime) -> Result<(), Fail> {
+    let mut sink = StdSink::new(File::create(&rt, "cap_io_stream")?);
+    assert!(rt; put_two(&mut sink) == [Ok(()), Ok(())]);
+    let mut source = StdSource::new(File::open(&rt, "cap_io_stream")?);
+    assert!(rt; gives(rt.alloc(), &mut source, 3, b"abcdexyz", 0)?);
+    std::fs::remove_file(&rt, "cap_io_stream")?;
     Ok(())
 }

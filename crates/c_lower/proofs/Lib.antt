@@ -1,0 +1,12 @@
+pub mod Lists
+pub mod Glue
+pub mod CodeSizes
+pub mod ChainCode
+pub mod ExprGlue
+pub mod CallGlue
+pub mod StmtGlue
+pub mod Suits
+pub mod Formed
+pub mod Sites
+pub mod Words
+pub mod FormedPrograms

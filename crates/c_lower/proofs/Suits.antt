@@ -1,0 +1,17 @@
+-- What flat code may name is what its function's tree may name, and the function's temporaries.
+use Rattle.std.proofs.Common.{◌≡◌, ◌<◌, ◌≤◌, ◌+◌, ℕ, length}
+use Rattle.std.specs.Prelude.{slice_index}
+use Rattle.c_tree.specs.WellScoped as tree
+use Rattle.flat_code.specs.WellFormed as flat
+
+-- t is the first of n temporaries
+pub record Suits (c : tree.Context) (d : flat.Context) (t n : ℕ) : Type 0 where
+  pub local : (x : ℕ) → x < length c.sizes → x < length d.sizes
+  pub words : (x w : ℕ) → x < length c.sizes → slice_index c.sizes x ≡ w → slice_index d.sizes x ≡ w
+  pub temporary : (k : ℕ) → t ≤ k → k < t + n → flat.IsScalar d k
+  pub globals : d.globals ≡ c.globals
+  pub called : (f : ℕ) → f < length c.signatures → f < length d.signatures
+  pub params : (f : ℕ) → (flat.signature_at d.signatures f).params ≡ (tree.signature_at c.signatures f).params
+  pub results : (f : ℕ) → (flat.signature_at d.signatures f).gives ≡ (tree.signature_at c.signatures f).gives
+  pub tables : d.tables ≡ c.tables
+  pub gives : d.gives ≡ c.gives

@@ -1,0 +1,79 @@
+use Rattle.std.proofs.Common.{◌≡◌, ◌+◌, ◌^◌, ◌∷◌, ◌++◌, ◌∙◌, length, map, drop, rules, ap}
+use Rattle.c_tree.specs.declared.expressions.Expr.{Expr}
+use Rattle.c_tree.specs.declared.expressions.Expr.{the_lemmas as expr_lemmas}
+use Rattle.c_tree.specs.Views.{expr_tree, chained}
+use Rattle.c_tree.proofs.Cuts.{drop_at}
+use Rattle.c_tree.proofs.ExprEquations.{operand_tree, expr_tree-LocalElement, expr_tree-GlobalElement, expr_tree-Unary, expr_tree-Chain, expr_tree-Conditional}
+use Rattle.c_lower.specs.ExprCode.{expr_size, expr_code}
+use Rattle.c_lower.proofs.ChainCode.{chained_fits}
+use Rattle.c_lower.proofs.ExprGlue.{conditional_glued, chain_begun, chain_turn}
+use Rattle.c_lower.proofs.Glue.{glued2, then_on_ok}
+use Rattle.c_lower.proofs.expressions.+expressions.Goals as goal
+
+pub put_expr-put_expr-requires-in-Chain : goal.put_expr-put_expr-requires-in-Chain
+put_expr-put_expr-requires-in-Chain t c =
+    let is : expr_tree c.args.expr.now ≡ chained (expr_tree c.in-Chain.first.value) (map operand_tree c.in-Chain.rest.items) = ap expr_tree c.in-Chain.is ∙ expr_tree-Chain c.in-Chain.first c.in-Chain.rest in
+    let whole = rw is at c.requires in
+    (search (rules, expr_lemmas), rw c.deref-in-Chain.ensures (chained_fits (2 ^ 32) c.args.k (expr_tree c.in-Chain.first.value) (map operand_tree c.in-Chain.rest.items) whole).0)
+
+pub put_expr-loop-operator-init : goal.put_expr-loop-operator-init
+put_expr-loop-operator-init t c =
+    let is : expr_tree c.args.expr.now ≡ chained (expr_tree c.in-Chain.first.value) (map operand_tree c.in-Chain.rest.items) = ap expr_tree c.in-Chain.is ∙ expr_tree-Chain c.in-Chain.first c.in-Chain.rest in
+    let whole = rw is at c.requires in
+    let first : c.put_expr-in-Chain.new.code.items ≡ c.args.code.now.items ++ expr_code (expr_tree c.in-Chain.first.value) (length c.args.code.now.items) c.args.k = rw (← c.deref-in-Chain.ensures) c.in_ok-put_expr-in-Chain.ensures in
+    record {
+      code = rw (is, c.deref-operator-items.ensures.value) (chain_begun _ _ (expr_tree c.in-Chain.first.value) (map operand_tree c.in-Chain.rest.items) c.args.k first);
+      fits = rw c.deref-operator-items.ensures.value (chained_fits (2 ^ 32) c.args.k (expr_tree c.in-Chain.first.value) (map operand_tree c.in-Chain.rest.items) whole).1;
+    }
+
+pub put_expr-loop-operator-preserved : goal.put_expr-loop-operator-preserved
+put_expr-loop-operator-preserved t c =
+    let item = c.loop-operator-item.result in
+    let items = c.deref-operator-items.result.now in
+    let i = c.loop-operator.operator-index in
+    let cut : drop i items ≡ item ∷ drop (i + 1) items = drop_at items i item c.loop-operator-test.true c.loop-operator-item.is in
+    let code = rw cut at c.loop-operator.invariant.code in
+    let fits = rw cut at c.loop-operator.invariant.fits in
+    record {
+      code = chain_turn _ _ _ item.0 (expr_tree item.1) (map operand_tree (drop (i + 1) items)) c.args.k code c.in_ok-put_operand-in-Chain.ensures;
+      fits = fits.1;
+    }
+
+pub put_expr-returns-in_ok-put_expr-in-LocalElement : goal.put_expr-returns-in_ok-put_expr-in-LocalElement
+put_expr-returns-in_ok-put_expr-in-LocalElement t c =
+    let index : c.put_expr.new.code.items ≡ c.args.code.now.items ++ expr_code (expr_tree c.in-LocalElement.index.value) (length c.args.code.now.items) c.args.k = rw (← c.deref.ensures) c.in_ok-put_expr-in-LocalElement.ensures in
+    rw (c.in-LocalElement.is, expr_tree-LocalElement c.in-LocalElement.array c.in-LocalElement.index)
+    (then_on_ok c.put-in-LocalElement.result (glued2 _ _ _ _ _ index) c.put-in-LocalElement.ensures)
+
+pub put_expr-returns-in_ok-put_expr-in-GlobalElement : goal.put_expr-returns-in_ok-put_expr-in-GlobalElement
+put_expr-returns-in_ok-put_expr-in-GlobalElement t c =
+    let index : c.put_expr-in-GlobalElement.new.code.items ≡ c.args.code.now.items ++ expr_code (expr_tree c.in-GlobalElement.index.value) (length c.args.code.now.items) c.args.k = rw (← c.deref-in-GlobalElement.ensures) c.in_ok-put_expr-in-GlobalElement.ensures in
+    rw (c.in-GlobalElement.is, expr_tree-GlobalElement c.in-GlobalElement.array c.in-GlobalElement.index)
+    (then_on_ok c.put-in-GlobalElement.result (glued2 _ _ _ _ _ index) c.put-in-GlobalElement.ensures)
+
+pub put_expr-returns-in_ok-put_expr-in-Unary : goal.put_expr-returns-in_ok-put_expr-in-Unary
+put_expr-returns-in_ok-put_expr-in-Unary t c =
+    let operand : c.put_expr-in-Unary.new.code.items ≡ c.args.code.now.items ++ expr_code (expr_tree c.in-Unary.operand.value) (length c.args.code.now.items) c.args.k = rw (← c.deref-in-Unary.ensures) c.in_ok-put_expr-in-Unary.ensures in
+    rw (c.in-Unary.is, expr_tree-Unary c.in-Unary.operator c.in-Unary.operand)
+    (then_on_ok c.put_unary.result (glued2 _ _ _ _ _ operand) c.put_unary.ensures)
+
+pub put_expr-returns-in_ok-put-in-Conditional-2 : goal.put_expr-returns-in_ok-put-in-Conditional-2
+put_expr-returns-in_ok-put-in-Conditional-2 t c =
+    let k = c.args.k in
+    let c0 = c.args.code.now.items in
+    let c1 = c.put_expr-in-Conditional.new.code.items in
+    let c2 = c.put-in-Conditional.new.code.items in
+    let c3 = c.put_expr-in-Conditional-2.new.code.items in
+    let c4 = c.put-in-Conditional-2.new.code.items in
+    let e1 : c1 ≡ c0 ++ expr_code (expr_tree c.in-Conditional.condition.value) (length c0) k = rw (← c.deref-in-Conditional.ensures) c.in_ok-put_expr-in-Conditional.ensures in
+    let s2 : c.in_ok-second-in-Conditional.second ≡ length c1 + expr_size (expr_tree c.in-Conditional.then.value) + 2 =
+    c.in_ok-second-in-Conditional.ensures
+    ∙ ap (λ n. length c1 + n + 2) (c.in_ok-size_of_expr-in-Conditional.ensures ∙ ap (λ (x : Expr). expr_size (expr_tree x)) c.deref-in-Conditional-2.ensures) in
+    let e3 : c3 ≡ c2 ++ expr_code (expr_tree c.in-Conditional.then.value) (length c2) k = rw (← c.deref-in-Conditional-3.ensures) c.in_ok-put_expr-in-Conditional-2.ensures in
+    let s4 : c.in_ok-end-in-Conditional.end ≡ length c3 + expr_size (expr_tree c.in-Conditional.otherwise.value) + 1 =
+    c.in_ok-end-in-Conditional.ensures
+    ∙ ap (λ n. length c3 + n + 1) (c.in_ok-size_of_expr-in-Conditional-2.ensures ∙ ap (λ (x : Expr). expr_size (expr_tree x)) c.deref-in-Conditional-4.ensures) in
+    rw (c.in-Conditional.is, expr_tree-Conditional c.in-Conditional.condition c.in-Conditional.then c.in-Conditional.otherwise)
+    (then_on_ok c.put_expr-in-Conditional-3.result
+    (λ e. conditional_glued c0 c1 c2 c3 c4 _ (expr_tree c.in-Conditional.condition.value) (expr_tree c.in-Conditional.then.value) (expr_tree c.in-Conditional.otherwise.value) k _ _ e1 s2 c.in_ok-put-in-Conditional.ensures e3 s4 c.in_ok-put-in-Conditional-2.ensures (e ∙ ap (λ (x : Expr). c4 ++ expr_code (expr_tree x) (length c4) k) c.deref-in-Conditional-5.ensures))
+    c.put_expr-in-Conditional-3.ensures)

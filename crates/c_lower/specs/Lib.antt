@@ -1,0 +1,6 @@
+pub mod Operations
+pub mod ExprCode
+pub mod Chains
+pub mod CallCode
+pub mod StmtCode
+pub mod ProgramCode

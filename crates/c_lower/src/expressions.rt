@@ -1,0 +1,136 @@
+// The operations of expressions.
+
+ghost use Rattle.std.specs.Prelude.{◌≡◌, ◌<◌, ◌+◌, ◌^◌, ◌++◌, OnOk, length};
+ghost use Rattle.c_tree.specs.Temporaries.{expr_temporaries, operand_temporaries};
+ghost use Rattle.c_tree.specs.Views.{expr_tree};
+ghost use Rattle.c_lower.specs.ExprCode.{expr_code};
+ghost use Rattle.c_lower.specs.Chains.{truth_code, operand_code};
+
+use crate::operators::{operator_for, put_unary};
+use crate::places::{place_after, put};
+use crate::sizes::size_of_expr;
+use c_tree::{Expr, Infix};
+use flat_code::Op;
+use std::alloc::AllocError;
+
+// 1 or 0 in variable k: 1 where it isn't 0 there, and 0 where it is or where `zero` is jumped to.
+fn put_truth(code: &mut Vec<Op>, k: u32, zero: u32, end: u32) -> Result<(), AllocError>
+    ensures { OnOk result (code.new.items ≡ code.old.items ++ truth_code k zero end) }
+{
+    put(code, Op::JumpZero { s: k, to: zero })?;
+    put(code, Op::Const { d: k, value: 1 })?;
+    put(code, Op::Jump { to: end })?;
+    put(code, Op::Const { d: k, value: 0 })
+}
+
+// The value of the expression in variable k, which is a temporary; it uses the temporaries from k on.
+#[cycle(expressions)]
+pub fn put_expr(code: &mut Vec<Op>, k: u32, expr: &Expr) -> Result<(), AllocError>
+    requires { k + expr_temporaries (expr_tree expr.now) < 2 ^ 32 }
+    ensures { OnOk result (code.new.items ≡ code.old.items ++ expr_code (expr_tree expr.now) (length code.old.items) k) }
+{
+    match expr {
+        Expr::Number(value) => put(
+            code,
+            Op::Const {
+                d: k,
+                value: *value,
+            },
+        ),
+        Expr::Local(x) => put(code, Op::Copy { d: k, s: *x }),
+        Expr::Global(g) => put(code, Op::LoadGlobal { d: k, g: *g }),
+        Expr::LocalElement { array, index } => {
+            put_expr(code, k, index)?;
+            put(
+                code,
+                Op::LoadLocal {
+                    d: k,
+                    a: *array,
+                    i: k,
+                },
+            )
+        }
+        Expr::GlobalElement { array, index } => {
+            put_expr(code, k, index)?;
+            put(
+                code,
+                Op::LoadArray {
+                    d: k,
+                    a: *array,
+                    i: k,
+                },
+            )
+        }
+        Expr::Unary { operator, operand } => {
+            put_expr(code, k, operand)?;
+            put_unary(code, k, *operator)
+        }
+        Expr::Parenthesized(inner) => put_expr(code, k, inner),
+        Expr::Chain { first, rest } => {
+            put_expr(code, k, first)?;
+            for (operator, operand) in rest {
+                put_operand(code, k, *operator, operand)?;
+            }
+            Ok(())
+        }
+        Expr::Conditional {
+            condition,
+            then,
+            otherwise,
+        } => {
+            put_expr(code, k, condition)?;
+            let second = place_after(code, size_of_expr(then)?, 2)?;
+            put(code, Op::JumpZero { s: k, to: second })?;
+            put_expr(code, k, then)?;
+            let end = place_after(code, size_of_expr(otherwise)?, 1)?;
+            put(code, Op::Jump { to: end })?;
+            put_expr(code, k, otherwise)
+        }
+    }
+}
+
+// An operator and its right operand, where the value of the left one is in variable k.
+#[cycle(expressions)]
+fn put_operand(
+    code: &mut Vec<Op>,
+    k: u32,
+    operator: Infix,
+    operand: &Expr,
+) -> Result<(), AllocError>
+    requires { k + operand_temporaries operator (expr_temporaries (expr_tree operand.now)) < 2 ^ 32 }
+    ensures { OnOk result (code.new.items ≡ code.old.items ++ operand_code operator (expr_tree operand.now) (length code.old.items) k) }
+{
+    match operator {
+        Infix::Binary(operator) => {
+            put_expr(code, k + 1, operand)?;
+            put(
+                code,
+                Op::Bin {
+                    op: operator_for(operator),
+                    d: k,
+                    a: k,
+                    b: k + 1,
+                },
+            )
+        }
+        Infix::LogicalAnd => {
+            let size = size_of_expr(operand)?;
+            let zero = place_after(code, size, 4)?;
+            let end = place_after(code, size, 5)?;
+            put(code, Op::JumpZero { s: k, to: zero })?;
+            put_expr(code, k, operand)?;
+            put_truth(code, k, zero, end)
+        }
+        Infix::LogicalOr => {
+            let size = size_of_expr(operand)?;
+            let right = place_after(code, 0, 2)?;
+            let one = place_after(code, size, 3)?;
+            let zero = place_after(code, size, 5)?;
+            let end = place_after(code, size, 6)?;
+            put(code, Op::JumpZero { s: k, to: right })?;
+            put(code, Op::Jump { to: one })?;
+            put_expr(code, k, operand)?;
+            put_truth(code, k, zero, end)
+        }
+    }
+}

@@ -1,0 +1,31 @@
+// Operations at the end of a function's code, and the numbers of those that jumps name.
+
+ghost use Rattle.std.specs.Prelude.{◌≡◌, ◌+◌, [], ◌∷◌, ◌++◌, IfOk, OnOk, length};
+
+use flat_code::Op;
+use std::alloc::AllocError;
+
+// One more operation.
+pub fn put(code: &mut Vec<Op>, op: Op) -> Result<(), AllocError>
+    ensures { OnOk result (code.new.items ≡ code.old.items ++ op ∷ []) }
+{
+    code.push(op)?;
+    Ok(())
+}
+
+// A sum of sizes. More operations than a jump can name are a want of memory.
+pub fn sum(a: u32, b: u32) -> Result<u32, AllocError>
+    ensures { IfOk result (λ n. n ≡ a + b) }
+{
+    a.checked_add(b).ok_or(AllocError)
+}
+
+// The number of the operation that comes `size` and `more` operations after those that are there.
+pub fn place_after(code: &Vec<Op>, size: u32, more: u32) -> Result<u32, AllocError>
+    ensures { IfOk result (λ n. n ≡ length code.now.items + size + more) }
+{
+    let Ok(here) = u32::try_from(code.len()) else {
+        return Err(AllocError);
+    };
+    sum(sum(here, size)?, more)
+}

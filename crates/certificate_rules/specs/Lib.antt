@@ -1,0 +1,4 @@
+pub mod Ranges
+pub mod Sites
+pub mod Rules
+pub mod Validity

@@ -1,0 +1,17 @@
+pub mod InPlace
+pub mod Silent
+pub mod Expressions
+pub mod Stands
+pub mod Rows
+pub mod Frames
+pub mod Pushed
+pub mod Steps
+pub mod Items
+pub mod Whole
+pub mod FromList
+pub mod Lowered
+pub mod TextCalls
+pub mod SiteNumbers
+pub mod Standing
+pub mod Meaning
+pub mod Sampled

@@ -1,0 +1,3 @@
+pub mod StandsFor
+pub mod Meaning
+pub mod Sample
