@@ -1,8 +1,7 @@
 -- Arguments are loaded into the argument registers, one an instruction.
-use Rattle.std.proofs.Common.{◌≡◌, ℕ, zero, suc, ◌+◌, ◌-◌, ◌*◌, ◌^◌, ◌<◌, ◌≤◌, List, [], ◌∷◌, ◌++◌, length, get_or, ℤ, pos, Option, Some, None, Ok, refl, sym, ap, subst, ◌∙◌, arith, ⊎_elim}
+use Rattle.std.proofs.Common.{◌≡◌, ℕ, zero, suc, ◌+◌, ◌<◌, ◌≤◌, List, [], ◌∷◌, ◌++◌, length, get_or, pos, Option, Some, None, refl, sym, ap, subst, ◌∙◌, arith}
 use Rattle.std.specs.Prelude.{slice_get}
 use Rattle.std.specs.List.{AllByRecursion}
-use Rattle.std.proofs.lemmas.Bool.{cases_eq}
 use Rattle.rv_code.specs.declared.instructions.Instr.{Instr}
 use Rattle.rv_machine.specs.Registers.{read}
 use Rattle.flat_code.specs.declared.operations.Op.{Op}
@@ -13,14 +12,13 @@ use Rattle.flat_code.specs.WellFormed.{IsScalar, context_of}
 use Rattle.stack_certificate.specs.Certificates.{fact_at}
 use Rattle.stack_certificate.specs.declared.functions.FunctionFact.{FunctionFact}
 use Rattle.stack_certificate.specs.Parts.{arguments}
-use Rattle.machine_world.specs.Areas.{Areas}
 use Rattle.machine_world.specs.InPlace.{Frame}
 use Rattle.machine_world.specs.Local.{Local}
 use Rattle.machine_world.specs.Places.{Checked}
 use Rattle.segment_laws.proofs.Facts.{CodeFacts, IsOperationAt}
 use Rattle.segment_laws.proofs.Immediate.{words_of, fetch_at}
 use Rattle.segment_laws.proofs.Inside.{IsWholeWord, IsValueRegister}
-use Rattle.segment_laws.proofs.Simulation.{During, Sets, load_scalar}
+use Rattle.segment_laws.proofs.Simulation.{During, load_scalar}
 use Rattle.segment_laws.proofs.Straight.{one_word}
 use Rattle.segment_laws.proofs.Ways.{Leads, Leads-none, Leads-then}
 
@@ -83,15 +81,15 @@ load_arguments c code l t w r op (x ∷ xs) vs frame below facts there during lo
     let w_is : w + 0 ≡ w = omega arith in
     let r_is : r + 0 ≡ r = omega arith in
     let here : slice_get (words_of c t.frame.function t.frame.next op) w ≡ Some (load_of (fact_at c.certificate t.frame.function) r x) =
-        ap (slice_get (words_of c t.frame.function t.frame.next op)) (sym w_is) ∙ words 0 (omega arith) ∙ ap (λ (k : ℕ). Some (load_of (fact_at c.certificate t.frame.function) k x)) r_is in
+    ap (slice_get (words_of c t.frame.function t.frame.next op)) (sym w_is) ∙ words 0 (omega arith) ∙ ap (λ (k : ℕ). Some (load_of (fact_at c.certificate t.frame.function) k x)) r_is in
     let word_w : IsWholeWord c t.frame.function w op = subst (λ (k : ℕ). IsWholeWord c t.frame.function k op) w_is (whole 0 (omega arith)) in
     let first = load_scalar c code l t w op frame below r x v facts there word_w during (fetch_at c code l t.frame.function t.frame.next w op frame below (load_of (fact_at c.certificate t.frame.function) r x) there during.inside here)
-        (one_word c t.frame.function x formed.0) parts.2 (is_argument r low (omega arith)) in
+    (one_word c t.frame.function x formed.0) parts.2 (is_argument r low (omega arith)) in
     let rest = load_arguments c code first.next t (w + 1) (r + 1) op xs ws frame below facts there first.during (omega arith) (omega arith) formed.1 parts.3
-        (λ j small. (let e : w + suc j ≡ w + 1 + j = omega arith in subst (λ (k : ℕ). IsWholeWord c t.frame.function k op) e (whole (suc j) (omega arith))))
-        (λ j small.
-        (let e : w + 1 + j ≡ w + suc j = omega arith in ap (slice_get (words_of c t.frame.function t.frame.next op)) e) ∙ words (suc j) (omega arith)
-        ∙ (let e : r + suc j ≡ r + 1 + j = omega arith in ap (λ (k : ℕ). Some (load_of (fact_at c.certificate t.frame.function) k (get_or xs j 0))) e)) in
+    (λ j small. (let e : w + suc j ≡ w + 1 + j = omega arith in subst (λ (k : ℕ). IsWholeWord c t.frame.function k op) e (whole (suc j) (omega arith))))
+    (λ j small.
+    (let e : w + 1 + j ≡ w + suc j = omega arith in ap (slice_get (words_of c t.frame.function t.frame.next op)) e) ∙ words (suc j) (omega arith)
+    ∙ (let e : r + suc j ≡ r + 1 + j = omega arith in ap (λ (k : ℕ). Some (load_of (fact_at c.certificate t.frame.function) k (get_or xs j 0))) e)) in
     record {
       next = rest.next;
       leads = (let e : 1 + length xs ≡ suc (length xs) = omega arith in subst (λ (k : ℕ). Leads c code k l rest.next) e (Leads-then c code 1 (length xs) l first.next rest.next first.leads rest.leads));

@@ -1,5 +1,5 @@
 -- Operators of two values: both are loaded, one or two instructions make the result, and it is stored.
-use Rattle.std.proofs.Common.{◌≡◌, ℕ, ◌+◌, ◌-◌, ◌^◌, ◌<◌, List, [], ◌∷◌, length, get_or, ℤ, pos, negsuc, Bool, not, Option, Some, None, Ok, refl, sym, ap, subst, ◌∙◌, arith}
+use Rattle.std.proofs.Common.{◌≡◌, ℕ, ◌^◌, ◌<◌, List, get_or, pos, Bool, not, Some, None, refl, sym, ap, subst, ◌∙◌, arith}
 use Rattle.std.specs.Prelude.{slice_get, bit_and, bit_or, bit_xor, nat_eq, nat_lt, int_lt, int_le}
 use Rattle.cap_word.specs.Word as word
 use Rattle.cap_word.specs.Word.{word_of, signed}
@@ -18,7 +18,6 @@ use Rattle.flat_code.specs.Operators.{result_of}
 use Rattle.flat_code.specs.Step.{scalar}
 use Rattle.stack_certificate.specs.Certificates.{fact_at}
 use Rattle.stack_certificate.specs.Templates.{size, kind_of}
-use Rattle.machine_world.specs.InPlace.{Frame}
 use Rattle.machine_world.specs.Local.{Local, machine_of}
 use Rattle.machine_world.specs.Places.{Checked}
 use Rattle.segment_laws.proofs.Facts.{CodeFacts, IsOperationAt}
@@ -28,7 +27,7 @@ use Rattle.segment_laws.proofs.Inside.{IsWholeWord}
 use Rattle.segment_laws.proofs.Numbers.{below_one, above_none, difference_none, flag-turned, int_le-not}
 use Rattle.segment_laws.proofs.Simulation.{Simulates, Reaches, set_value}
 use Rattle.segment_laws.proofs.Straight.{one_word, flat_set, load_both}
-use Rattle.segment_laws.proofs.Ways.{Leads, Leads-then}
+use Rattle.segment_laws.proofs.Ways.{Leads-then}
 
 -- what an instruction makes of two words in t0 and t1
 abbrev Makes : Instr → ℕ → ℕ → ℕ → Type 0
@@ -80,7 +79,7 @@ bin_two c code l t op instr second d x y a b middle result facts there simulates
     let b_below : b < 2 ^ 32 = subst (λ (n : ℕ). n < 2 ^ 32) both.right (read-below both.next.core.x 6 both.during.inside.form.core.registers) in
     let made = set_value c code both.next t 2 whole frame below instr 5 middle there w2 both.during (fetch_at c code both.next f i 2 whole frame below instr there both.during.inside e2) (makes a_below b_below (machine_of both.next) both.left both.right) (none (machine_of both.next)) is_t0 in
     let turned = set_value c code made.next t 3 whole frame below second 5 result there w3 made.during (fetch_at c code made.next f i 3 whole frame below second there made.during.inside e3)
-        (makes' a_below b_below (machine_of made.next) made.value_is (made.others 6 (λ e. absurd (omega arith)) ∙ both.right)) (none' (machine_of made.next)) is_t0 in
+    (makes' a_below b_below (machine_of made.next) made.value_is (made.others 6 (λ e. absurd (omega arith)) ∙ both.right)) (none' (machine_of made.next)) is_t0 in
     let stored = store_scalar c code turned.next t 4 whole frame below 5 d result facts there w4 turned.during (fetch_at c code turned.next f i 4 whole frame below _ there turned.during.inside e4) (one_word c f d there.formed.0) turned.value_is size_is in
     Reaches-after c code 4 l turned.next (flat_set t d result)
     (Leads-then c code 3 1 l made.next turned.next (Leads-then c code 2 1 l both.next made.next both.leads made.leads) turned.leads) stored

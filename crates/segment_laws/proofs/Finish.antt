@@ -1,14 +1,14 @@
 -- The last instruction of an operation: the thread then stands for the flat thread after its step.
-use Rattle.std.proofs.Common.{◌≡◌, ℕ, zero, suc, ◌+◌, ◌-◌, ◌*◌, ◌/◌, ◌%◌, ◌^◌, ◌<◌, ◌≤◌, List, [], ◌∷◌, length, get_or, set, ℤ, pos, Option, Some, None, Ok, refl, sym, ap, subst, ◌∙◌, arith}
+use Rattle.std.proofs.Common.{◌≡◌, ℕ, suc, ◌+◌, ◌*◌, ◌%◌, ◌<◌, ◌≤◌, List, [], ◌∷◌, length, get_or, ℤ, pos, Ok, refl, sym, ap, subst, ◌∙◌, arith}
 use Rattle.cap_word.specs.Word as word
 use Rattle.cap_word.specs.Word.{word_of}
-use Rattle.chunk_pool.specs.Pool.{Pool, with_word as with_pool_word}
+use Rattle.chunk_pool.specs.Pool.{Pool}
 use Rattle.rv_code.specs.declared.instructions.Instr.{Instr}
 use Rattle.rv_machine.specs.Registers.{read}
 use Rattle.rv_machine.specs.Step.{instruction_at}
 use Rattle.flat_code.specs.declared.operations.Op.{Op}
 use Rattle.flat_code.specs.Codes.{function_at}
-use Rattle.flat_code.specs.Frames.{FlatFrame, FlatThread, at, passed, set_to, with_scalar}
+use Rattle.flat_code.specs.Frames.{FlatThread, at, set_to, with_scalar}
 use Rattle.stack_certificate.specs.Certificates.{fact_at}
 use Rattle.stack_certificate.specs.Templates.{begin, size, kind_of}
 use Rattle.machine_world.specs.Areas.{Areas}
@@ -16,12 +16,12 @@ use Rattle.machine_world.specs.Globals.{AreGlobals}
 use Rattle.machine_world.specs.InPlace.{Frame, frame_bytes}
 use Rattle.machine_world.specs.Local.{Local}
 use Rattle.machine_world.specs.Places.{Checked}
-use Rattle.machine_world.specs.Rests.{variable_word, HoldsVariables, IsShaped, AreFlatFrames}
+use Rattle.machine_world.specs.Rests.{variable_word, HoldsVariables, AreFlatFrames}
 use Rattle.segment_laws.proofs.Facts.{CodeFacts, FrameFacts, IsOperationAt}
-use Rattle.segment_laws.proofs.FrameWords.{InFrame, InFrame-inside, IsStored, store_at, stack_frame, once_of}
-use Rattle.segment_laws.proofs.Inside.{IsBody, Inside, IsWholeWord}
-use Rattle.segment_laws.proofs.Simulation.{During, Simulates, Reaches, IsOneWord, IsWordPlace, IsWordPlace-variable}
-use Rattle.segment_laws.proofs.Stacks.{AreAway, stack_away, IsStack-operation, AreFlatFrames-with_word}
+use Rattle.segment_laws.proofs.FrameWords.{InFrame-inside, store_at, once_of}
+use Rattle.segment_laws.proofs.Inside.{Inside, IsWholeWord}
+use Rattle.segment_laws.proofs.Simulation.{During, Simulates, Reaches, IsOneWord, IsWordPlace-variable}
+use Rattle.segment_laws.proofs.Stacks.{stack_away, IsStack-operation, AreFlatFrames-with_word}
 use Rattle.segment_laws.proofs.Variables.{offset_of, written_pool, HasWord, IsShaped-set, HoldsVariables-set}
 use Rattle.segment_laws.proofs.Ways.{Leads, Leads-then}
 use Rattle.segment_laws.proofs.Words.{word_number}
@@ -134,8 +134,8 @@ store_scalar c code l t w op frame below rs d value facts there word during fetc
     let in_frame = InFrame-inside c code l f t.frame.next w frame below offset facts there.function is (subst (λ (o : ℕ). o % 4 ≡ 0) zero_more place.aligned) (subst (λ (o : ℕ). o + 4 ≤ frame_bytes c f) zero_more place.fits) in
     let one_word : length (value ∷ []) ≡ get_or (function_at c.flat frame.function).sizes d 0 = sym (ap (λ (g : ℕ). get_or (function_at c.flat g).sizes d 0) function ∙ one.one) in
     let stores = store_variable c code l t w op frame below 2 rs d 0 value (pos offset) (value ∷ []) facts there word during fetch has
-        (in_frame.address ∙ ap (λ (o : ℕ). frame.low + o) (sym offset_is)) value_is one_word refl
-        (λ k small not_first. absurd (not_first (omega arith))) in
+    (in_frame.address ∙ ap (λ (o : ℕ). frame.low + o) (sym offset_is)) value_is one_word refl
+    (λ k small not_first. absurd (not_first (omega arith))) in
     let set : FlatThread = record t { frame = set_to t.frame d (value ∷ []) } in
     record {
       steps = 0;

@@ -1,30 +1,26 @@
 -- What a step of a flat thread is told by: from where it leads, which values it read; and so each silent step and each trap
 -- of an operation that is no call is the machine's.
-use Rattle.std.proofs.Common.{◌≡◌, ℕ, zero, suc, ◌+◌, ◌-◌, ◌^◌, ◌<◌, ◌≤◌, List, [], ◌∷◌, length, get_or, set, replicate, Bool, true, false, not, Option, Some, None, refl, sym, ap, subst, ◌∙◌, arith, ⊎_elim}
-use Rattle.std.specs.Prelude.{bit_xor, nat_eq, nat_lt}
-use Rattle.std.proofs.lemmas.Bool.{cases_Bool, cases_lt, ltb-true, ltb-false, lt-ltb, le-ltb}
-use Rattle.cap_word.specs.Calls.{Finish}
+use Rattle.std.proofs.Common.{◌≡◌, ℕ, zero, suc, ◌-◌, ◌^◌, ◌<◌, ◌≤◌, List, length, get_or, set, Bool, Option, Some, None, refl, sym, ap, subst, ◌∙◌, ⊎_elim}
+use Rattle.std.specs.Prelude.{bit_xor, nat_eq}
+use Rattle.std.proofs.lemmas.Bool.{cases_lt, lt-ltb, le-ltb}
 use Rattle.cap_word.specs.Rows.{width, word_at, with_word}
-use Rattle.cap_word.specs.Runs.{Move, Goes, Asks, Stops}
+use Rattle.cap_word.specs.Runs.{Goes, Stops}
 use Rattle.cap_word.specs.Word as word
 use Rattle.cap_word.specs.declared.traps.TrapKind.{TrapKind}
 use Rattle.flat_code.specs.declared.operations.Op.{Op}
-use Rattle.flat_code.specs.Codes.{function_at, operation_at}
-use Rattle.flat_code.specs.Frames.{FlatFrame, FlatThread, FlatWaiting, End, Finished, Lost, standing, variable, at, passed, set_to}
+use Rattle.flat_code.specs.Frames.{FlatThread, Lost, standing, variable, passed, set_to}
 use Rattle.flat_code.specs.Operators.{result_of}
 use Rattle.flat_code.specs.Step.{FlatMove, on, scalar, puts, where_in, within, trapped, jumps, does, flat_step}
-use Rattle.machine_world.specs.Local as local
-use Rattle.machine_world.specs.Local.{Local, Trapped}
+use Rattle.machine_world.specs.Local.{Local}
 use Rattle.machine_world.specs.Places.{Checked}
 use Rattle.segment_laws.proofs.Binary.{bin_reaches}
 use Rattle.segment_laws.proofs.Facts.{CodeFacts, IsOperationAt}
 use Rattle.segment_laws.proofs.FrameWords.{stack_frame}
-use Rattle.segment_laws.proofs.GlobalOps.{load_global_reaches, store_global_reaches, load_array_reaches, store_array_reaches, load_array_traps, store_array_traps}
+use Rattle.segment_laws.proofs.GlobalOps.{load_global_reaches, store_global_reaches, load_array_reaches, store_array_reaches}
 use Rattle.segment_laws.proofs.Jumping.{jump_reaches, jump_zero_reaches, jump_zero_passes}
-use Rattle.segment_laws.proofs.LocalArrays.{load_local_reaches, store_local_reaches, load_local_traps, store_local_traps}
+use Rattle.segment_laws.proofs.LocalArrays.{load_local_reaches, store_local_reaches}
 use Rattle.segment_laws.proofs.Simulation.{Simulates, Reaches}
 use Rattle.segment_laws.proofs.Straight.{const_reaches, copy_reaches, neg_reaches, not_reaches, flip_reaches}
-use Rattle.segment_laws.proofs.Ways.{ComesTo}
 use Rattle.segment_laws.proofs.Zeroing.{zero_reaches}
 pub use Rattle.segment_laws.specs.Straight.{IsStraight}
 
@@ -109,7 +105,7 @@ goes_from c code l t t' (Op.Jump to) facts there simulates straight e = subst (R
 goes_from c code l t t' (Op.JumpZero x to) facts there simulates straight e =
     let was = was_there (scalar t x) (jumps t to) (Goes t') e (not_lost_goes t') in
     jumped was.value was.is was.move
-    where
+  where
     jumped : (v : ℕ) → scalar t x ≡ Some v → jumps t to v ≡ Goes t' → Reaches c code l t'
     jumped zero value e = subst (Reaches c code l) (goes_same _ t' e) (jump_zero_reaches c code l t x to facts there simulates value)
     jumped (suc v) value e = subst (Reaches c code l) (goes_same _ t' e) (jump_zero_passes c code l t x to v facts there simulates value)

@@ -1,24 +1,22 @@
 -- Operations on globals and their elements.
-use Rattle.std.proofs.Common.{◌≡◌, ℕ, zero, suc, ◌+◌, ◌-◌, ◌*◌, ◌/◌, ◌%◌, ◌^◌, ◌<◌, ◌≤◌, List, [], ◌∷◌, length, get_or, set, map, take, ℤ, pos, Option, Some, None, Ok, refl, sym, ap, subst, ◌∙◌, arith}
-use Rattle.std.specs.Prelude.{slice_get, sum}
+use Rattle.std.proofs.Common.{◌≡◌, ℕ, ◌+◌, ◌*◌, ◌^◌, ◌<◌, ◌≤◌, List, [], length, get_or, map, pos, Some, refl, sym, ap, subst, ◌∙◌, arith}
+use Rattle.std.specs.Prelude.{slice_get}
 use Rattle.std.proofs.lemmas.List.{length-map, get_or-map}
 use Rattle.cap_word.specs.Word as word
 use Rattle.cap_word.specs.Word.{word_of}
 use Rattle.cap_word.specs.Rows.{width, word_at, with_word}
-use Rattle.cap_word.specs.Runs.{Goes, Stops}
+use Rattle.cap_word.specs.Runs.{Stops}
 use Rattle.cap_word.specs.declared.traps.TrapKind.{TrapKind}
 use Rattle.rv_code.specs.declared.instructions.Instr.{Instr}
 use Rattle.rv_machine.specs.Registers.{read}
 use Rattle.flat_code.specs.declared.operations.Op.{Op}
 use Rattle.flat_code.specs.declared.programs.FlatGlobal.{FlatGlobal}
-use Rattle.flat_code.specs.Codes.{FlatCode, function_at}
+use Rattle.flat_code.specs.Codes.{FlatCode}
 use Rattle.flat_code.specs.Frames.{FlatThread, passed}
 use Rattle.flat_code.specs.Step.{scalar}
-use Rattle.flat_code.specs.WellFormed.{IsGlobalScalar, context_of}
 use Rattle.stack_certificate.specs.Certificates.{global_address, global_words}
 use Rattle.stack_certificate.specs.Parts.{upper_part, lower_part}
-use Rattle.machine_world.specs.Areas.{globals_place}
-use Rattle.machine_world.specs.Globals.{global_widths, AreGlobals}
+use Rattle.machine_world.specs.Globals.{AreGlobals}
 use Rattle.machine_world.specs.InPlace.{Frame}
 use Rattle.machine_world.specs.Local.{Local, Trapped}
 use Rattle.machine_world.specs.Places.{Checked}
@@ -70,7 +68,7 @@ load_global_reaches c code l t d g facts there simulates =
     let set = load_immediate c code l t 0 op frame below 6 (global_address c.flat g) there (whole 0 (omega arith)) (whole 1 (omega arith)) during refl refl is_t1 (omega (arith, below_32)) in
     let has' : HasGlobal c.flat t.globals set.next.areas.globals g 0 = HasGlobal-at c.flat t.globals set.next.areas.globals g 0 set.during.globals is_global (omega (arith, one)) in
     let loaded = load_global c code set.next t 2 op frame below 5 6 g 0 (pos 0) facts there (whole 2 (omega arith)) set.during (fetch_at c code set.next f i 2 op frame below _ there set.during.inside refl) is_global has'
-        ((λ i. word.add (set.value_is i) (word_of-small 0 (omega arith) i)) ∙ add-small (global_address c.flat g) 0 (omega (arith, below_32)) ∙ (let e : global_address c.flat g + 0 ≡ element_of c g 0 = omega arith in e)) is_t0 in
+    ((λ i. word.add (set.value_is i) (word_of-small 0 (omega arith) i)) ∙ add-small (global_address c.flat g) 0 (omega (arith, below_32)) ∙ (let e : global_address c.flat g + 0 ≡ element_of c g 0 = omega arith in e)) is_t0 in
     let stored = store_scalar c code loaded.next t 3 op frame below 5 d (word_at t.globals g 0) facts there (whole 3 (omega arith)) loaded.during (fetch_at c code loaded.next f i 3 op frame below _ there loaded.during.inside refl) (one_word c f d there.formed.0) loaded.value_is refl in
     Reaches-after c code 3 l loaded.next (flat_set t d (word_at t.globals g 0)) (Leads-then c code 2 1 l set.next loaded.next set.leads loaded.leads) stored
 
@@ -95,8 +93,8 @@ store_global_reaches c code l t g x v facts there simulates value =
     let set = load_immediate c code first.next t 1 op frame below 6 (global_address c.flat g) there (whole 1 (omega arith)) (whole 2 (omega arith)) first.during refl refl is_t1 (omega (arith, below_32)) in
     let has' : HasGlobal c.flat t.globals set.next.areas.globals g 0 = HasGlobal-at c.flat t.globals set.next.areas.globals g 0 set.during.globals is_global (omega (arith, one)) in
     let stored = store_global c code set.next t 3 op frame below 6 5 g 0 v (pos 0) facts there (whole 3 (omega arith)) set.during (fetch_at c code set.next f i 3 op frame below _ there set.during.inside refl) is_global has'
-        ((λ i. word.add (set.value_is i) (word_of-small 0 (omega arith) i)) ∙ add-small (global_address c.flat g) 0 (omega (arith, below_32)) ∙ (let e : global_address c.flat g + 0 ≡ element_of c g 0 = omega arith in e))
-        (set.others 5 (λ e. absurd (omega arith)) ∙ first.value_is) in
+    ((λ i. word.add (set.value_is i) (word_of-small 0 (omega arith) i)) ∙ add-small (global_address c.flat g) 0 (omega (arith, below_32)) ∙ (let e : global_address c.flat g + 0 ≡ element_of c g 0 = omega arith in e))
+    (set.others 5 (λ e. absurd (omega arith)) ∙ first.value_is) in
     record {
       steps = 3;
       after = stored.next;
@@ -146,8 +144,8 @@ addresses c code l t op frame below x g k facts there guarded address during val
     let below_32 = address_below c t.globals l.areas.globals g k has0 (few_globals c code l t 0 frame below facts during) in
     let set = load_immediate c code scaled.next t 8 op frame below 6 (global_address c.flat g) there (address.whole 8 (omega arith)) (address.whole 9 (omega arith)) scaled.during address.e8 address.e9 is_t1 (omega (arith, below_32)) in
     let summed = adds c code set.next t 10 op frame below 6 (4 * k) (global_address c.flat g) (element_of c g k) there (address.whole 10 (omega arith)) set.during address.e10
-        (set.others 5 (λ e. absurd (omega arith)) ∙ scaled.value_is) set.value_is
-        (add-small (4 * k) (global_address c.flat g) (omega (arith, below_32)) ∙ (let e : 4 * k + global_address c.flat g ≡ element_of c g k = omega arith in e)) in
+    (set.others 5 (λ e. absurd (omega arith)) ∙ scaled.value_is) set.value_is
+    (add-small (4 * k) (global_address c.flat g) (omega (arith, below_32)) ∙ (let e : 4 * k + global_address c.flat g ≡ element_of c g k = omega arith in e)) in
     record {
       next = summed.next;
       leads = Leads-then c code 7 1 l set.next summed.next (Leads-then c code 5 2 l scaled.next set.next (Leads-then c code 4 1 l passed.next scaled.next passed.leads scaled.leads) set.leads) summed.leads;
@@ -172,10 +170,10 @@ load_array_reaches c code l t d g x k facts there simulates value within =
     let few = few_words c code l t 0 frame below g facts during is_global in
     let whole = (λ (w : ℕ) (small : w < 13). (let word : IsWholeWord c f w op = record { small = small; row_is = refl } in word)) in
     let addressed = addresses c code l t op frame below x g k facts there
-        (record { e0 = refl; e1 = refl; e2 = refl; e3 = refl; e4 = refl; e5 = refl; e6 = refl; whole = λ w small. whole w (omega arith); one = one_word c f x there.formed.2; small = omega (arith, few); more = omega arith })
-        (record { whole = whole; e7 = refl; e8 = refl; e9 = refl; e10 = refl }) during value is_global within in
+    (record { e0 = refl; e1 = refl; e2 = refl; e3 = refl; e4 = refl; e5 = refl; e6 = refl; whole = λ w small. whole w (omega arith); one = one_word c f x there.formed.2; small = omega (arith, few); more = omega arith })
+    (record { whole = whole; e7 = refl; e8 = refl; e9 = refl; e10 = refl }) during value is_global within in
     let loaded = load_global c code addressed.next t 11 op frame below 5 5 g k (pos 0) facts there (whole 11 (omega arith)) addressed.during (fetch_at c code addressed.next f i 11 op frame below _ there addressed.during.inside refl) is_global addressed.has
-        (at_zero addressed.next (element_of c g k) addressed.value_is addressed.below_32) is_t0 in
+    (at_zero addressed.next (element_of c g k) addressed.value_is addressed.below_32) is_t0 in
     let stored = store_scalar c code loaded.next t 12 op frame below 5 d (word_at t.globals g k) facts there (whole 12 (omega arith)) loaded.during (fetch_at c code loaded.next f i 12 op frame below _ there loaded.during.inside refl) (one_word c f d there.formed.0) loaded.value_is refl in
     Reaches-after c code 9 l loaded.next (flat_set t d (word_at t.globals g k)) (Leads-then c code 8 1 l addressed.next loaded.next addressed.leads loaded.leads) stored
 
@@ -192,12 +190,12 @@ store_array_reaches c code l t g x y k v facts there simulates index value withi
     let few = few_words c code l t 0 frame below g facts during is_global in
     let whole = (λ (w : ℕ) (small : w < 13). (let word : IsWholeWord c f w op = record { small = small; row_is = refl } in word)) in
     let addressed = addresses c code l t op frame below x g k facts there
-        (record { e0 = refl; e1 = refl; e2 = refl; e3 = refl; e4 = refl; e5 = refl; e6 = refl; whole = λ w small. whole w (omega arith); one = one_word c f x there.formed.1; small = omega (arith, few); more = omega arith })
-        (record { whole = whole; e7 = refl; e8 = refl; e9 = refl; e10 = refl }) during index is_global within in
+    (record { e0 = refl; e1 = refl; e2 = refl; e3 = refl; e4 = refl; e5 = refl; e6 = refl; whole = λ w small. whole w (omega arith); one = one_word c f x there.formed.1; small = omega (arith, few); more = omega arith })
+    (record { whole = whole; e7 = refl; e8 = refl; e9 = refl; e10 = refl }) during index is_global within in
     let loaded = load_scalar c code addressed.next t 11 op frame below 6 y v facts there (whole 11 (omega arith)) addressed.during (fetch_at c code addressed.next f i 11 op frame below _ there addressed.during.inside refl) (one_word c f y there.formed.2) value is_t1 in
     let has = HasGlobal-at c.flat t.globals loaded.next.areas.globals g k loaded.during.globals is_global within in
     let stored = store_global c code loaded.next t 12 op frame below 5 6 g k v (pos 0) facts there (whole 12 (omega arith)) loaded.during (fetch_at c code loaded.next f i 12 op frame below _ there loaded.during.inside refl) is_global has
-        (at_zero loaded.next (element_of c g k) (loaded.others 5 (λ e. absurd (omega arith)) ∙ addressed.value_is) addressed.below_32) loaded.value_is in
+    (at_zero loaded.next (element_of c g k) (loaded.others 5 (λ e. absurd (omega arith)) ∙ addressed.value_is) addressed.below_32) loaded.value_is in
     record {
       steps = 9;
       after = stored.next;

@@ -1,27 +1,24 @@
 -- Words of globals, loaded and stored by a thread within an operation.
-use Rattle.std.proofs.Common.{◌≡◌, ℕ, ◌+◌, ◌-◌, ◌*◌, ◌/◌, ◌%◌, ◌^◌, ◌<◌, ◌≤◌, List, [], ◌∷◌, length, get_or, set, ℤ, pos, Option, Some, None, Ok, refl, sym, ap, subst, ◌∙◌, arith, inl, inr}
+use Rattle.std.proofs.Common.{◌≡◌, ℕ, ◌+◌, ◌-◌, ◌*◌, ◌/◌, ◌^◌, ◌<◌, List, ◌∷◌, length, get_or, set, ℤ, Some, Ok, ap, subst, ◌∙◌, arith, inl, inr}
 use Rattle.cap_word.specs.Word as word
 use Rattle.cap_word.specs.Word.{word_of}
-use Rattle.cap_word.specs.Rows.{width, word_at, with_word}
+use Rattle.cap_word.specs.Rows.{word_at, with_word}
 use Rattle.cap_word.specs.Runs.{Goes}
 use Rattle.rv_code.specs.declared.instructions.Instr.{Instr}
 use Rattle.rv_machine.specs.Access.{accessed}
 use Rattle.rv_machine.specs.Bytes as bytes
-use Rattle.rv_machine.specs.Effect.{effect}
 use Rattle.rv_machine.specs.Registers.{read}
 use Rattle.rv_machine.specs.Step.{instruction_at}
 use Rattle.rv_machine.proofs.WordLaws.{read-below}
 use Rattle.flat_code.specs.declared.operations.Op.{Op}
 use Rattle.flat_code.specs.Frames.{FlatThread}
-use Rattle.stack_certificate.specs.Certificates.{global_address, global_words}
+use Rattle.stack_certificate.specs.Certificates.{global_address}
 use Rattle.machine_world.specs.Areas.{Areas, globals_place, with_byte}
-use Rattle.machine_world.specs.Globals.{AreGlobals}
 use Rattle.machine_world.specs.InPlace.{Frame, IsGoodAccess}
-use Rattle.machine_world.specs.Local.{Local, machine_of, local_move, local_step}
+use Rattle.machine_world.specs.Local.{Local, machine_of, local_step}
 use Rattle.machine_world.specs.Places.{Checked}
 use Rattle.segment_laws.proofs.Facts.{CodeFacts, IsOperationAt, Fit-areas}
-use Rattle.segment_laws.proofs.Immediate.{words_of, fetch_at}
-use Rattle.segment_laws.proofs.Inside.{Inside, IsWholeWord, IsGoodState-inside, pc_next, IsValueRegister, set_register}
+use Rattle.segment_laws.proofs.Inside.{IsWholeWord, IsGoodState-inside, pc_next, IsValueRegister, set_register}
 use Rattle.segment_laws.proofs.Registers.{step-is, with_areas, effect-lw, move-sw}
 use Rattle.segment_laws.proofs.Rows.{HasGlobal, AreGlobals-set}
 use Rattle.segment_laws.proofs.Simulation.{During, Sets, Sets-register}
@@ -58,7 +55,7 @@ pub load_global : (c : Checked) (code : List ℕ) (l : Local) (t : FlatThread) (
 load_global c code l t w op frame below rd rs1 g k imm facts there whole during fetch is_global has address register =
     let at = GlobalWord-at c l.areas t.globals g k has in
     let value = loaded-global l.areas (element_of c g k) (Fit-areas c code l.areas facts during.inside.form.areas) at
-        ∙ ap (λ (n : ℕ). Some (get_or l.areas.globals n 0)) (number-is c l.areas t.globals g k has) ∙ ap Some has.value in
+    ∙ ap (λ (n : ℕ). Some (get_or l.areas.globals n 0)) (number-is c l.areas t.globals g k has) ∙ ap Some has.value in
     Sets-register c code l t w frame below rd (word_at t.globals g k) during
     (set_register c code l t.frame.function t.frame.next w op frame below (Instr.Lw rd rs1 imm) rd (word_at t.globals g k) there whole during.inside fetch
     (effect-lw l rd rs1 (element_of c g k) (word_at t.globals g k) imm address at.aligned value)
@@ -81,12 +78,12 @@ store_global c code l t w op frame below rs1 rs2 g k value imm facts there whole
     let value_below : value < 2 ^ 32 = subst (λ (n : ℕ). n < 2 ^ 32) value_is (read-below l.core.x rs2 is.form.core.registers) in
     let after : Areas = record l.areas { globals = set l.areas.globals has.number value } in
     let written : bytes.with_word with_byte l.areas (element_of c g k) (read l.core.x rs2) ≡ after =
-        ap (bytes.with_word with_byte l.areas (element_of c g k)) value_is ∙ stored-global l.areas (element_of c g k) value fit at value_below
-        ∙ ap (λ (n : ℕ). record l.areas { globals = set l.areas.globals n value }) (number-is c l.areas t.globals g k has) in
+    ap (bytes.with_word with_byte l.areas (element_of c g k)) value_is ∙ stored-global l.areas (element_of c g k) value fit at value_below
+    ∙ ap (λ (n : ℕ). record l.areas { globals = set l.areas.globals n value }) (number-is c l.areas t.globals g k has) in
     let next : Local = with_areas l after in
     let step : local_step code l ≡ Goes next =
-        step-is code l (Instr.Sw rs1 rs2 imm) fetch ∙ move-sw l rs1 rs2 (element_of c g k) imm address at.aligned (writable-global l.areas (element_of c g k) at)
-        ∙ ap (λ (a : Areas). Goes (with_areas l a)) written in
+    step-is code l (Instr.Sw rs1 rs2 imm) fetch ∙ move-sw l rs1 rs2 (element_of c g k) imm address at.aligned (writable-global l.areas (element_of c g k) at)
+    ∙ ap (λ (a : Areas). Goes (with_areas l a)) written in
     record {
       next = next;
       leads = Leads-one c code l next (IsGoodState-inside c code l t.frame.function t.frame.next w op frame below (Instr.Sw rs1 rs2 imm) there whole is fetch (global_sw c l (frame ∷ below) t.globals rs1 rs2 g k imm is_global has address)) step;

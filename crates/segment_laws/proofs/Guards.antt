@@ -1,11 +1,9 @@
 -- The guard of an index: in range it goes on behind the guard with the index in t0, and else it traps.
-use Rattle.std.proofs.Common.{◌≡◌, ℕ, zero, suc, ◌+◌, ◌-◌, ◌*◌, ◌%◌, ◌^◌, ◌<◌, ◌≤◌, List, [], ◌∷◌, length, get_or, ℤ, pos, Bool, true, false, Option, Some, None, Ok, refl, sym, ap, subst, ◌∙◌, arith}
+use Rattle.std.proofs.Common.{◌≡◌, ℕ, ◌+◌, ◌^◌, ◌<◌, ◌≤◌, List, ◌∷◌, get_or, pos, true, false, Some, None, refl, sym, ap, subst, ◌∙◌, arith}
 use Rattle.std.specs.Prelude.{slice_get, nat_lt}
 use Rattle.std.proofs.lemmas.Bool.{lt-ltb, le-ltb}
 use Rattle.cap_word.specs.Word as word
 use Rattle.cap_word.specs.Word.{word_of}
-use Rattle.cap_word.specs.Runs.{Goes, Stops}
-use Rattle.cap_word.specs.declared.traps.TrapKind.{TrapKind}
 use Rattle.rv_code.specs.declared.instructions.Instr.{Instr}
 use Rattle.rv_machine.specs.Access.{accessed}
 use Rattle.rv_machine.specs.Effect.{effect}
@@ -18,15 +16,14 @@ use Rattle.flat_code.specs.Frames.{FlatThread}
 use Rattle.flat_code.specs.Step.{scalar}
 use Rattle.stack_certificate.specs.Certificates.{fact_at}
 use Rattle.stack_certificate.specs.Parts.{upper_part, lower_part}
-use Rattle.stack_certificate.specs.Templates.{begin, size, kind_of}
-use Rattle.machine_world.specs.Areas.{Areas}
+use Rattle.stack_certificate.specs.Templates.{size, kind_of}
 use Rattle.machine_world.specs.InPlace.{Frame, IsGoodAccess}
-use Rattle.machine_world.specs.Local.{Local, LocalMove, Trapped, machine_of, local_move, local_step, system_call, trapped}
+use Rattle.machine_world.specs.Local.{Local, machine_of, local_move, local_step, system_call, trapped}
 use Rattle.machine_world.specs.Places.{Checked}
 use Rattle.segment_laws.proofs.Facts.{CodeFacts, IsOperationAt}
 use Rattle.segment_laws.proofs.Immediate.{words_of, fetch_at, is_t0, is_t1, is_a0, is_a7, add_immediate, load_immediate}
 use Rattle.segment_laws.proofs.Inside.{IsWholeWord, IsGoodState-inside, pc_next}
-use Rattle.segment_laws.proofs.Jumping.{goes_to, moves_within, relative-on, move-taken, move-passed}
+use Rattle.segment_laws.proofs.Jumping.{moves_within, relative-on, move-taken, move-passed}
 use Rattle.segment_laws.proofs.Registers.{step-is, add-small, word_of-small}
 use Rattle.segment_laws.proofs.Simulation.{During, IsOneWord, load_scalar}
 use Rattle.segment_laws.proofs.Ways.{IsGoodState, Leads, Leads-then, ComesTo}
@@ -97,8 +94,8 @@ guard_passes c code l t op frame below x n kind k facts there guarded during val
     let aligned = there.aligned in
     let more = guarded.more in
     let moved = moves_within c code compared.next t 3 7 op frame below (Instr.Bltu 5 6 (pos 16)) (compared.next.core.pc + 16) there (guarded.whole 3 (omega arith)) compared.during guarded.e3
-        (does_bltu compared.next 16 ∙ move-taken compared.next (pos 16) _ (compared.next.core.pc + 16) test (relative-on (machine_of compared.next) 16 (omega (arith, pc, room, more))) (omega (arith, pc, aligned)))
-        (none_bltu (machine_of compared.next) 16) (omega (arith, pc)) in
+    (does_bltu compared.next 16 ∙ move-taken compared.next (pos 16) _ (compared.next.core.pc + 16) test (relative-on (machine_of compared.next) 16 (omega (arith, pc, room, more))) (omega (arith, pc, aligned)))
+    (none_bltu (machine_of compared.next) 16) (omega (arith, pc)) in
     record {
       next = moved.next;
       leads = Leads-then c code 3 1 l compared.next moved.next compared.leads moved.leads;
@@ -120,9 +117,10 @@ none_ecall m = refl
 pub ecall_is : (c : Checked) (code : List ℕ) (l : Local) (t : FlatThread) (w n : ℕ) (op : Op) (frame : Frame) (below : List Frame) → IsOperationAt c code t.frame.function t.frame.next op → IsWholeWord c t.frame.function w op → During c l t w frame below →
     slice_get (words_of c t.frame.function t.frame.next op) w ≡ Some Instr.Ecall → read l.core.x 17 ≡ n → (local_step code l ≡ system_call l n) × IsGoodState c code l
 ecall_is c code l t w n op frame below there whole during e number =
-    let fetch = fetch_at c code l t.frame.function t.frame.next w op frame below Instr.Ecall there during.inside e in
-    (step-is code l Instr.Ecall fetch ∙ does_ecall l ∙ ap (system_call l) number,
-     IsGoodState-inside c code l t.frame.function t.frame.next w op frame below Instr.Ecall there whole during.inside fetch (subst (IsGoodAccess c (frame ∷ below)) (sym (none_ecall (machine_of l))) tt))
+    let fetch = fetch_at c code l t.frame.function t.frame.next w op frame below Instr.Ecall there during.inside e in (
+      step-is code l Instr.Ecall fetch ∙ does_ecall l ∙ ap (system_call l) number,
+      IsGoodState-inside c code l t.frame.function t.frame.next w op frame below Instr.Ecall there whole during.inside fetch (subst (IsGoodAccess c (frame ∷ below)) (sym (none_ecall (machine_of l))) tt),
+    )
 
 pub guard_traps : (c : Checked) (code : List ℕ) (l : Local) (t : FlatThread) (op : Op) (frame : Frame) (below : List Frame) (x n kind k : ℕ) → CodeFacts c code → IsOperationAt c code t.frame.function t.frame.next op → IsGuarded c t.frame.function t.frame.next op x n kind → During c l t 0 frame below → scalar t x ≡ Some k → n ≤ k → kind < 2048 →
     ComesTo c code 6 l (trapped kind)
@@ -133,12 +131,12 @@ guard_traps c code l t op frame below x n kind k facts there guarded during valu
     let test : nat_lt (read compared.next.core.x 5) (read compared.next.core.x 6) ≡ false = (λ i. nat_lt (compared.index i) (compared.count i)) ∙ le-ltb k n past in
     let w3 = guarded.whole 3 (omega arith) in
     let moved = moves_within c code compared.next t 3 4 op frame below (Instr.Bltu 5 6 (pos 16)) (word.add compared.next.core.pc 4) there w3 compared.during guarded.e3
-        (does_bltu compared.next 16 ∙ move-passed compared.next (pos 16) _ test) (none_bltu (machine_of compared.next) 16)
-        (pc_next c code compared.next f i 3 op there w3.small compared.during.inside.pc) in
+    (does_bltu compared.next 16 ∙ move-passed compared.next (pos 16) _ test) (none_bltu (machine_of compared.next) 16)
+    (pc_next c code compared.next f i 3 op there w3.small compared.during.inside.pc) in
     let kind_put = add_immediate c code moved.next t 4 op frame below 10 0 kind (pos kind) there (guarded.whole 4 (omega arith)) moved.during guarded.e4 is_a0
-        (ap (word.add 0) (word_of-small kind (omega arith)) ∙ add-small 0 kind (omega arith) ∙ (let e : 0 + kind ≡ kind = omega arith in e)) in
+    (ap (word.add 0) (word_of-small kind (omega arith)) ∙ add-small 0 kind (omega arith) ∙ (let e : 0 + kind ≡ kind = omega arith in e)) in
     let number_put = add_immediate c code kind_put.next t 5 op frame below 17 0 31 (pos 31) there (guarded.whole 5 (omega arith)) kind_put.during guarded.e5 is_a7
-        (ap (word.add 0) (word_of-small 31 (omega arith)) ∙ add-small 0 31 (omega arith)) in
+    (ap (word.add 0) (word_of-small 31 (omega arith)) ∙ add-small 0 31 (omega arith)) in
     let at = ecall_is c code number_put.next t 6 31 op frame below there (guarded.whole 6 (omega arith)) number_put.during guarded.e6 number_put.value_is in
     let kind_is : read number_put.next.core.x 10 ≡ kind = number_put.others 10 (λ e. absurd (omega arith)) ∙ kind_put.value_is in
     record {

@@ -1,5 +1,5 @@
 -- A value that is put into a register by one or two instructions, and the instructions of an operation by their number.
-use Rattle.std.proofs.Common.{◌≡◌, ℕ, ◌+◌, ◌*◌, ◌^◌, ◌<◌, List, [], ◌∷◌, length, ℤ, pos, Option, Some, None, Ok, refl, sym, ap, subst, ◌∙◌, arith}
+use Rattle.std.proofs.Common.{◌≡◌, ℕ, ◌+◌, ◌^◌, ◌<◌, List, ℤ, pos, Some, None, Ok, refl, ap, subst, ◌∙◌, arith}
 use Rattle.std.specs.Prelude.{slice_get}
 use Rattle.cap_word.specs.Word as word
 use Rattle.cap_word.specs.Word.{word_of}
@@ -16,11 +16,10 @@ use Rattle.flat_code.specs.Frames.{FlatThread}
 use Rattle.stack_certificate.specs.Certificates.{fact_at}
 use Rattle.stack_certificate.specs.Parts.{upper_part, lower_part}
 use Rattle.stack_certificate.specs.Templates.{begin, row, setting}
-use Rattle.machine_world.specs.Areas.{Areas}
 use Rattle.machine_world.specs.InPlace.{Frame}
 use Rattle.machine_world.specs.Local.{Local, machine_of}
 use Rattle.machine_world.specs.Places.{Checked}
-use Rattle.segment_laws.proofs.Facts.{CodeFacts, IsOperationAt}
+use Rattle.segment_laws.proofs.Facts.{IsOperationAt}
 use Rattle.segment_laws.proofs.Inside.{Inside, IsWholeWord, IsValueRegister}
 use Rattle.segment_laws.proofs.Numbers.{li_value}
 use Rattle.segment_laws.proofs.Simulation.{During, Sets, set_value}
@@ -110,8 +109,8 @@ pub load_immediate : (c : Checked) (code : List ℕ) (l : Local) (t : FlatThread
     SetsBy c code l t w 2 frame below rd v
 load_immediate c code l t w op frame below rd v there first second during e1 e2 register below_32 =
     let one = set_value c code l t w op frame below (Instr.Lui rd (pos (upper_part v))) rd (upper (pos (upper_part v))) there first during
-        (fetch_at c code l t.frame.function t.frame.next w op frame below (Instr.Lui rd (pos (upper_part v))) there during.inside e1)
-        (does_lui (machine_of l) rd (pos (upper_part v))) (none_lui (machine_of l) rd (pos (upper_part v))) register in
+    (fetch_at c code l t.frame.function t.frame.next w op frame below (Instr.Lui rd (pos (upper_part v))) there during.inside e1)
+    (does_lui (machine_of l) rd (pos (upper_part v))) (none_lui (machine_of l) rd (pos (upper_part v))) register in
     SetsBy-two c code l t w frame below rd (upper (pos (upper_part v))) v one
     (add_immediate c code one.next t (w + 1) op frame below rd rd v (lower_part v) there second one.during e2 register
     (ap (λ (n : ℕ). word.add n (word_of (lower_part v))) one.value_is ∙ li_value v below_32))

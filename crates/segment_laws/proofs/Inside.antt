@@ -1,35 +1,24 @@
 -- A thread in a word of an operation, where its running frame is whole: what an instruction there needs, and what it leaves.
-use Rattle.std.proofs.Common.{◌≡◌, ℕ, ◌+◌, ◌-◌, ◌*◌, ◌/◌, ◌%◌, ◌^◌, ◌<◌, ◌≤◌, Bool, true, false, List, [], ◌∷◌, length, get_or, ℤ, pos, Option, Some, None, Ok, refl, sym, ap, subst, ◌∙◌, arith, inl}
-use Rattle.std.specs.Prelude.{nat_eq}
-use Rattle.std.proofs.lemmas.Bool.{eqb-true}
+use Rattle.std.proofs.Common.{◌≡◌, ℕ, ◌+◌, ◌*◌, ◌<◌, List, ◌∷◌, Option, Ok, refl, sym, ap, subst, ◌∙◌, arith}
 use Rattle.cap_word.specs.Word as word
 use Rattle.cap_word.specs.Word.{word_of}
 use Rattle.cap_word.specs.Runs.{Goes}
-use Rattle.chunk_pool.specs.Pool.{Pool, word_of as pool_word, with_word as with_pool_word, place_of, end_of, payload_place_of}
-use Rattle.chunk_pool.proofs.AddressLaws.{place_of-aligned, place_of-bounded}
+use Rattle.chunk_pool.specs.Pool.{payload_place_of}
 use Rattle.rv_code.specs.declared.instructions.Instr.{Instr}
-use Rattle.rv_machine.specs.Access.{Access, accessed}
-use Rattle.rv_machine.specs.Bytes.{with_word}
+use Rattle.rv_machine.specs.Access.{accessed}
 use Rattle.rv_machine.specs.Effect.{effect}
 use Rattle.rv_machine.specs.Registers.{read}
 use Rattle.rv_machine.specs.Rows.{sets}
 use Rattle.rv_machine.specs.Step.{instruction_at}
 use Rattle.flat_code.specs.declared.operations.Op.{Op}
 use Rattle.flat_code.specs.Codes.{function_at, operation_at}
-use Rattle.stack_certificate.specs.Certificates.{fact_at}
 use Rattle.stack_certificate.specs.Templates.{begin, size, kind_of}
-use Rattle.machine_world.specs.Areas.{Areas, with_byte}
-use Rattle.machine_world.specs.Held.{copies, copies_in}
-use Rattle.machine_world.specs.InPlace.{Frame, word_in, frame_bytes, return_word, IsFrame, IsStack, IsRunning, FramesAt, HeadersName, TpIsFront, HasFrames, IsGoodAccess, LiesIn}
-use Rattle.machine_world.specs.Local.{Core, Local, sp, tp, machine_of, local_move, local_step, access_at}
-use Rattle.machine_world.specs.Places.{Checked, InOperation, IsAt, Row, Whole, row_in, row_at, row_of, size_in}
-use Rattle.segment_laws.specs.Ways.{HasForm, Owns}
-use Rattle.segment_laws.proofs.Facts.{CodeFacts, FrameFacts, IsOperationAt, Fit-areas}
-use Rattle.segment_laws.proofs.Registers.{read-write_same, read-write_other, add-small, word_of-small, step-is, access-is, with_register, move-sets, with_areas, effect-lw, move-sw}
-use Rattle.segment_laws.proofs.Spots.{Fit}
-use Rattle.segment_laws.proofs.Stacks.{AreAway, IsFront, IsOnce, EndsBy, stack_away, word_of-other, IsStack-with_word, HeadersName-with_word}
+use Rattle.machine_world.specs.InPlace.{Frame, return_word, IsStack, FramesAt, TpIsFront, HasFrames, IsGoodAccess}
+use Rattle.machine_world.specs.Local.{Local, tp, machine_of, local_move, local_step}
+use Rattle.machine_world.specs.Places.{Checked, InOperation, Row, Whole, row_in, row_at, size_in}
+use Rattle.segment_laws.proofs.Facts.{IsOperationAt}
+use Rattle.segment_laws.proofs.Registers.{read-write_same, read-write_other, add-small, step-is, access-is, with_register, move-sets}
 use Rattle.segment_laws.proofs.Ways.{IsGoodState, Leads, Leads-one, HasForm-next}
-use Rattle.segment_laws.proofs.Words.{PayloadWord, word_number, loaded-payload, stored-payload, writable-payload}
 pub use Rattle.segment_laws.specs.Simulation.{IsBody, Inside}
 
 -- the word is one of the operation, and the frame is whole there
@@ -42,16 +31,17 @@ pub record IsWholeWord (c : Checked) (f w : ℕ) (op : Op) : Type 0 where
 frames_whole : (c : Checked) (l : Local) (f i w : ℕ) (frame : Frame) (below : List Frame) (rest : List ℕ) → Inside c l f i w frame below → l.core.chain ≡ frame.chunk ∷ rest →
     FramesAt c l.areas.pool l.core (InOperation f i w) Whole (frame.chunk ∷ rest) (frame ∷ below)
 frames_whole c l f i w frame below rest is chain =
-    let low = sym is.sp_is in
-    (record {
-       function = is.body.function;
-       operation = is.body.operation;
-       chunk_is = refl;
-       low_is = low;
-       bytes_are = is.body.bytes;
-       returns_are = is.body.returns ∙ ap (return_word c l.areas.pool f frame.chunk) low;
-     },
-     subst (λ (ch : List ℕ). IsStack c l.areas.pool ch frame below) chain is.stack)
+    let low = sym is.sp_is in (
+      record {
+        function = is.body.function;
+        operation = is.body.operation;
+        chunk_is = refl;
+        low_is = low;
+        bytes_are = is.body.bytes;
+        returns_are = is.body.returns ∙ ap (return_word c l.areas.pool f frame.chunk) low;
+      },
+      subst (λ (ch : List ℕ). IsStack c l.areas.pool ch frame below) chain is.stack,
+    )
 
 tp_front : (l : Local) (chunk : ℕ) (rest : List ℕ) → read l.core.x tp ≡ payload_place_of l.areas.pool chunk → l.core.chain ≡ chunk ∷ rest → TpIsFront l.areas.pool l.core l.core.chain
 tp_front l chunk rest is chain = subst (TpIsFront l.areas.pool l.core) (sym chain) is

@@ -1,5 +1,5 @@
 -- Instructions that change pc alone: within an operation, and to another one.
-use Rattle.std.proofs.Common.{◌≡◌, ℕ, zero, suc, ◌+◌, ◌-◌, ◌*◌, ◌%◌, ◌^◌, ◌<◌, ◌≤◌, List, [], ◌∷◌, length, get_or, ℤ, pos, ◌-ℤ◌, Bool, true, false, not, Option, Some, None, Ok, refl, sym, ap, subst, ◌∙◌, arith, cond, lit<}
+use Rattle.std.proofs.Common.{◌≡◌, ℕ, zero, suc, ◌+◌, ◌-◌, ◌*◌, ◌%◌, ◌^◌, ◌<◌, List, [], ◌∷◌, length, ℤ, pos, ◌-ℤ◌, Bool, true, false, not, Some, None, refl, sym, ap, subst, ◌∙◌, arith, cond}
 use Rattle.std.specs.Prelude.{slice_get, nat_eq, ◌==◌}
 use Rattle.std.proofs.lemmas.Bool.{eq-eqb, ne_eqb}
 use Rattle.cap_word.specs.Word as word
@@ -13,23 +13,21 @@ use Rattle.rv_machine.specs.Effect.{effect}
 use Rattle.rv_machine.specs.Registers.{read}
 use Rattle.rv_machine.specs.Rows as rows
 use Rattle.rv_machine.specs.Rows.{passes, branches, jumps, relative}
-use Rattle.rv_machine.specs.Step.{instruction_at}
 use Rattle.flat_code.specs.declared.operations.Op.{Op}
-use Rattle.flat_code.specs.Codes.{function_at, operation_at}
-use Rattle.flat_code.specs.Frames.{FlatThread, at, passed}
+use Rattle.flat_code.specs.Codes.{function_at}
+use Rattle.flat_code.specs.Frames.{FlatThread}
 use Rattle.flat_code.specs.Step.{scalar}
-use Rattle.stack_certificate.specs.Certificates.{fact_at}
-use Rattle.stack_certificate.specs.Templates.{begin, size, kind_of}
+use Rattle.stack_certificate.specs.Templates.{begin}
 use Rattle.machine_world.specs.InPlace.{Frame, IsGoodAccess}
 use Rattle.machine_world.specs.Local.{Local, machine_of, local_move, local_step}
 use Rattle.machine_world.specs.Places.{Checked}
 use Rattle.segment_laws.proofs.Facts.{CodeFacts, IsOperationAt}
-use Rattle.segment_laws.proofs.Finish.{frame_at, flat_at, Inside-at, Simulates-at, Reaches-after}
+use Rattle.segment_laws.proofs.Finish.{frame_at, flat_at, Reaches-after}
 use Rattle.segment_laws.proofs.Immediate.{words_of, fetch_at, is_t0}
-use Rattle.segment_laws.proofs.Inside.{Inside, IsWholeWord, IsGoodState-inside, pc_next}
+use Rattle.segment_laws.proofs.Inside.{IsWholeWord, IsGoodState-inside, pc_next}
 use Rattle.segment_laws.proofs.Numbers.{word_of-difference}
 use Rattle.segment_laws.proofs.Registers.{step-is, add-small, word_of-small}
-use Rattle.segment_laws.proofs.Simulation.{During, Simulates, Reaches, Sets, load_scalar}
+use Rattle.segment_laws.proofs.Simulation.{During, Simulates, Reaches, load_scalar}
 use Rattle.segment_laws.proofs.Stacks.{IsStack-operation}
 use Rattle.segment_laws.proofs.Straight.{one_word}
 use Rattle.segment_laws.proofs.Ways.{Leads, Leads-one, Leads-then, HasForm-next}
@@ -44,9 +42,11 @@ pub Leads-goes : (c : Checked) (code : List ℕ) (l : Local) (t : FlatThread) (w
     (local_step code l ≡ Goes (goes_to l target)) × Leads c code 1 l (goes_to l target)
 Leads-goes c code l t w op frame below instr target there whole during e does none =
     let fetch = fetch_at c code l t.frame.function t.frame.next w op frame below instr there during.inside e in
-    let step : local_step code l ≡ Goes (goes_to l target) = step-is code l instr fetch ∙ does in
-    (step, Leads-one c code l (goes_to l target)
-    (IsGoodState-inside c code l t.frame.function t.frame.next w op frame below instr there whole during.inside fetch (subst (IsGoodAccess c (frame ∷ below)) (sym none) tt)) step)
+    let step : local_step code l ≡ Goes (goes_to l target) = step-is code l instr fetch ∙ does in (
+      step,
+      Leads-one c code l (goes_to l target)
+          (IsGoodState-inside c code l t.frame.function t.frame.next w op frame below instr there whole during.inside fetch (subst (IsGoodAccess c (frame ∷ below)) (sym none) tt)) step,
+    )
 
 -- a step within the operation
 pub record Moved (c : Checked) (code : List ℕ) (l : Local) (t : FlatThread) (w' : ℕ) (frame : Frame) (below : List Frame) : Type 0 where
@@ -208,8 +208,8 @@ jump_zero_reaches c code l t x to facts there simulates value =
     let first = load_scalar c code l t 0 op frame below 5 x 0 facts there w0 simulates.during (fetch_at c code l f i 0 op frame below _ there simulates.during.inside refl) (one_word c f x there.formed.0) value is_t0 in
     let test : not (nat_eq (read first.next.core.x 5) 0) ≡ false = ap (λ (n : ℕ). not (nat_eq n 0)) first.value_is in
     let second = moves_within c code first.next t 1 2 op frame below (Instr.Bne 5 0 (pos 8)) (word.add first.next.core.pc 4) there w1 first.during refl
-        (does_bne first.next 8 ∙ move-passed first.next (pos 8) (not (nat_eq (read first.next.core.x 5) 0)) test) (none_bne (machine_of first.next) 8)
-        (pc_next c code first.next f i 1 op there w1.small first.during.inside.pc) in
+    (does_bne first.next 8 ∙ move-passed first.next (pos 8) (not (nat_eq (read first.next.core.x 5) 0)) test) (none_bne (machine_of first.next) 8)
+    (pc_next c code first.next f i 1 op there w1.small first.during.inside.pc) in
     let pc : second.next.core.pc ≡ here + 8 = (let is = second.during.inside.pc in let e : second.next.core.pc ≡ here + 8 = omega (arith, is) in e) in
     Reaches-after c code 2 l second.next (flat_at t to) (Leads-then c code 1 1 l first.next second.next first.leads second.leads)
     (jumps_to c code second.next t 2 to op frame below (Instr.Jal 0 (pos (begin c.flat c.certificate f to) -ℤ pos (here + 8))) (begin c.flat c.certificate f to) there w2 second.during refl

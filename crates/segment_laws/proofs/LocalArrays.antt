@@ -1,10 +1,10 @@
 -- Elements of a variable, by an index behind its guard.
-use Rattle.std.proofs.Common.{◌≡◌, ℕ, zero, suc, ◌+◌, ◌-◌, ◌*◌, ◌%◌, ◌^◌, ◌<◌, ◌≤◌, List, [], ◌∷◌, length, get_or, set, ℤ, pos, Bool, true, false, Option, Some, None, Ok, refl, sym, ap, subst, ◌∙◌, arith, get_or-set_same, get_or-set_other}
+use Rattle.std.proofs.Common.{◌≡◌, ℕ, ◌+◌, ◌*◌, ◌%◌, ◌^◌, ◌<◌, ◌≤◌, List, length, get_or, set, pos, Some, None, refl, sym, ap, subst, ◌∙◌, arith, get_or-set_same, get_or-set_other}
 use Rattle.std.specs.Prelude.{slice_get}
 use Rattle.std.proofs.lemmas.List.{length-set}
 use Rattle.cap_word.specs.Word as word
 use Rattle.cap_word.specs.Word.{word_of}
-use Rattle.cap_word.specs.Runs.{Goes, Stops}
+use Rattle.cap_word.specs.Runs.{Stops}
 use Rattle.cap_word.specs.declared.traps.TrapKind.{TrapKind}
 use Rattle.rv_code.specs.declared.instructions.Instr.{Instr}
 use Rattle.rv_machine.specs.Access.{accessed}
@@ -17,20 +17,20 @@ use Rattle.flat_code.specs.Codes.{function_at}
 use Rattle.flat_code.specs.Frames.{FlatThread, variable, passed, set_to}
 use Rattle.flat_code.specs.Step.{scalar}
 use Rattle.stack_certificate.specs.Certificates.{fact_at}
-use Rattle.machine_world.specs.InPlace.{Frame, word_in, frame_bytes}
+use Rattle.machine_world.specs.InPlace.{Frame, word_in}
 use Rattle.machine_world.specs.Local.{Local, Trapped, machine_of}
 use Rattle.machine_world.specs.Places.{Checked}
 use Rattle.machine_world.specs.Rests.{variable_word}
-use Rattle.segment_laws.proofs.Facts.{CodeFacts, FrameFacts, IsOperationAt}
+use Rattle.segment_laws.proofs.Facts.{CodeFacts, IsOperationAt}
 use Rattle.segment_laws.proofs.Finish.{store_scalar, store_variable, Simulates-at, behind_last, Reaches-after}
-use Rattle.segment_laws.proofs.FrameWords.{InFrame, InFrame-inside, frame_bounded, load_at, stack_frame}
-use Rattle.segment_laws.proofs.Guards.{IsGuarded, Guarded, guard_passes, guard_traps}
+use Rattle.segment_laws.proofs.FrameWords.{InFrame-inside, frame_bounded, load_at}
+use Rattle.segment_laws.proofs.Guards.{IsGuarded, guard_passes, guard_traps}
 use Rattle.segment_laws.proofs.Immediate.{words_of, fetch_at, is_t0, is_t1}
 use Rattle.segment_laws.proofs.Inside.{IsWholeWord, IsSet}
 use Rattle.segment_laws.proofs.Registers.{add-small, word_of-small}
-use Rattle.segment_laws.proofs.Simulation.{During, Simulates, Reaches, Sets, Sets-register, set_value, IsOneWord, IsWordPlace, IsWordPlace-variable, load_scalar}
+use Rattle.segment_laws.proofs.Simulation.{During, Simulates, Reaches, Sets, Sets-register, set_value, IsWordPlace-variable, load_scalar}
 use Rattle.segment_laws.proofs.Straight.{one_word, flat_set}
-use Rattle.segment_laws.proofs.Variables.{offset_of, HasWord}
+use Rattle.segment_laws.proofs.Variables.{HasWord}
 use Rattle.segment_laws.proofs.Ways.{Leads, Leads-then, ComesTo}
 
 does_slli : (m : rows.Machine) (k : ℕ) → read m.x 5 ≡ k → 4 * k < 2 ^ 32 → effect (Instr.Slli 5 5 (pos 2)) m ≡ sets m 5 (4 * k)
@@ -85,7 +85,7 @@ addresses c code l t op frame below x n k facts there guarded during value withi
     let high = frame_bounded c l t.frame.function t.frame.next 0 frame below during.inside in
     let bounded : frame.low + 4 * k < 2 ^ 32 = omega (arith, high, few, within) in
     let summed = adds c code scaled.next t 8 op frame below 2 (4 * k) frame.low (frame.low + 4 * k) there w8 scaled.during e8 scaled.value_is scaled.during.inside.sp_is
-        (add-small (4 * k) frame.low (omega arith) ∙ (let e : 4 * k + frame.low ≡ frame.low + 4 * k = omega arith in e)) in
+    (add-small (4 * k) frame.low (omega arith) ∙ (let e : 4 * k + frame.low ≡ frame.low + 4 * k = omega arith in e)) in
     record {
       next = summed.next;
       leads = Leads-then c code 5 1 l scaled.next summed.next (Leads-then c code 4 1 l passed.next scaled.next passed.leads scaled.leads) summed.leads;
@@ -123,7 +123,13 @@ load_local_reaches c code l t d a x k row facts there simulates value set within
     let inside_n : k < n = omega (arith, within, count) in
     let whole = (λ (w : ℕ) (small : w < 11). (let word : IsWholeWord c f w op = record { small = small; row_is = refl } in word)) in
     let guarded : IsGuarded c f i op x n 1 = record {
-      e0 = refl; e1 = refl; e2 = refl; e3 = refl; e4 = refl; e5 = refl; e6 = refl;
+      e0 = refl;
+      e1 = refl;
+      e2 = refl;
+      e3 = refl;
+      e4 = refl;
+      e5 = refl;
+      e6 = refl;
       whole = λ w small. whole w (omega arith);
       one = one_word c f x there.formed.2;
       small = omega arith;
@@ -139,12 +145,12 @@ load_local_reaches c code l t d a x k row facts there simulates value set within
     let held : variable_word c addressed.next.areas.pool frame a k ≡ get_or row k 0 = addressed.during.variables a row set k within in
     let function : frame.function ≡ f = during.inside.body.function in
     let here : word_in addressed.next.areas.pool frame.chunk (frame.low + (place + 4 * k)) ≡ get_or row k 0 =
-        (let e : frame.low + (place + 4 * k) ≡ frame.low + place + 4 * k = omega arith in ap (word_in addressed.next.areas.pool frame.chunk) e)
-        ∙ ap (λ (g : ℕ). word_in addressed.next.areas.pool frame.chunk (frame.low + get_or (fact_at c.certificate g).places a 0 + 4 * k)) (sym function) ∙ held in
+    (let e : frame.low + (place + 4 * k) ≡ frame.low + place + 4 * k = omega arith in ap (word_in addressed.next.areas.pool frame.chunk) e)
+    ∙ ap (λ (g : ℕ). word_in addressed.next.areas.pool frame.chunk (frame.low + get_or (fact_at c.certificate g).places a 0 + 4 * k)) (sym function) ∙ held in
     let loaded = Sets-register c code addressed.next t 9 frame below 5 (get_or row k 0) addressed.during
-        (subst (IsSet c code addressed.next f i 9 frame below 5) here
-        (load_at c code addressed.next f i 9 op frame below 5 5 (place + 4 * k) (pos place) facts there (whole 9 (omega arith)) addressed.during.inside
-        (fetch_at c code addressed.next f i 9 op frame below _ there addressed.during.inside refl) in_frame address is_t0)) in
+    (subst (IsSet c code addressed.next f i 9 frame below 5) here
+    (load_at c code addressed.next f i 9 op frame below 5 5 (place + 4 * k) (pos place) facts there (whole 9 (omega arith)) addressed.during.inside
+    (fetch_at c code addressed.next f i 9 op frame below _ there addressed.during.inside refl) in_frame address is_t0)) in
     let stored = store_scalar c code loaded.next t 10 op frame below 5 d (get_or row k 0) facts there (whole 10 (omega arith)) loaded.during (fetch_at c code loaded.next f i 10 op frame below _ there loaded.during.inside refl) (one_word c f d there.formed.0) loaded.value_is refl in
     Reaches-after c code 7 l loaded.next (flat_set t d (get_or row k 0)) (Leads-then c code 6 1 l addressed.next loaded.next addressed.leads loaded.leads) stored
 
@@ -164,7 +170,13 @@ store_local_reaches c code l t a x y k v row facts there simulates index value s
     let inside_n : k < n = omega (arith, within, count) in
     let whole = (λ (w : ℕ) (small : w < 11). (let word : IsWholeWord c f w op = record { small = small; row_is = refl } in word)) in
     let guarded : IsGuarded c f i op x n 1 = record {
-      e0 = refl; e1 = refl; e2 = refl; e3 = refl; e4 = refl; e5 = refl; e6 = refl;
+      e0 = refl;
+      e1 = refl;
+      e2 = refl;
+      e3 = refl;
+      e4 = refl;
+      e5 = refl;
+      e6 = refl;
       whole = λ w small. whole w (omega arith);
       one = one_word c f x there.formed.1;
       small = omega arith;
@@ -182,10 +194,10 @@ store_local_reaches c code l t a x y k v row facts there simulates index value s
     let address = element_address loaded.next frame.low place k (loaded.others 5 (λ e. absurd (omega arith)) ∙ addressed.value_is) (omega (arith, high, fits, bytes)) (omega (arith, high, fits, bytes)) in
     let new = set row k v in
     let stored = store_variable c code loaded.next t 10 op frame below 5 6 a k v (pos place) new facts there (whole 10 (omega arith)) loaded.during (fetch_at c code loaded.next f i 10 op frame below _ there loaded.during.inside refl) has
-        (address ∙ ap (λ (g : ℕ). frame.low + (get_or (fact_at c.certificate g).places a 0 + 4 * k)) (sym function)) loaded.value_is
-        (length-set row k v ∙ count ∙ ap (λ (g : ℕ). get_or (function_at c.flat g).sizes a 0) (sym function))
-        (get_or-set_same row k v 0 within)
-        (λ j small apart. get_or-set_other row k j v 0 apart ∙ sym (loaded.during.variables a row set_row j (omega (arith, small, length-set row k v)))) in
+    (address ∙ ap (λ (g : ℕ). frame.low + (get_or (fact_at c.certificate g).places a 0 + 4 * k)) (sym function)) loaded.value_is
+    (length-set row k v ∙ count ∙ ap (λ (g : ℕ). get_or (function_at c.flat g).sizes a 0) (sym function))
+    (get_or-set_same row k v 0 within)
+    (λ j small apart. get_or-set_other row k j v 0 apart ∙ sym (loaded.during.variables a row set_row j (omega (arith, small, length-set row k v)))) in
     record {
       steps = 7;
       after = stored.next;
@@ -205,7 +217,13 @@ load_local_traps c code l t d a x k row facts there simulates value set past =
     let few : 4 * n ≤ 2032 = few_words c code f a facts there.function there.formed.1 in
     guard_traps c code l t op simulates.frame simulates.below x n 1 k facts there
     (record {
-      e0 = refl; e1 = refl; e2 = refl; e3 = refl; e4 = refl; e5 = refl; e6 = refl;
+      e0 = refl;
+      e1 = refl;
+      e2 = refl;
+      e3 = refl;
+      e4 = refl;
+      e5 = refl;
+      e6 = refl;
       whole = λ w small. record { small = omega arith; row_is = refl };
       one = one_word c f x there.formed.2;
       small = omega arith;
@@ -222,7 +240,13 @@ store_local_traps c code l t a x y k row facts there simulates value set past =
     let few : 4 * n ≤ 2032 = few_words c code f a facts there.function there.formed.0 in
     guard_traps c code l t op simulates.frame simulates.below x n 1 k facts there
     (record {
-      e0 = refl; e1 = refl; e2 = refl; e3 = refl; e4 = refl; e5 = refl; e6 = refl;
+      e0 = refl;
+      e1 = refl;
+      e2 = refl;
+      e3 = refl;
+      e4 = refl;
+      e5 = refl;
+      e6 = refl;
       whole = λ w small. record { small = omega arith; row_is = refl };
       one = one_word c f x there.formed.1;
       small = omega arith;

@@ -1,13 +1,13 @@
 -- The modelled calls by their numbers: what an ECALL asks where the argument registers hold a call's arguments.
-use Rattle.std.proofs.Common.{◌≡◌, ℕ, zero, suc, ◌+◌, ◌<◌, ◌≤◌, List, [], ◌∷◌, length, get_or, Option, Some, None, refl, sym, ap, subst, ◌∙◌, arith, ⊎_elim, inl, inr, ◌⊎◌}
+use Rattle.std.proofs.Common.{◌≡◌, ℕ, ◌+◌, ◌<◌, ◌≤◌, List, [], ◌∷◌, length, get_or, Some, None, sym, ap, ◌∙◌, arith, ⊎_elim, inl, inr, ◌⊎◌}
 use Rattle.std.specs.Prelude.{nat_eq}
 use Rattle.std.proofs.lemmas.Bool.{cases_eq, cond-false, ne_eqb}
 use Rattle.cap_word.specs.Calls.{Call, Blocking, Immediate, call_of, call_of_none, call_of_one, call_of_two}
 use Rattle.cap_word.specs.declared.calls.Ask.{Ask}
 use Rattle.cap_word.specs.declared.calls.Block.{Block}
-use Rattle.cap_word.specs.Runs.{Move, Asks}
+use Rattle.cap_word.specs.Runs.{Asks}
 use Rattle.rv_machine.specs.Registers.{read}
-use Rattle.machine_world.specs.Local.{Local, LocalMove, Calls, system_call}
+use Rattle.machine_world.specs.Local.{Local, Calls, system_call}
 
 -- the numbers of calls without an argument, with one, with two
 known_none : (n : ℕ) (call : Call) → call_of_none n ≡ Some call → (n ≡ 6) ⊎ ((n ≡ 16) ⊎ (n ≡ 19))
@@ -16,7 +16,7 @@ known_none n call e = ⊎_elim inl
     (λ (not16 : n ≡ 16 → ⊥). ⊎_elim (λ (is : n ≡ 19). inr (inr is))
     (λ (not19 : n ≡ 19 → ⊥).
     absurd (let none : call_of_none n ≡ None =
-        cond-false (nat_eq n 6) _ _ (ne_eqb n 6 not6) ∙ cond-false (nat_eq n 16) _ _ (ne_eqb n 16 not16) ∙ cond-false (nat_eq n 19) _ _ (ne_eqb n 19 not19) in cc))
+    cond-false (nat_eq n 6) _ _ (ne_eqb n 6 not6) ∙ cond-false (nat_eq n 16) _ _ (ne_eqb n 16 not16) ∙ cond-false (nat_eq n 19) _ _ (ne_eqb n 19 not19) in cc))
     (cases_eq n 19)) (cases_eq n 16)) (cases_eq n 6)
 
 known_one : (n a : ℕ) (call : Call) → call_of_one n a ≡ Some call → (n ≡ 3) ⊎ ((n ≡ 17) ⊎ (n ≡ 18))
@@ -25,7 +25,7 @@ known_one n a call e = ⊎_elim inl
     (λ (not17 : n ≡ 17 → ⊥). ⊎_elim (λ (is : n ≡ 18). inr (inr is))
     (λ (not18 : n ≡ 18 → ⊥).
     absurd (let none : call_of_one n a ≡ None =
-        cond-false (nat_eq n 3) _ _ (ne_eqb n 3 not3) ∙ cond-false (nat_eq n 17) _ _ (ne_eqb n 17 not17) ∙ cond-false (nat_eq n 18) _ _ (ne_eqb n 18 not18) in cc))
+    cond-false (nat_eq n 3) _ _ (ne_eqb n 3 not3) ∙ cond-false (nat_eq n 17) _ _ (ne_eqb n 17 not17) ∙ cond-false (nat_eq n 18) _ _ (ne_eqb n 18 not18) in cc))
     (cases_eq n 18)) (cases_eq n 17)) (cases_eq n 3)
 
 known_two : (n a b : ℕ) (call : Call) → call_of_two n a b ≡ Some call → (n ≡ 5) ⊎ (n ≡ 20)
@@ -46,7 +46,7 @@ asks_none l n call e = ⊎_elim
     (λ (is : n ≡ 16). number 16 is (let c : Blocking Block.Accept ≡ call = (let v : call_of_none 16 ≡ Some call = ap call_of_none (sym is) ∙ e in cc) in ap (λ (k : Call). Asks (Calls k) l) c))
     (λ (is : n ≡ 19). number 19 is (let c : Blocking Block.Yield ≡ call = (let v : call_of_none 19 ≡ Some call = ap call_of_none (sym is) ∙ e in cc) in ap (λ (k : Call). Asks (Calls k) l) c)))
     (known_none n call e)
-    where
+  where
     number : (k : ℕ) → n ≡ k → system_call l k ≡ Asks (Calls call) l → AsksFor l n call
     number k is at = ap (system_call l) is ∙ at
 
@@ -57,7 +57,7 @@ asks_one l n a call held e = ⊎_elim
     (λ (is : n ≡ 17). number 17 is (ap (λ (v : ℕ). Asks (Calls (Blocking (Block.Wait v))) l) held ∙ (let c : Blocking (Block.Wait a) ≡ call = (let v : call_of_one 17 a ≡ Some call = ap (λ (k : ℕ). call_of_one k a) (sym is) ∙ e in cc) in ap (λ (k : Call). Asks (Calls k) l) c)))
     (λ (is : n ≡ 18). number 18 is (ap (λ (v : ℕ). Asks (Calls (Blocking (Block.Sleep v))) l) held ∙ (let c : Blocking (Block.Sleep a) ≡ call = (let v : call_of_one 18 a ≡ Some call = ap (λ (k : ℕ). call_of_one k a) (sym is) ∙ e in cc) in ap (λ (k : Call). Asks (Calls k) l) c))))
     (known_one n a call e)
-    where
+  where
     number : (k : ℕ) → n ≡ k → system_call l k ≡ Asks (Calls call) l → AsksFor l n call
     number k is at = ap (system_call l) is ∙ at
 
@@ -66,7 +66,7 @@ asks_two l n a b call first second e = ⊎_elim
     (λ (is : n ≡ 5). number 5 is ((λ i. Asks (Calls (Immediate (Ask.Give (first i) (second i)))) l) ∙ (let c : Immediate (Ask.Give a b) ≡ call = (let v : call_of_two 5 a b ≡ Some call = ap (λ (k : ℕ). call_of_two k a b) (sym is) ∙ e in cc) in ap (λ (k : Call). Asks (Calls k) l) c)))
     (λ (is : n ≡ 20). number 20 is ((λ i. Asks (Calls (Blocking (Block.Take (first i) (second i)))) l) ∙ (let c : Blocking (Block.Take a b) ≡ call = (let v : call_of_two 20 a b ≡ Some call = ap (λ (k : ℕ). call_of_two k a b) (sym is) ∙ e in cc) in ap (λ (k : Call). Asks (Calls k) l) c)))
     (known_two n a b call e)
-    where
+  where
     number : (k : ℕ) → n ≡ k → system_call l k ≡ Asks (Calls call) l → AsksFor l n call
     number k is at = ap (system_call l) is ∙ at
 

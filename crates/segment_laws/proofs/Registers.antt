@@ -1,7 +1,7 @@
 -- Registers read and written, small sums, and what one instruction makes of a thread.
-use Rattle.std.proofs.Common.{◌≡◌, ℕ, ◌+◌, ◌%◌, ◌^◌, ◌<◌, List, length, get_or, set, ℤ, pos, Result, Ok, Err, Option, Some, None, refl, sym, ap, ◌∙◌, arith, cond, get_or-set_same, get_or-set_other, Bool, true, false, ⊎_elim}
-use Rattle.std.specs.Prelude.{nat_eq, ◌==◌}
-use Rattle.std.proofs.lemmas.Bool.{cond_both, cond-true, cond-false, cases_eq, eq-eqb, ne_eqb}
+use Rattle.std.proofs.Common.{◌≡◌, ℕ, ◌+◌, ◌%◌, ◌^◌, ◌<◌, List, length, get_or, set, ℤ, pos, Result, Ok, Err, Option, Some, refl, ap, ◌∙◌, arith, cond, get_or-set_same, get_or-set_other, Bool, true, false}
+use Rattle.std.specs.Prelude.{nat_eq}
+use Rattle.std.proofs.lemmas.Bool.{cond_both, eq-eqb, ne_eqb}
 use Rattle.cap_word.specs.Word as word
 use Rattle.cap_word.specs.Word.{word_of}
 use Rattle.cap_word.specs.Runs.{Goes}

@@ -1,35 +1,28 @@
 -- A machine thread within an operation of a flat thread, and at its start, where it stands for it. What one instruction that
 -- sets a register or stores a scalar leaves of that.
-use Rattle.std.proofs.Common.{◌≡◌, ℕ, zero, suc, ◌+◌, ◌-◌, ◌*◌, ◌/◌, ◌%◌, ◌^◌, ◌<◌, ◌≤◌, List, [], ◌∷◌, length, get_or, set, ℤ, pos, Option, Some, None, Ok, refl, sym, ap, subst, ◌∙◌, arith, ⊎_elim, get_or-set_same, get_or-set_other}
-use Rattle.std.proofs.lemmas.Bool.{cases_eq}
-use Rattle.std.proofs.lemmas.List.{length-set}
-use Rattle.chunk_pool.specs.Pool.{Pool, word_of as pool_word, with_word as with_pool_word, place_of}
-use Rattle.chunk_pool.proofs.PoolLaws.{word_of-with_word_same}
+use Rattle.std.proofs.Common.{◌≡◌, ℕ, ◌+◌, ◌*◌, ◌%◌, ◌<◌, ◌≤◌, List, [], ◌∷◌, length, get_or, set, pos, Option, Some, None, Ok, sym, ap, subst, ◌∙◌, arith}
+use Rattle.chunk_pool.specs.Pool.{Pool}
 use Rattle.rv_code.specs.declared.instructions.Instr.{Instr}
 use Rattle.rv_machine.specs.Access.{accessed}
 use Rattle.rv_machine.specs.Effect.{effect}
 use Rattle.rv_machine.specs.Registers.{read}
 use Rattle.rv_machine.specs.Rows.{sets}
 use Rattle.rv_machine.specs.Step.{instruction_at}
-use Rattle.rv_machine.proofs.WordLaws.{read-below}
 use Rattle.flat_code.specs.declared.operations.Op.{Op}
 use Rattle.flat_code.specs.Codes.{function_at}
-use Rattle.flat_code.specs.Frames.{FlatFrame, FlatThread, variable, at, passed, set_to, with_scalar}
+use Rattle.flat_code.specs.Frames.{FlatThread, variable}
 use Rattle.flat_code.specs.Step.{first, scalar}
 use Rattle.stack_certificate.specs.Certificates.{fact_at}
-use Rattle.stack_certificate.specs.Templates.{begin, size, kind_of}
 use Rattle.machine_world.specs.Areas.{Areas}
 use Rattle.machine_world.specs.Globals.{AreGlobals}
 use Rattle.machine_world.specs.InPlace.{Frame, word_in, frame_bytes, IsGoodAccess}
 use Rattle.machine_world.specs.Local.{Local, machine_of}
 use Rattle.machine_world.specs.Places.{Checked}
-use Rattle.machine_world.specs.Rests.{variable_word, HoldsVariables, IsShaped, AreFlatFrames}
+use Rattle.machine_world.specs.Rests.{variable_word, HoldsVariables, AreFlatFrames}
 use Rattle.segment_laws.proofs.Facts.{CodeFacts, FrameFacts, IsOperationAt}
-use Rattle.segment_laws.proofs.FrameWords.{InFrame, InFrame-inside, IsStored, load_word, store_word, stack_frame, once_of}
-use Rattle.segment_laws.proofs.Inside.{IsBody, Inside, IsWholeWord, IsValueRegister, IsSet, set_register}
-use Rattle.segment_laws.proofs.Stacks.{AreAway, stack_away, word_of-other, IsStack-operation, AreFlatFrames-with_word}
-use Rattle.segment_laws.proofs.Ways.{Leads, Leads-then}
-use Rattle.segment_laws.proofs.Words.{word_number}
+use Rattle.segment_laws.proofs.FrameWords.{load_word}
+use Rattle.segment_laws.proofs.Inside.{IsWholeWord, IsValueRegister, IsSet, set_register}
+use Rattle.segment_laws.proofs.Ways.{Leads}
 pub use Rattle.segment_laws.specs.Simulation.{During, Simulates, Reaches}
 
 -- ---- a register is set

@@ -1,19 +1,12 @@
 -- Words of the areas: what is loaded from and stored to four bytes of a payload, of the globals or of the tables is one word
 -- of a chunk or of a row.
-use Rattle.std.proofs.Common.{◌≡◌, ℕ, zero, suc, ◌+◌, ◌-◌, ◌*◌, ◌/◌, ◌%◌, ◌^◌, ◌<◌, ◌≤◌, Bool, true, false, List, [], length, get_or, set, Option, Some, None, refl, sym, ap, subst, ◌∙◌, arith, cond, All, get_or-set_same}
-use Rattle.std.specs.Prelude.{◌&&◌, nat_le, nat_lt}
+use Rattle.std.proofs.Common.{◌≡◌, ℕ, ◌+◌, ◌-◌, ◌*◌, ◌<◌, ◌≤◌, true, false, List, length, Some, None, ap, ◌∙◌, arith}
+use Rattle.std.specs.Prelude.{nat_le, nat_lt}
 use Rattle.std.proofs.lemmas.Bool.{cond-true, cond-false, lt-ltb, le-ltb, le-leb, lt-leb, and_from, and_left, and_right}
-use Rattle.std.proofs.lemmas.List.{length-set, set-set}
-use Rattle.std.proofs.lemmas.List.Elements.{All-get_or}
-use Rattle.chunk_pool.specs.Pool.{Pool, chunk_of, word_of, contents_with, place_of, end_of, payload_place_of, chunk_at, IsPool, IsChunk}
-use Rattle.chunk_pool.specs.Pool as pools
-use Rattle.chunk_pool.proofs.AddressLaws.{chunk_at-some, place_of-aligned, place_of-bounded}
-use Rattle.rv_machine.specs.Bytes.{word_at, with_half, with_word, half_is_writable, word_is_writable}
-use Rattle.rv_machine.specs.WordBytes.{byte_of, byte_in, words_with, HoldsWord}
-use Rattle.rv_machine.proofs.WordBytes.{word_at-held, with_word-row}
-use Rattle.machine_world.specs.Areas.{Areas, Spot, InGlobals, InTables, InPayload, globals_place, tables_place, is_within, payload_spot, spot_of, byte_on, byte_at, is_writable_on, is_writable, with_byte_on, with_byte}
+use Rattle.chunk_pool.specs.Pool.{Pool, place_of, end_of, payload_place_of, chunk_at, IsPool}
+use Rattle.chunk_pool.proofs.AddressLaws.{chunk_at-some}
+use Rattle.machine_world.specs.Areas.{Areas, InGlobals, InTables, InPayload, globals_place, tables_place, is_within, payload_spot, spot_of}
 use Rattle.machine_world.specs.WellFormed.{AreWords}
-use Rattle.machine_world.proofs.FormLaws.{word-below}
 
 -- the areas fit the map: what pools keep, and globals and tables of so few words that they meet nothing else
 pub record Fit (areas : Areas) : Type 0 where

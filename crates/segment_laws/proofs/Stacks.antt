@@ -1,13 +1,13 @@
 -- The frames of a thread where one word of a payload is written: they stay where they are, and so does what they return to.
-use Rattle.std.proofs.Common.{◌≡◌, ℕ, zero, suc, ◌+◌, ◌-◌, ◌*◌, ◌/◌, ◌%◌, ◌<◌, ◌≤◌, Bool, true, false, nat_eq, List, [], ◌∷◌, length, get_or, Option, Some, None, slice_get, refl, sym, ap, subst, ◌∙◌, arith, cond, ⊎_elim}
+use Rattle.std.proofs.Common.{◌≡◌, ℕ, ◌+◌, ◌-◌, ◌*◌, ◌/◌, ◌<◌, ◌≤◌, Bool, true, false, List, [], ◌∷◌, get_or, Option, Some, None, slice_get, refl, sym, ap, subst, ◌∙◌, arith, cond, ⊎_elim}
 use Rattle.std.specs.List.{AllByRecursion}
-use Rattle.std.proofs.lemmas.Bool.{cases_eq, eq-eqb, ne_eqb}
-use Rattle.chunk_pool.specs.Pool.{Pool, word_of, with_word, place_of, end_of, payload_place_of}
+use Rattle.std.proofs.lemmas.Bool.{cases_eq, eq-eqb}
+use Rattle.chunk_pool.specs.Pool.{Pool, word_of, with_word, place_of}
 use Rattle.chunk_pool.proofs.PoolLaws.{word_of-with_word_other, KeepsOthers-with_word}
 use Rattle.flat_code.specs.declared.operations.Op.{Op}
 use Rattle.flat_code.specs.Codes.{operation_at}
 use Rattle.machine_world.specs.Held.{copies}
-use Rattle.machine_world.specs.InPlace.{Frame, word_in, frame_bytes, return_word, IsFrame, IsAbove, ReturnsInto, chain_below, low_below, IsStack, HeadersName}
+use Rattle.machine_world.specs.InPlace.{Frame, word_in, IsFrame, ReturnsInto, chain_below, low_below, IsStack, HeadersName}
 use Rattle.machine_world.specs.Places.{Checked}
 use Rattle.machine_world.specs.Rests.{HoldsVariables, AreFlatFrames}
 use Rattle.flat_code.specs.Frames.{FlatFrame}
@@ -61,11 +61,13 @@ stack_chunks : (c : Checked) (pool : Pool) (chain : List ℕ) (frame : Frame) (b
 stack_chunks c pool chain frame [] stack front = (omega (arith, ap (copies frame.chunk) front.is, copies-front frame.chunk front.rest), tt)
 stack_chunks c pool chain frame (b ∷ bs) stack front =
     let here : 1 ≤ copies frame.chunk chain = omega (arith, ap (copies frame.chunk) front.is, copies-front frame.chunk front.rest) in
-    let later = stack_chunks c pool (chain_below frame.is_first chain) b bs stack.2 (front_of (chain_below frame.is_first chain) b.chunk stack.1.chunk) in
-    (here, elim (below_of chain frame.chunk frame.is_first front) [
-      Same first same ↦ subst (λ (ch : List ℕ). ChunksIn ch (b ∷ bs)) same later
-    | Next rest first is next ↦ subst (λ (ch : List ℕ). ChunksIn ch (b ∷ bs)) (sym is) (ChunksIn-more frame.chunk rest (b ∷ bs) (subst (λ (ch : List ℕ). ChunksIn ch (b ∷ bs)) next later))
-    ])
+    let later = stack_chunks c pool (chain_below frame.is_first chain) b bs stack.2 (front_of (chain_below frame.is_first chain) b.chunk stack.1.chunk) in (
+      here,
+      elim (below_of chain frame.chunk frame.is_first front) [
+        | Same first same ↦ subst (λ (ch : List ℕ). ChunksIn ch (b ∷ bs)) same later
+        | Next rest first is next ↦ subst (λ (ch : List ℕ). ChunksIn ch (b ∷ bs)) (sym is) (ChunksIn-more frame.chunk rest (b ∷ bs) (subst (λ (ch : List ℕ). ChunksIn ch (b ∷ bs)) next later))
+      ],
+    )
 
 -- no chunk stands twice in the chain
 abbrev pub IsOnce : List ℕ → Type 0
@@ -87,16 +89,16 @@ stack_away c pool chain frame [] stack front once = tt
 stack_away c pool chain frame (b ∷ bs) stack front once =
     let front' = front_of (chain_below frame.is_first chain) b.chunk stack.1.chunk in
     elim (below_of chain frame.chunk frame.is_first front) [
-      Same first same ↦
-        let low : b.low ≡ frame.low + frame.bytes = stack.1.low ∙ ap (λ (first : Bool). low_below pool first frame) first in
-        let chunk : b.chunk ≡ frame.chunk =
-            (let here : slice_get (frame.chunk ∷ front.rest) 0 ≡ Some b.chunk = subst (λ (ch : List ℕ). slice_get ch 0 ≡ Some b.chunk) (same ∙ front.is) stack.1.chunk in cc) in
-        let later = stack_away c pool (chain_below frame.is_first chain) b bs stack.2 front' (subst IsOnce (sym same) once) in
-        ((λ _. omega (arith, low)), AreAway-lower b.chunk frame.chunk (b.low + b.bytes) (frame.low + frame.bytes) bs (omega (arith, low)) (sym chunk) later)
-    | Next rest first is next ↦
-        let none : copies frame.chunk rest ≡ 0 = omega (arith, once frame.chunk, ap (copies frame.chunk) is, copies-front frame.chunk rest) in
-        other_chunks frame.chunk (frame.low + frame.bytes) rest (b ∷ bs) none
-        (subst (λ (ch : List ℕ). ChunksIn ch (b ∷ bs)) next (stack_chunks c pool (chain_below frame.is_first chain) b bs stack.2 front'))
+      | Same first same ↦
+          let low : b.low ≡ frame.low + frame.bytes = stack.1.low ∙ ap (λ (first : Bool). low_below pool first frame) first in
+          let chunk : b.chunk ≡ frame.chunk =
+          (let here : slice_get (frame.chunk ∷ front.rest) 0 ≡ Some b.chunk = subst (λ (ch : List ℕ). slice_get ch 0 ≡ Some b.chunk) (same ∙ front.is) stack.1.chunk in cc) in
+          let later = stack_away c pool (chain_below frame.is_first chain) b bs stack.2 front' (subst IsOnce (sym same) once) in
+          ((λ _. omega (arith, low)), AreAway-lower b.chunk frame.chunk (b.low + b.bytes) (frame.low + frame.bytes) bs (omega (arith, low)) (sym chunk) later)
+      | Next rest first is next ↦
+          let none : copies frame.chunk rest ≡ 0 = omega (arith, once frame.chunk, ap (copies frame.chunk) is, copies-front frame.chunk rest) in
+          other_chunks frame.chunk (frame.low + frame.bytes) rest (b ∷ bs) none
+          (subst (λ (ch : List ℕ). ChunksIn ch (b ∷ bs)) next (stack_chunks c pool (chain_below frame.is_first chain) b bs stack.2 front'))
     ]
 
 -- ---- a word written in the running frame, or anywhere below an address in its chunk
@@ -137,16 +139,17 @@ pub IsStack-with_word : (c : Checked) (p : Pool) (chain : List ℕ) (frame : Fra
     IsStack c (with_word p chunk k value) chain frame below
 IsStack-with_word c p chain frame [] chunk k value top stack ends away =
     (IsFrame-with_word c p frame chunk k value stack.0, stack.1, stack.2, stack.3)
-IsStack-with_word c p chain frame (b ∷ bs) chunk k value top stack ends away =
-    (IsFrame-with_word c p frame chunk k value stack.0,
-     record {
-       chunk = stack.1.chunk;
-       low = stack.1.low ∙ sym (low_below-with_word p frame.is_first frame chunk k value ends.behind);
-       bytes = stack.1.bytes;
-       returns = stack.1.returns ∙ sym (word_in-below p chunk k value top b (fact_at c.certificate b.function).ra ends away.0);
-       called = stack.1.called;
-     },
-     IsStack-with_word c p (chain_below frame.is_first chain) b bs chunk k value top stack.2 ends away.1)
+IsStack-with_word c p chain frame (b ∷ bs) chunk k value top stack ends away = (
+  IsFrame-with_word c p frame chunk k value stack.0,
+  record {
+    chunk = stack.1.chunk;
+    low = stack.1.low ∙ sym (low_below-with_word p frame.is_first frame chunk k value ends.behind);
+    bytes = stack.1.bytes;
+    returns = stack.1.returns ∙ sym (word_in-below p chunk k value top b (fact_at c.certificate b.function).ra ends away.0);
+    called = stack.1.called;
+  },
+  IsStack-with_word c p (chain_below frame.is_first chain) b bs chunk k value top stack.2 ends away.1,
+)
 
 pub HeadersName-with_word : (p : Pool) (chain : List ℕ) (chunk k value : ℕ) → 4 ≤ k → HeadersName p chain → HeadersName (with_word p chunk k value) chain
 HeadersName-with_word p [] chunk k value behind named = named
@@ -169,14 +172,15 @@ pub AreFlatFrames-with_word : (c : Checked) (p : Pool) (frames : List Frame) (fl
 AreFlatFrames-with_word c p [] [] chunk k value top ends away are = are
 AreFlatFrames-with_word c p [] (flat ∷ flats) chunk k value top ends away are = absurd are
 AreFlatFrames-with_word c p (b ∷ bs) [] chunk k value top ends away are = absurd are
-AreFlatFrames-with_word c p (b ∷ bs) (flat ∷ flats) chunk k value top ends away are =
-    (record {
-       function = are.0.function;
-       operation = are.0.operation;
-       shape = are.0.shape;
-       variables = HoldsVariables-below c p b flat chunk k value top ends away.0 are.0.variables;
-     },
-     AreFlatFrames-with_word c p bs flats chunk k value top ends away.1 are.1)
+AreFlatFrames-with_word c p (b ∷ bs) (flat ∷ flats) chunk k value top ends away are = (
+  record {
+    function = are.0.function;
+    operation = are.0.operation;
+    shape = are.0.shape;
+    variables = HoldsVariables-below c p b flat chunk k value top ends away.0 are.0.variables;
+  },
+  AreFlatFrames-with_word c p bs flats chunk k value top ends away.1 are.1,
+)
 
 low_below-operation : (p : Pool) (first : Bool) (frame : Frame) (i : ℕ) → low_below p first frame ≡ low_below p first (record frame { operation = i })
 low_below-operation p true frame i = refl
@@ -190,7 +194,8 @@ returns_into c frame b i (Some op) into = into
 pub IsStack-operation : (c : Checked) (p : Pool) (chain : List ℕ) (frame : Frame) (below : List Frame) (i : ℕ) → IsStack c p chain frame below → IsStack c p chain (record frame { operation = i }) below
 IsStack-operation c p chain frame [] i stack =
     (record { function = stack.0.function; chunk = stack.0.chunk; lowest = stack.0.lowest; highest = stack.0.highest; bound = stack.0.bound; first = stack.0.first }, stack.1, stack.2, stack.3)
-IsStack-operation c p chain frame (b ∷ bs) i stack =
-    (record { function = stack.0.function; chunk = stack.0.chunk; lowest = stack.0.lowest; highest = stack.0.highest; bound = stack.0.bound; first = stack.0.first },
-     record { chunk = stack.1.chunk; low = stack.1.low ∙ low_below-operation p frame.is_first frame i; bytes = stack.1.bytes; returns = stack.1.returns; called = returns_into c frame b i (operation_at c.flat b.function b.operation) stack.1.called },
-     stack.2)
+IsStack-operation c p chain frame (b ∷ bs) i stack = (
+  record { function = stack.0.function; chunk = stack.0.chunk; lowest = stack.0.lowest; highest = stack.0.highest; bound = stack.0.bound; first = stack.0.first },
+  record { chunk = stack.1.chunk; low = stack.1.low ∙ low_below-operation p frame.is_first frame i; bytes = stack.1.bytes; returns = stack.1.returns; called = returns_into c frame b i (operation_at c.flat b.function b.operation) stack.1.called },
+  stack.2,
+)

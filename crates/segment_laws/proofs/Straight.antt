@@ -1,7 +1,7 @@
 -- Operations without a jump, a call or an array: their words lead to the thread that stands for the flat thread after its
 -- step.
-use Rattle.std.proofs.Common.{◌≡◌, ℕ, ◌+◌, ◌-◌, ◌^◌, ◌<◌, List, [], ◌∷◌, length, get_or, ℤ, pos, negsuc, Bool, not, Option, Some, None, Ok, refl, sym, ap, subst, ◌∙◌, arith}
-use Rattle.std.specs.Prelude.{slice_get, bit_and, bit_or, bit_xor, nat_eq, nat_lt, int_lt, int_le}
+use Rattle.std.proofs.Common.{◌≡◌, ℕ, ◌-◌, ◌^◌, List, get_or, pos, negsuc, Bool, Some, None, refl, ap, ◌∙◌, arith}
+use Rattle.std.specs.Prelude.{slice_get, bit_xor, nat_eq, nat_lt}
 use Rattle.cap_word.specs.Word as word
 use Rattle.cap_word.specs.Word.{word_of, signed}
 use Rattle.rv_code.specs.declared.instructions.Instr.{Instr}
@@ -10,12 +10,10 @@ use Rattle.rv_machine.specs.Effect.{effect}
 use Rattle.rv_machine.specs.Registers.{read}
 use Rattle.rv_machine.specs.Rows as rows
 use Rattle.rv_machine.specs.Rows.{sets}
-use Rattle.rv_machine.proofs.WordLaws.{read-below}
 use Rattle.flat_code.specs.declared.operations.Op.{Op}
 use Rattle.flat_code.specs.declared.operators.BinOp.{BinOp}
 use Rattle.flat_code.specs.Codes.{function_at}
 use Rattle.flat_code.specs.Frames.{FlatThread, with_scalar}
-use Rattle.flat_code.specs.Operators.{result_of}
 use Rattle.flat_code.specs.Step.{scalar}
 use Rattle.flat_code.specs.WellFormed.{IsScalar, context_of}
 use Rattle.stack_certificate.specs.Certificates.{fact_at}
@@ -25,10 +23,10 @@ use Rattle.machine_world.specs.Local.{Local, machine_of}
 use Rattle.machine_world.specs.Places.{Checked}
 use Rattle.segment_laws.proofs.Facts.{CodeFacts, IsOperationAt}
 use Rattle.segment_laws.proofs.Finish.{store_scalar, Reaches-after}
-use Rattle.segment_laws.proofs.Immediate.{words_of, fetch_at, is_t0, is_t1, SetsBy, SetsBy-one, SetsBy-two, load_immediate}
+use Rattle.segment_laws.proofs.Immediate.{words_of, fetch_at, is_t0, is_t1, load_immediate}
 use Rattle.segment_laws.proofs.Inside.{IsWholeWord}
-use Rattle.segment_laws.proofs.Numbers.{below_one, above_none, difference_none, flag-turned, int_le-not}
-use Rattle.segment_laws.proofs.Simulation.{During, Simulates, Reaches, Sets, set_value, IsOneWord, load_scalar}
+use Rattle.segment_laws.proofs.Numbers.{below_one}
+use Rattle.segment_laws.proofs.Simulation.{During, Simulates, Reaches, set_value, IsOneWord, load_scalar}
 use Rattle.segment_laws.proofs.Ways.{Leads, Leads-then}
 
 -- a scalar of a function has one word

@@ -1,25 +1,23 @@
 -- Each trap of an operation that is no call is the machine's.
-use Rattle.std.proofs.Common.{◌≡◌, ℕ, zero, suc, ◌+◌, ◌-◌, ◌^◌, ◌<◌, ◌≤◌, List, [], ◌∷◌, length, get_or, set, Bool, Option, Some, None, refl, sym, ap, subst, ◌∙◌, arith, ⊎_elim}
-use Rattle.std.specs.Prelude.{bit_xor, nat_eq, nat_lt}
+use Rattle.std.proofs.Common.{◌≡◌, ℕ, zero, suc, ◌-◌, ◌^◌, ◌<◌, ◌≤◌, List, length, get_or, set, Bool, Option, Some, sym, ap, ◌∙◌, ⊎_elim}
+use Rattle.std.specs.Prelude.{bit_xor, nat_eq}
 use Rattle.std.proofs.lemmas.Bool.{cases_lt, lt-ltb, le-ltb}
 use Rattle.cap_word.specs.Calls.{Finish}
 use Rattle.cap_word.specs.Rows.{width, word_at, with_word}
-use Rattle.cap_word.specs.Runs.{Goes, Asks, Stops}
+use Rattle.cap_word.specs.Runs.{Goes, Stops}
 use Rattle.cap_word.specs.Word as word
 use Rattle.cap_word.specs.declared.traps.TrapKind.{TrapKind}
 use Rattle.flat_code.specs.declared.operations.Op.{Op}
-use Rattle.flat_code.specs.Codes.{function_at}
 use Rattle.flat_code.specs.Frames.{FlatThread, Finished, Lost, standing, variable, passed, set_to}
 use Rattle.flat_code.specs.Operators.{result_of}
 use Rattle.flat_code.specs.Step.{FlatMove, on, scalar, puts, where_in, within, trapped, jumps, does, flat_step}
-use Rattle.machine_world.specs.Local.{Local, Trapped}
+use Rattle.machine_world.specs.Local.{Local}
 use Rattle.machine_world.specs.Places.{Checked}
 use Rattle.segment_laws.proofs.Facts.{CodeFacts, IsOperationAt}
 use Rattle.segment_laws.proofs.FlatSteps.{was_there, IsStraight, function_there}
 use Rattle.segment_laws.proofs.GlobalOps.{load_array_traps, store_array_traps}
 use Rattle.segment_laws.proofs.LocalArrays.{load_local_traps, store_local_traps}
 use Rattle.segment_laws.proofs.Simulation.{Simulates}
-use Rattle.segment_laws.proofs.Ways.{ComesTo}
 pub use Rattle.segment_laws.specs.Straight.{TrapsAlike}
 
 goes_never : (t : FlatThread) (finish : Finish) → (let m : FlatMove = Goes t in m) ≡ Stops (Finished finish) → ⊥

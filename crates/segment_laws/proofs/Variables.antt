@@ -1,20 +1,20 @@
 -- The variables of the running frame after one word of one of them is written.
-use Rattle.std.proofs.Common.{◌≡◌, ℕ, zero, suc, ◌+◌, ◌-◌, ◌*◌, ◌/◌, ◌%◌, ◌^◌, ◌<◌, ◌≤◌, List, [], ◌∷◌, length, get_or, set, Option, Some, None, refl, sym, ap, subst, ◌∙◌, arith, ⊎_elim, get_or-set_same, get_or-set_other}
+use Rattle.std.proofs.Common.{◌≡◌, ℕ, ◌+◌, ◌*◌, ◌<◌, ◌≤◌, List, length, get_or, set, Some, None, sym, ap, subst, ◌∙◌, arith, ⊎_elim, get_or-set_same, get_or-set_other}
 use Rattle.std.proofs.lemmas.Bool.{cases_eq, cases_lt}
 use Rattle.std.proofs.lemmas.List.{length-set, get_or_past}
-use Rattle.chunk_pool.specs.Pool.{Pool, word_of as pool_word, with_word as with_pool_word, place_of, end_of, IsPool}
+use Rattle.chunk_pool.specs.Pool.{Pool, word_of as pool_word, with_word as with_pool_word, place_of, IsPool}
 use Rattle.chunk_pool.proofs.PoolLaws.{word_of-with_word_same}
 use Rattle.flat_code.specs.Codes.{function_at}
 use Rattle.flat_code.specs.Frames.{FlatFrame, variable, set_to}
 use Rattle.stack_certificate.specs.Certificates.{fact_at}
-use Rattle.machine_world.specs.InPlace.{Frame, word_in}
+use Rattle.machine_world.specs.InPlace.{Frame}
 use Rattle.machine_world.specs.Local.{Local}
 use Rattle.machine_world.specs.Places.{Checked}
 use Rattle.machine_world.specs.Rests.{variable_word, HoldsVariables, IsShaped}
 use Rattle.segment_laws.proofs.Facts.{FrameFacts}
 use Rattle.segment_laws.proofs.FrameWords.{InFrame}
 use Rattle.segment_laws.proofs.Stacks.{word_of-other}
-use Rattle.segment_laws.proofs.Words.{PayloadWord, word_number}
+use Rattle.segment_laws.proofs.Words.{word_number}
 
 -- word j of variable x of the frame's function
 abbrev pub offset_of : Checked → Frame → ℕ → ℕ → ℕ
@@ -104,12 +104,12 @@ HoldsVariables-set c l frame flat x j value row fact sound is has function shape
     let rows : row ≡ words = cc in
     let small : k < length row = subst (λ (r : List ℕ). k < length r) (sym rows) inside in
     let at_x : variable_word c (written_pool c l.areas.pool frame x j value) frame x k ≡ get_or row k 0 = ⊎_elim
-        (λ (k_is : k ≡ j).
-        ap (variable_word c (written_pool c l.areas.pool frame x j value) frame x) k_is
-        ∙ variable_word-same c l frame x j value sound is ∙ sym at_j ∙ ap (λ (n : ℕ). get_or row n 0) (sym k_is))
-        (λ (k_not : k ≡ j → ⊥).
-        variable_word-other c l frame x j value x k fact is has (has.0, omega (arith, small, same)) (λ _. k_not) ∙ sym (others k small k_not))
-        (cases_eq k j) in
+    (λ (k_is : k ≡ j).
+    ap (variable_word c (written_pool c l.areas.pool frame x j value) frame x) k_is
+    ∙ variable_word-same c l frame x j value sound is ∙ sym at_j ∙ ap (λ (n : ℕ). get_or row n 0) (sym k_is))
+    (λ (k_not : k ≡ j → ⊥).
+    variable_word-other c l frame x j value x k fact is has (has.0, omega (arith, small, same)) (λ _. k_not) ∙ sym (others k small k_not))
+    (cases_eq k j) in
     ap (λ (z : ℕ). variable_word c (written_pool c l.areas.pool frame x j value) frame z k) equal ∙ at_x ∙ ap (λ (r : List ℕ). get_or r k 0) rows)
     (λ (apart : y ≡ x → ⊥).
     let old : variable flat y ≡ Some words = sym (variable-set_other flat x y row apart) ∙ set in

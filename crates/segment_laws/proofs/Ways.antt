@@ -1,11 +1,10 @@
 -- Good steps of one thread, one after another: from states that are in place, each with a good access.
-use Rattle.std.proofs.Common.{◌≡◌, ℕ, zero, suc, ◌+◌, ◌≤◌, List, Some, refl, sym, ap, subst, ◌∙◌, arith, cond}
+use Rattle.std.proofs.Common.{◌≡◌, ℕ, zero, suc, ◌+◌, List, refl, sym, ap, subst, arith, cond}
 use Rattle.std.specs.Prelude.{nat_lt}
-use Rattle.cap_word.specs.Runs.{Move, Goes}
+use Rattle.cap_word.specs.Runs.{Goes}
 use Rattle.machine_world.specs.Held.{copies_in, KeepsCopies, KeepsSize, size_of}
-use Rattle.machine_world.specs.InPlace.{Frame, HasFrames, IsGoodAccess}
-use Rattle.machine_world.specs.Local.{Local, LocalMove, local_step, access_at}
-use Rattle.machine_world.specs.Places.{Checked, Place}
+use Rattle.machine_world.specs.Local.{Local, local_step}
+use Rattle.machine_world.specs.Places.{Checked}
 use Rattle.machine_world.proofs.FormLaws as forms
 use Rattle.machine_world.proofs.FormLaws.{KeepsForm, KeepsForm-step}
 use Rattle.machine_world.proofs.HeldLaws.{KeepsCopies-step, KeepsSize-step}

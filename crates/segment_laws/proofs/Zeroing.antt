@@ -1,15 +1,14 @@
 -- The operation that sets each word of a variable to 0, a word an instruction. On the way the variable counts as one that
 -- isn't set.
-use Rattle.std.proofs.Common.{◌≡◌, ℕ, zero, suc, ◌+◌, ◌-◌, ◌*◌, ◌/◌, ◌%◌, ◌^◌, ◌<◌, ◌≤◌, List, [], ◌∷◌, length, get_or, set, ℤ, pos, Option, Some, None, Ok, refl, sym, ap, subst, ◌∙◌, arith, ⊎_elim, get_or-set_same, get_or-set_other, replicate}
+use Rattle.std.proofs.Common.{◌≡◌, ℕ, zero, suc, ◌+◌, ◌-◌, ◌*◌, ◌<◌, ◌≤◌, List, length, get_or, set, pos, Some, None, refl, sym, ap, subst, ◌∙◌, arith, ⊎_elim, get_or-set_same, get_or-set_other, replicate}
 use Rattle.std.specs.Prelude.{slice_get}
-use Rattle.std.proofs.lemmas.Bool.{cases_eq, cases_lt}
-use Rattle.std.proofs.lemmas.List.{length-set, set-set, length-replicate}
+use Rattle.std.proofs.lemmas.Bool.{cases_eq}
+use Rattle.std.proofs.lemmas.List.{length-replicate}
 use Rattle.cap_word.specs.Word as word
 use Rattle.cap_word.specs.Word.{word_of}
 use Rattle.chunk_pool.specs.Pool.{Pool}
 use Rattle.rv_code.specs.declared.instructions.Instr.{Instr}
 use Rattle.rv_machine.specs.Registers.{read}
-use Rattle.rv_machine.specs.Step.{instruction_at}
 use Rattle.flat_code.specs.declared.operations.Op.{Op}
 use Rattle.flat_code.specs.Codes.{function_at}
 use Rattle.flat_code.specs.Frames.{FlatFrame, FlatThread, variable, passed, set_to}
@@ -23,10 +22,10 @@ use Rattle.machine_world.specs.Places.{Checked}
 use Rattle.machine_world.specs.Rests.{variable_word, HoldsVariables, IsShaped, AreFlatFrames}
 use Rattle.segment_laws.proofs.Facts.{CodeFacts, FrameFacts, IsOperationAt}
 use Rattle.segment_laws.proofs.Finish.{Simulates-at, behind_last}
-use Rattle.segment_laws.proofs.FrameWords.{InFrame, InFrame-inside, store_at, once_of}
-use Rattle.segment_laws.proofs.Immediate.{words_of, fetch_at}
+use Rattle.segment_laws.proofs.FrameWords.{InFrame-inside, store_at, once_of}
+use Rattle.segment_laws.proofs.Immediate.{fetch_at}
 use Rattle.segment_laws.proofs.Inside.{Inside, IsWholeWord}
-use Rattle.segment_laws.proofs.Simulation.{During, Simulates, Reaches, IsWordPlace, IsWordPlace-variable}
+use Rattle.segment_laws.proofs.Simulation.{Simulates, Reaches, IsWordPlace-variable}
 use Rattle.segment_laws.proofs.Stacks.{stack_away, AreFlatFrames-with_word}
 use Rattle.segment_laws.proofs.Variables.{offset_of, written_pool, HasWord, variable_word-same, variable_word-other, set_there, IsShaped-set, variable-set_same, variable-set_other}
 use Rattle.segment_laws.proofs.Ways.{Leads, Leads-none, Leads-then}
@@ -83,7 +82,7 @@ one_more c code l t x m frame below facts there zeroed small =
     let imm_is : offset ≡ imm = ap (λ (g : ℕ). get_or (fact_at c.certificate g).places x 0 + 4 * m) function in
     let fetch = fetch_at c code l f i m op frame below (Instr.Sw 2 0 (pos imm)) there is (zeroes-at (get_or (fact_at c.certificate f).places x 0) (get_or (function_at c.flat f).sizes x 0) m small) in
     let stored = store_at c code l f i m op frame below 2 0 offset 0 (pos imm) facts there whole is fetch in_frame
-        (ap (λ (o : ℕ). word.add (read l.core.x 2) (word_of (pos o))) (sym imm_is) ∙ in_frame.address) place.aligned not_ra refl in
+    (ap (λ (o : ℕ). word.add (read l.core.x 2) (word_of (pos o))) (sym imm_is) ∙ in_frame.address) place.aligned not_ra refl in
     let away = stack_away c l.areas.pool l.core.chain frame below is.stack is.front (once_of c l f i m frame below is) in
     let after : Pool = written_pool c l.areas.pool frame x m 0 in
     let pool : stored.next.areas.pool ≡ after = ap (λ (a : Areas). a.pool) stored.areas in
@@ -155,14 +154,14 @@ zero_reaches c code l t x facts there simulates =
     let some : 0 < n = facts.zeroed f i x there.function there.there in
     let row : List ℕ = blank n in
     let done = all_zeroed c code l t x 0 n n frame below facts there
-        (record {
-          inside = during.inside;
-          shape = during.shape;
-          others = λ y words set k within. (let apart = set_apart t.frame x y words (omega (arith, during.shape.count, there.formed)) set in during.variables y words apart.1 k within);
-          zeros = λ j none. absurd (omega arith);
-          flats = during.flats;
-          globals = during.globals;
-        }) refl (omega arith) in
+    (record {
+      inside = during.inside;
+      shape = during.shape;
+      others = λ y words set k within. (let apart = set_apart t.frame x y words (omega (arith, during.shape.count, there.formed)) set in during.variables y words apart.1 k within);
+      zeros = λ j none. absurd (omega arith);
+      flats = during.flats;
+      globals = during.globals;
+    }) refl (omega arith) in
     let now = done.zeroed in
     let set_frame : FlatFrame = set_to t.frame x row in
     let last : n - 1 + 1 ≡ n = omega (arith, some) in
