@@ -67,7 +67,7 @@ module _ (c : Checked) (code : List ℕ) (facts : CodeFacts c code) (calls : Cal
   by_kind l t op g values frame below there s ready (LinkKind.Linked need) e =
       let none : s.before + 0 ≡ s.before = omega arith in
       linked_by l t op g need values frame below there s ready e
-      (tests_room c code l t op need frame below facts there s e (calls.need_small op need e) (subst (λ (w : ℕ). During c l t w frame below) none ready.during))
+      (tests_room c code l t op need frame below facts there s e (calls.need_small t.frame.function t.frame.next g need op there.function there.there ready.calls e) (subst (λ (w : ℕ). During c l t w frame below) none ready.during))
   by_kind l t op g values frame below there s ready (LinkKind.Spawned need) e = absurd (calls.not_spawned t.frame.function t.frame.next g need op there.function there.there ready.calls e)
 
   -- a call whose arguments are in their registers

@@ -136,7 +136,7 @@ transfer_near c code l t op g need values frame below facts calls there s is lin
     let rule = calls.linked f i g need op there.function there.there is.calls linked in
     let eleven : transfer_size (kind_of c.certificate op) ≡ 11 = ap transfer_size linked in
     let sixteen : here + 16 ≡ here + 4 * 4 = omega arith in
-    let needed = calls.need_small op need linked in
+    let needed = calls.need_small f i g need op there.function there.there is.calls linked in
     let start : 0x8000_0000 ≤ place_of l2.areas.pool frame.chunk = omega arith in
     let tp_same : payload_place_of l2.areas.pool frame.chunk ≡ payload_place_of l1.areas.pool frame.chunk = sym moved.during.inside.tp_is ∙ moved.registers 4 ∙ tested.during.inside.tp_is in
     let ready : ReadyToCall c code l2 t op g values frame below s 4 = record {

@@ -33,7 +33,7 @@ pub record CallFacts (c : Checked) : Type 0 where
   pub linked : (f i g need : ℕ) (op : Op) → f < length c.flat.functions → operation_at c.flat f i ≡ Some op → Calls c.flat op g → kind_of c.certificate op ≡ LinkKind.Linked need →
       (fact_at c.certificate g).bound ≤ need
   pub not_spawned : (f i g need : ℕ) (op : Op) → f < length c.flat.functions → operation_at c.flat f i ≡ Some op → Calls c.flat op g → kind_of c.certificate op ≡ LinkKind.Spawned need → ⊥
-  pub need_small : (op : Op) (need : ℕ) → kind_of c.certificate op ≡ LinkKind.Linked need → need ≤ 65536
+  pub need_small : (f i g need : ℕ) (op : Op) → f < length c.flat.functions → operation_at c.flat f i ≡ Some op → Calls c.flat op g → kind_of c.certificate op ≡ LinkKind.Linked need → need ≤ 65536
   -- a member of a table gives a result
   pub members_give : (t g : ℕ) → Contains (members_of c.flat t) g → (function_at c.flat g).gives ≡ true
 
