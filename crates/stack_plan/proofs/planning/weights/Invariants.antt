@@ -1,0 +1,10 @@
+use Rattle.std.proofs.Common.{◌≡◌, ◌≤◌, ◌^◌, ◌++◌, map, drop, sum}
+use Rattle.std.specs.List.{AllByRecursion}
+use Rattle.flat_code.specs.Weight.{weight_of}
+use Rattle.stack_plan.proofs.planning.weights.Given as goal
+
+abbrev pub invariant-loop-function : goal.invariant-loop-function
+invariant-loop-function l = record {
+  weights : l.list.items ++ map (λ f. weight_of f.sizes) (drop l.function-index l.functions) ≡ map (λ f. weight_of f.sizes) l.functions;
+  small : AllByRecursion (λ f. sum f.sizes ≤ 2 ^ 20) (drop l.function-index l.functions);
+}
