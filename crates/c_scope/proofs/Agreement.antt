@@ -1,17 +1,15 @@
 -- Where no rule is broken, each prototype of a function agrees with its definition.
-use Rattle.std.proofs.Common.{ℕ, ◌≡◌, refl, sym, ap, subst, ◌∙◌, Bool, true, false, not, List, [], ◌∷◌, ◌++◌, length, Option, Some, None}
+use Rattle.std.proofs.Common.{ℕ, ◌≡◌, refl, sym, subst, ◌∙◌, Bool, true, false, not, List, [], ◌∷◌, ◌++◌, length, Option, Some, None}
 use Rattle.std.specs.Prelude.{nat_eq, ◌||◌, ◌&&◌, if◌then◌else◌}
 use Rattle.std.specs.Str.{bytes_eq}
 use Rattle.c_tree.specs.RawTrees.{NameTree, RawItemTree, RawGlobal, RawGlobalArray, RawTableItem, RawPrototypeItem, RawFunctionItem, RawStmtTrees}
 use Rattle.c_tree.specs.Temporaries.{capped}
 use Rattle.c_scope.specs.declared.faults.Rule.{Rule}
-use Rattle.c_scope.specs.declared.faults.Fault.{Fault}
 use Rattle.c_scope.specs.declared.meanings.Meaning.{Meaning}
 use Rattle.c_scope.specs.declared.meanings.Found.{Found}
 use Rattle.c_scope.specs.Names.{Binding, find}
 use Rattle.c_scope.specs.Faults.{broken}
 use Rattle.c_scope.specs.Meanings.{is_modelled, function_of}
-use Rattle.c_scope.specs.Places.{Spot}
 use Rattle.c_scope.specs.Simples.{size_faults, is_fixed, bound}
 use Rattle.c_scope.specs.Statements.{stmts_faults}
 use Rattle.c_scope.specs.Items.{Sofar, with_definition, with_definitions, outer_in, outer_faults, differ, repeated_faults, function_faults, main_faults, is_missing, is_defined, with_function, prototype_faults, params_faults, members_faults, params_spot, body_spot, item_faults, item_after, items_faults, items_after}

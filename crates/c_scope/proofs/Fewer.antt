@@ -1,6 +1,6 @@
 -- What breaks no rule takes no more temporaries with numbers for names than it did as it was read.
-use Rattle.std.proofs.Common.{ℕ, suc, ◌≡◌, ◌≤◌, ◌+◌, refl, sym, ap, subst, ◌∙◌, Bool, true, false, not, List, [], ◌∷◌, ◌++◌, length, max, min, Option, Some, None, arith}
-use Rattle.std.specs.Prelude.{nat_eq, ◌||◌, ◌&&◌, if◌then◌else◌, option_map}
+use Rattle.std.proofs.Common.{ℕ, ◌≡◌, ◌≤◌, ◌+◌, refl, sym, subst, Bool, true, false, not, List, [], ◌∷◌, ◌++◌, length, max, Option, Some, None, arith}
+use Rattle.std.specs.Prelude.{◌||◌, ◌&&◌, if◌then◌else◌, option_map}
 use Rattle.std.specs.Str.{bytes_eq}
 use Rattle.c_tree.specs.Modelled.{parameters_of}
 use Rattle.c_tree.specs.declared.operators.ModelledCall.{ModelledCall}
@@ -16,11 +16,11 @@ use Rattle.c_scope.specs.Names.{Binding, find}
 use Rattle.c_scope.specs.Faults.{broken}
 use Rattle.c_scope.specs.Meanings.{is_callable, is_void, takes, is_wrong_count, variable_of, callee_in, callee_of}
 use Rattle.c_scope.specs.Expressions.{scalar_faults, array_faults, expr_faults, listed, scalar_value, element_value, expr_of, exprs_of}
-use Rattle.c_scope.specs.Calls.{call_name_faults, table_name_faults, arguments_faults, call_faults, right_faults, call_by, call_of, right_of, spawn_of}
+use Rattle.c_scope.specs.Calls.{call_name_faults, arguments_faults, call_faults, right_faults, call_by, call_of, right_of, spawn_of}
 use Rattle.c_scope.specs.Places.{Spot}
-use Rattle.c_scope.specs.Simples.{is_fixed, bound, declare_faults, size_faults, simple_faults, set_scalar, set_element, simple_of, simple_after, simples_faults, simples_of, simples_after}
-use Rattle.c_scope.specs.Statements.{inside, left, condition_faults, step_kind, step_faults, step_after, return_faults, returned_of, stmt_after, stmts_after, stmt_faults, stmts_faults, stmt_of, stmts_of}
-use Rattle.c_scope.proofs.NoFaults.{both_none, not_broken, neither}
+use Rattle.c_scope.specs.Simples.{is_fixed, bound, declare_faults, simple_faults, set_scalar, set_element, simple_of, simple_after, simples_faults, simples_of, simples_after}
+use Rattle.c_scope.specs.Statements.{inside, left, condition_faults, step_kind, step_faults, step_after, return_faults, returned_of, stmt_after, stmt_faults, stmts_faults, stmt_of, stmts_of}
+use Rattle.c_scope.proofs.NoFaults.{both_none, not_broken}
 use Rattle.c_scope.proofs.ScopedCalls.{Known, known_call, right_count}
 
 -- every function in scope has at most six parameters

@@ -1,6 +1,6 @@
 -- Items that break no rule, one after another: their names, functions and tables are well scoped.
-use Rattle.std.proofs.Common.{ℕ, zero, suc, ◌≡◌, ◌<◌, ◌≤◌, ◌+◌, refl, sym, ap, subst, ◌∙◌, Bool, true, false, not, List, [], ◌∷◌, ◌++◌, append_assoc, length, length-append, map, sum, Option, Some, None, arith, min}
-use Rattle.std.specs.Prelude.{nat_eq, ◌||◌, ◌&&◌, slice_index, if◌then◌else◌}
+use Rattle.std.proofs.Common.{ℕ, ◌≡◌, ◌<◌, ◌≤◌, ◌+◌, refl, sym, ap, subst, ◌∙◌, Bool, true, false, not, List, [], ◌∷◌, ◌++◌, append_assoc, length, length-append, map, sum, Option, Some, None, arith}
+use Rattle.std.specs.Prelude.{nat_eq, ◌||◌, ◌&&◌, if◌then◌else◌}
 use Rattle.std.specs.List.{AllByRecursion}
 use Rattle.std.specs.Str.{bytes_eq}
 use Rattle.std.proofs.lemmas.List.{map-append, length-map}
@@ -10,7 +10,7 @@ use Rattle.c_tree.specs.RawTemporaries.{raw_item_temporaries, AreWithinTemporari
 use Rattle.c_tree.specs.Trees.{FunctionTree, ProgramTree}
 use Rattle.c_tree.specs.TextOrder.{stmts_names}
 use Rattle.c_tree.specs.Temporaries.{capped}
-use Rattle.c_tree.specs.WellScoped.{Signature, signature_of, signature_at, Context, IsFunctionScoped, AreFunctionsScoped, IsMember, IsTable}
+use Rattle.c_tree.specs.WellScoped.{signature_of, signature_at, Context, IsFunctionScoped, AreFunctionsScoped, IsMember, IsTable}
 use Rattle.c_scope.specs.declared.faults.Rule.{Rule}
 use Rattle.c_scope.specs.declared.meanings.Meaning.{Meaning}
 use Rattle.c_scope.specs.declared.meanings.Found.{Found}
@@ -20,7 +20,7 @@ use Rattle.c_scope.specs.Meanings.{is_member, function_in, function_of}
 use Rattle.c_scope.specs.Expressions.{use_faults}
 use Rattle.c_scope.specs.Simples.{is_fixed, bound}
 use Rattle.c_scope.specs.Statements.{stmts_of}
-use Rattle.c_scope.specs.Items.{Sofar, with_definition, with_definitions, is_missing, is_defined, with_function, outer_faults, members_faults, members_of, params_spot, body_spot, function_tree_of, item_faults, item_after, items_faults, items_after}
+use Rattle.c_scope.specs.Items.{Sofar, with_definition, with_definitions, is_missing, is_defined, with_function, outer_faults, members_faults, members_of, body_spot, function_tree_of, item_faults, item_after, items_faults, items_after}
 use Rattle.c_scope.specs.Limits.{most_params}
 use Rattle.c_scope.proofs.NoFaults.{both_none, same_number, Used, used}
 use Rattle.c_scope.proofs.Links.{same_itself}
@@ -33,7 +33,7 @@ use Rattle.c_scope.proofs.Programs.{outer_context, function_scoped}
 use Rattle.c_scope.proofs.Definitions.{signature_in, signatures_of, IsDefinition, AreDefinitions, IsDefinedAs, find_definition}
 use Rattle.c_scope.proofs.Agreement.{IsSignedIn, IsSigned, AreBacked, one_signature, all_stay, prototype_parts, definition_parts, bound_here, repeated_free}
 use Rattle.c_scope.proofs.WithinLimits.{AreWithin, one_of_locals, signature_small}
-use Rattle.c_scope.proofs.Lengthening.{StartsWith, IsLonger, items_longer, all_then, members_length, one_member}
+use Rattle.c_scope.proofs.Lengthening.{StartsWith, items_longer, all_then, members_length, one_member}
 
 -- a definition's result and parameters
 pub record HasSignature (m : Meaning) : Type 0 where

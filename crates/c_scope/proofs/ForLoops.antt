@@ -1,5 +1,5 @@
 -- A for: what is in scope after its parts one after another, and the rules that they break.
-use Rattle.std.proofs.Common.{◌≡◌, ◌-◌, ℕ, refl, sym, ap, ◌∙◌, subst, Bool, true, List, length, drop, Option, ◌++◌}
+use Rattle.std.proofs.Common.{◌≡◌, ◌-◌, ℕ, sym, ap, ◌∙◌, subst, Bool, true, List, length, drop, Option, ◌++◌}
 use Rattle.c_tree.specs.RawTrees.{RawExprTree, RawSimpleTree, RawStmtTree}
 use Rattle.c_scope.specs.declared.faults.Fault.{Fault}
 use Rattle.c_scope.specs.Faults.{least_of}

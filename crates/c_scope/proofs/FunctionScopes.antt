@@ -1,5 +1,5 @@
 -- A function: what is in scope after its parameters and its body, and the rules that they break.
-use Rattle.std.proofs.Common.{◌≡◌, ◌-◌, ◌++◌, ℕ, refl, sym, ap, ◌∙◌, subst, Bool, false, List, [], ◌∷◌, length, drop, Option}
+use Rattle.std.proofs.Common.{◌≡◌, ◌-◌, ◌++◌, ℕ, sym, ap, ◌∙◌, subst, Bool, false, List, [], ◌∷◌, length, drop, Option}
 use Rattle.c_tree.specs.RawTrees.{NameTree, RawStmtTrees}
 use Rattle.c_scope.specs.declared.faults.Fault.{Fault}
 use Rattle.c_scope.specs.declared.meanings.Meaning.{Meaning}

@@ -1,5 +1,5 @@
 -- What statements declare and call, against the counts of variables and sites before and after them.
-use Rattle.std.proofs.Common.{ℕ, ◌≡◌, ◌≤◌, ◌+◌, refl, sym, ap, ◌∙◌, List, [], ◌∷◌, ◌++◌, length, map, length-append, append_assoc, add-zero, arith, min, max, Bool, true, false, Option, Some, None, subst}
+use Rattle.std.proofs.Common.{ℕ, ◌≡◌, ◌≤◌, ◌+◌, refl, sym, ap, ◌∙◌, List, [], ◌∷◌, ◌++◌, length, map, length-append, append_assoc, add-zero, arith, Bool, true, false, Option, Some, None, subst}
 use Rattle.std.proofs.lemmas.List.{map-append, length-map, append-nil}
 use Rattle.c_tree.specs.declared.facts.Site.{Site}
 use Rattle.c_tree.specs.RawTrees.{RawExprTree, RawNumber, RawName, RawElement, RawUnary, RawParenthesized, RawBinary, RawLogicalAnd, RawLogicalOr, RawConditional, RawCall, RawTableCall, RawSimpleTree, RawDeclareScalar, RawDeclareArray, RawDeclareWith, RawSet, RawSetElement, RawCalling, RawTableCalling, RawStmtTree, RawStmtTrees, RawDo, RawEmpty, RawBlock, RawIf, RawIfElse, RawWhile, RawFor, RawBreak, RawContinue, RawReturn, NoRawStmts, RawThen}
@@ -12,7 +12,7 @@ use Rattle.c_scope.specs.declared.meanings.Variable.{Variable}
 use Rattle.c_scope.specs.Names.{Binding, find}
 use Rattle.c_scope.specs.Meanings.{callee_of, variable_of}
 use Rattle.c_scope.specs.Expressions.{listed, expr_of}
-use Rattle.c_scope.specs.Calls.{next, call_by, call_of, table_call_of, right_of, right_after, spawn_of}
+use Rattle.c_scope.specs.Calls.{call_by, call_of, table_call_of, right_of, right_after, spawn_of}
 use Rattle.c_scope.specs.Places.{Spot, called}
 use Rattle.c_scope.specs.Simples.{next_variable, with_variable, set_scalar, set_element, simple_of, simple_after, simples_of, simples_after}
 use Rattle.c_scope.specs.Statements.{inside, left, step_after, returned_of, returned_after, stmt_of, stmts_of, stmt_after, stmts_after}

@@ -1,5 +1,5 @@
 -- The fault that is kept is the least.
-use Rattle.std.proofs.Common.{ℕ, ◌≡◌, ◌<◌, ◌≤◌, ◌+◌, ◌*◌, refl, sym, ap, subst, ◌∙◌, Bool, true, false, List, [], ◌∷◌, Option, Some, None, arith}
+use Rattle.std.proofs.Common.{ℕ, ◌≡◌, ◌<◌, ◌≤◌, ◌+◌, ◌*◌, refl, sym, subst, ◌∙◌, Bool, true, false, List, [], ◌∷◌, Some, None, arith}
 use Rattle.std.specs.Prelude.{nat_lt, nat_eq, ◌||◌, ◌&&◌, if◌then◌else◌}
 use mathlib.Core.Logic.{◌⊎◌, inl, inr}
 use Rattle.std.specs.List.{AllByRecursion}
@@ -7,7 +7,7 @@ use Rattle.std.proofs.lemmas.Bool.Decides.{nat_tests}
 use Rattle.c_tree.specs.RawTrees.{RawItemTree}
 use Rattle.c_scope.specs.declared.faults.Rule.{Rule}
 use Rattle.c_scope.specs.declared.faults.Fault.{Fault}
-use Rattle.c_scope.specs.Faults.{rank, fault, is_before, lesser, least_of}
+use Rattle.c_scope.specs.Faults.{rank, fault, is_before, least_of}
 use Rattle.c_scope.specs.Outcomes.{IsOneOf, here, further, IsLeast, IsRefused, refusal_by}
 use Rattle.c_scope.specs.Items.{faults_of}
 use Rattle.c_scope.proofs.NoFaults.{not_less, same_number}

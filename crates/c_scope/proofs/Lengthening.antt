@@ -1,12 +1,11 @@
 -- What items make is what was made before them, and more.
-use Rattle.std.proofs.Common.{ℕ, suc, ◌≡◌, ◌≤◌, ◌+◌, refl, sym, ap, ◌∙◌, Bool, true, false, not, List, [], ◌∷◌, ◌++◌, append_assoc, length, map, sum, arith}
+use Rattle.std.proofs.Common.{ℕ, suc, ◌≡◌, ◌≤◌, refl, sym, ap, ◌∙◌, not, List, [], ◌∷◌, ◌++◌, append_assoc, length, map, sum, arith}
 use Rattle.std.specs.Prelude.{nat_eq, nat_lt, ◌||◌}
 use Rattle.std.specs.List.{AllByRecursion}
 use Rattle.std.proofs.lemmas.List.{append-nil}
 use Rattle.std.proofs.lemmas.List.Sums.{sum_by-cons}
 use Rattle.c_tree.specs.declared.facts.GlobalFact.{GlobalFact}
 use Rattle.c_tree.specs.RawTrees.{NameTree, RawItemTree, RawGlobal, RawGlobalArray, RawTableItem, RawPrototypeItem, RawFunctionItem}
-use Rattle.c_tree.specs.Trees.{FunctionTree}
 use Rattle.c_scope.specs.declared.faults.Rule.{Rule}
 use Rattle.c_scope.specs.Names.{Binding, find}
 use Rattle.c_scope.specs.Faults.{broken}

@@ -29,3 +29,4 @@ pub mod Counted
 pub mod LeastFaults
 pub mod Resolved
 pub mod OneOutcome
+mod SourceTexts

@@ -1,13 +1,11 @@
 -- The map of names and the list of what each hides, as a name is added and taken away.
-use Rattle.std.proofs.Common.{ℕ, suc, ◌≡◌, refl, sym, ap, ◌∙◌, List, [], ◌∷◌, ◌++◌, length, map, reverse, Bor, arith, add-one, nat_cmp, Some, None, Bool, true, false, Option, Ordering, ◌<◌, ◌-◌, drop, rules}
+use Rattle.std.proofs.Common.{ℕ, suc, ◌≡◌, refl, sym, ap, ◌∙◌, List, [], ◌∷◌, ◌++◌, length, map, reverse, Bor, arith, nat_cmp, Some, None, Bool, true, false, Option, Ordering, ◌<◌, ◌-◌, drop, rules}
 use Rattle.std.proofs.lemmas.List.{reverse-append, length-map, length-reverse}
 use Rattle.std.proofs.lemmas.Map.Text.{btree_map_updates_str}
 use Rattle.std.proofs.lemmas.Slice.Eq.{bytes_eq-Decides}
 use Rattle.std.specs.BTreeMap.{BTreeMap, get, get_by, UpdatesBy}
 use Rattle.std.specs.Cmp.Lexicographic.{slice_cmp}
 use Rattle.std.specs.Str.{bytes_eq}
-use Rattle.std.specs.Map.{update}
-use Rattle.std.specs.Bool.{Decides}
 use mathlib.Core.Bool.{cond}
 use Rattle.c_scope.specs.declared.meanings.Found.{Found}
 use Rattle.c_scope.specs.declared.names.Declared.{Declared}

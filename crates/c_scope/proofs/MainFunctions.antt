@@ -1,17 +1,15 @@
 -- Where no rule is broken, main has no parameters.
-use Rattle.std.proofs.Common.{ℕ, ◌≡◌, refl, sym, ap, subst, ◌∙◌, Bool, true, false, not, List, [], ◌∷◌, length, Option, Some, None}
+use Rattle.std.proofs.Common.{ℕ, ◌≡◌, refl, sym, subst, ◌∙◌, Bool, true, false, not, List, [], ◌∷◌, length, Some}
 use Rattle.std.specs.Prelude.{nat_eq, ◌&&◌, if◌then◌else◌, codes}
 use Rattle.std.specs.Str.{bytes_eq}
 use Rattle.c_tree.specs.RawTrees.{NameTree, RawItemTree, RawGlobal, RawGlobalArray, RawTableItem, RawPrototypeItem, RawFunctionItem}
 use Rattle.c_tree.specs.Temporaries.{capped}
 use Rattle.c_scope.specs.declared.faults.Rule.{Rule}
 use Rattle.c_scope.specs.declared.meanings.Meaning.{Meaning}
-use Rattle.c_scope.specs.declared.meanings.Found.{Found}
 use Rattle.c_scope.specs.Names.{Binding, find}
-use Rattle.c_scope.specs.Faults.{broken}
-use Rattle.c_scope.specs.Items.{Sofar, with_definition, with_definitions, main_faults, item_faults, item_after, items_faults, items_after}
+use Rattle.c_scope.specs.Items.{Sofar, with_definition, with_definitions, main_faults, item_faults, item_after, items_faults}
 use Rattle.c_scope.proofs.NoFaults.{both_none, not_broken, not_false, same_number}
-use Rattle.c_scope.proofs.Agreement.{IsSignedIn, IsSigned, definition_parts}
+use Rattle.c_scope.proofs.Agreement.{IsSigned, definition_parts}
 
 abbrev pub MainHasNone : List Binding → Type 0
 MainHasNone ds = (g : Bool) (k : ℕ) → IsSigned g k (find (codes "main") ds) → k ≡ 0

@@ -1,10 +1,9 @@
 -- An expression with an operator in it is neither a name nor a call.
-use Rattle.std.proofs.Common.{◌≡◌, ◌<◌, ℕ, List, [], ◌∷◌, length, map, refl, sym, ap, ◌∙◌, arith}
+use Rattle.std.proofs.Common.{◌≡◌, ◌<◌, ℕ, List, [], ◌∷◌, length, refl, ap, arith}
 use Rattle.c_tree.specs.declared.operators.Infix.{Infix}
 use Rattle.c_tree.specs.RawTrees.{RawExprTree, RawNumber, RawName, RawElement, RawUnary, RawParenthesized, RawBinary, RawLogicalAnd, RawLogicalOr, RawConditional, RawCall, RawTableCall}
-use Rattle.c_tree.specs.Trees.{RightTree, Computed}
+use Rattle.c_tree.specs.Trees.{Computed}
 use Rattle.c_tree.specs.RawViews.{raw_joined, raw_chained, raw_arguments}
-use Rattle.c_scope.specs.declared.faults.Fault.{Fault}
 use Rattle.c_scope.specs.declared.faults.Rule.{Rule}
 use Rattle.c_scope.specs.Names.{Binding}
 use Rattle.c_scope.specs.Forms.{IsNeither}

@@ -1,18 +1,17 @@
 -- Each name that is declared where no rule is broken has a word.
-use Rattle.std.proofs.Common.{ℕ, suc, ◌≡◌, ◌≤◌, ◌+◌, refl, Bool, true, List, [], ◌∷◌, ◌++◌, length, map, sum, Option, Some, None, arith}
+use Rattle.std.proofs.Common.{ℕ, ◌≡◌, ◌≤◌, Bool, true, List, [], ◌∷◌, ◌++◌, length, sum, Option, Some, None, arith}
 use Rattle.std.specs.Prelude.{nat_lt, ◌||◌, option_map}
-use Rattle.c_tree.specs.RawTrees.{RawExprTree, RawSimpleTree, RawDeclareScalar, RawDeclareArray, RawDeclareWith, RawSet, RawSetElement, RawCalling, RawTableCalling, RawStmtTree, RawStmtTrees, RawDo, RawEmpty, RawBlock, RawIf, RawIfElse, RawWhile, RawFor, RawBreak, RawContinue, RawReturn, NoRawStmts, RawThen}
+use Rattle.c_tree.specs.RawTrees.{RawSimpleTree, RawDeclareScalar, RawDeclareArray, RawDeclareWith, RawSet, RawSetElement, RawCalling, RawTableCalling, RawStmtTree, RawStmtTrees, RawDo, RawEmpty, RawBlock, RawIf, RawIfElse, RawWhile, RawFor, RawBreak, RawContinue, RawReturn, NoRawStmts, RawThen}
 use Rattle.std.proofs.lemmas.List.Sums.{sum_by-cons}
 use Rattle.c_tree.specs.TextOrder.{Declared, simple_names, simples_names, step_names, stmt_names, stmts_names}
 use Rattle.c_scope.specs.declared.faults.Rule.{Rule}
 use Rattle.c_scope.specs.Names.{find}
-use Rattle.c_scope.specs.Faults.{broken}
 use Rattle.c_scope.specs.Meanings.{variable_of}
 use Rattle.c_scope.specs.Expressions.{expr_faults, expr_of}
 use Rattle.c_scope.specs.Calls.{right_of}
 use Rattle.c_scope.specs.Places.{Spot}
 use Rattle.c_scope.specs.Simples.{declare_faults, size_faults, simple_faults, simple_of, simple_after, simples_faults, simples_of, simples_after}
-use Rattle.c_scope.specs.Statements.{inside, left, condition_faults, step_kind, step_faults, step_after, stmt_after, stmts_after, stmt_faults, stmts_faults, stmt_of, stmts_of}
+use Rattle.c_scope.specs.Statements.{inside, left, condition_faults, step_kind, step_faults, step_after, stmt_after, stmt_faults, stmts_faults, stmt_of, stmts_of}
 use Rattle.c_scope.proofs.NoFaults.{both_none, not_broken, neither, not_less}
 use Rattle.c_scope.proofs.Growth.{words, set_scalar_names, set_element_names}
 

@@ -1,28 +1,23 @@
 -- A source that breaks no rule and exceeds no limit is a well-scoped program.
-use Rattle.std.proofs.Common.{ℕ, zero, suc, ◌≡◌, ◌<◌, ◌≤◌, ◌+◌, refl, sym, ap, subst, ◌∙◌, Bool, true, false, not, List, [], ◌∷◌, ◌++◌, length, length-append, append_assoc, get_or, map, sum, drop, Option, Some, None, arith, min, max}
-use Rattle.std.specs.Prelude.{nat_eq, nat_lt, ◌||◌, ◌&&◌, slice_index, if◌then◌else◌, codes}
-use Rattle.std.specs.List.{AllByRecursion}
-use Rattle.std.specs.Str.{bytes_eq}
-use Rattle.std.proofs.lemmas.List.{map-append, length-map, append-nil}
-use Rattle.c_tree.specs.declared.facts.GlobalFact.{GlobalFact}
+use Rattle.std.proofs.Common.{ℕ, zero, suc, ◌≡◌, ◌≤◌, ◌+◌, refl, sym, ap, subst, ◌∙◌, Bool, true, false, List, [], ◌∷◌, ◌++◌, length, length-append, append_assoc, map, sum, arith, max}
+use Rattle.std.specs.Prelude.{if◌then◌else◌}
+use Rattle.std.proofs.lemmas.List.{length-map, append-nil}
 use Rattle.c_tree.specs.RawTrees.{NameTree, RawStmtTrees}
 use Rattle.c_tree.specs.RawTemporaries.{raw_stmts_temporaries}
-use Rattle.c_tree.specs.Trees.{FunctionTree, ProgramTree}
-use Rattle.c_tree.specs.TextOrder.{Declared, simple_names, simples_names, step_names, stmt_names, stmts_names, counting}
-use Rattle.c_tree.specs.Sizes.{scalars, below, declared_words, sizes_of}
-use Rattle.c_tree.specs.Temporaries.{capped, stmts_temporaries, function_temporaries}
-use Rattle.c_tree.specs.WellScoped.{Signature, signature_of, signature_at, Context, context_of, visible, IsFunctionScoped}
-use Rattle.c_scope.specs.declared.faults.Rule.{Rule}
+use Rattle.c_tree.specs.Trees.{ProgramTree}
+use Rattle.c_tree.specs.TextOrder.{Declared, stmts_names, counting}
+use Rattle.c_tree.specs.Sizes.{scalars, below}
+use Rattle.c_tree.specs.Temporaries.{capped, stmts_temporaries}
+use Rattle.c_tree.specs.WellScoped.{signature_of, Context, context_of, IsFunctionScoped}
 use Rattle.c_scope.specs.declared.meanings.Meaning.{Meaning}
-use Rattle.c_scope.specs.Names.{Binding, find}
+use Rattle.c_scope.specs.Names.{Binding}
 use Rattle.c_scope.specs.Places.{Spot}
-use Rattle.c_scope.specs.Simples.{is_fixed, bound, declare_faults, next_variable, with_variable}
+use Rattle.c_scope.specs.Simples.{next_variable, with_variable}
 use Rattle.c_scope.specs.Statements.{stmts_after, stmts_faults, stmts_of}
-use Rattle.c_scope.specs.Items.{params_faults, params_after, params_spot, body_spot, function_tree_of}
-use Rattle.c_scope.proofs.NoFaults.{both_none}
-use Rattle.c_scope.proofs.Fits.{MeaningFits, AllFit, all_fit_more, all_fit_bound}
+use Rattle.c_scope.specs.Items.{params_after, params_spot, body_spot, function_tree_of}
+use Rattle.c_scope.proofs.Fits.{MeaningFits, AllFit}
 use Rattle.c_scope.proofs.Growth.{Grown, words, variables, stmts_grown}
-use Rattle.c_scope.proofs.Fewer.{IsSix, AreSix, bound_six, stmts_fewer}
+use Rattle.c_scope.proofs.Fewer.{AreSix, bound_six, stmts_fewer}
 use Rattle.c_scope.proofs.ScopedSimples.{IsPrefix, prefix_back, variable_fits}
 use Rattle.c_scope.proofs.ScopedStmts.{stmts_scoped}
 

@@ -1,11 +1,10 @@
 -- From what the code found to what the source is.
-use Rattle.std.proofs.Common.{ℕ, ◌≡◌, refl, sym, ap, subst, ◌∙◌, Bool, true, false, List, [], ◌∷◌, Option, Some, None}
+use Rattle.std.proofs.Common.{ℕ, ◌≡◌, refl, sym, ap, subst, ◌∙◌, true, List, [], Option, Some, None}
 use Rattle.std.specs.Prelude.{codes}
 use Rattle.cap_word.specs.declared.limits.Which.{Which}
-use Rattle.c_tree.specs.declared.facts.GlobalFact.{GlobalFact}
 use Rattle.c_tree.specs.RawTrees.{RawItemTree}
 use Rattle.c_tree.specs.RawTemporaries.{AreWithinTemporaries}
-use Rattle.c_tree.specs.Trees.{FunctionTree, ProgramTree}
+use Rattle.c_tree.specs.Trees.{ProgramTree}
 use Rattle.c_tree.specs.WellScoped.{IsWellScoped}
 use Rattle.c_scope.specs.declared.faults.Fault.{Fault}
 use Rattle.c_scope.specs.declared.meanings.Found.{Found}
@@ -13,8 +12,7 @@ use Rattle.c_scope.specs.declared.errors.ScopeError.{ScopeError}
 use Rattle.c_scope.specs.Names.{Binding, find}
 use Rattle.c_scope.specs.Meanings.{function_of}
 use Rattle.c_scope.specs.Faults.{least_of}
-use Rattle.c_scope.specs.Places.{Spot}
-use Rattle.c_scope.specs.Items.{Sofar, definitions, is_missing, faults_of, parts_of, program_of, has_main}
+use Rattle.c_scope.specs.Items.{Sofar, definitions, faults_of, parts_of, program_of, has_main}
 use Rattle.c_scope.specs.Limits.{exceeded}
 use Rattle.c_scope.specs.Outcomes.{IsResolved, IsRefused}
 use Rattle.c_scope.proofs.LeastFaults.{none_is_none}

@@ -1,20 +1,19 @@
 -- A call or a right side that breaks no rule is well scoped, with numbers for names.
-use Rattle.std.proofs.Common.{ℕ, suc, ◌≡◌, ◌<◌, ◌≤◌, refl, sym, ap, ◌∙◌, Bool, true, false, not, List, [], ◌∷◌, ◌++◌, length, Option, Some, None, arith}
+use Rattle.std.proofs.Common.{ℕ, ◌≡◌, ◌<◌, refl, sym, ◌∙◌, Bool, true, false, not, List, [], ◌∷◌, ◌++◌, length, Option, Some, None, arith}
 use Rattle.std.specs.Prelude.{nat_eq, ◌||◌, ◌&&◌}
 use Rattle.std.proofs.lemmas.List.{length-map}
 use Rattle.c_tree.specs.Modelled.{parameters_of, gives_result}
 use Rattle.c_tree.specs.RawTrees.{NameTree, RawExprTree, RawNumber, RawName, RawElement, RawUnary, RawParenthesized, RawBinary, RawLogicalAnd, RawLogicalOr, RawConditional, RawCall, RawTableCall}
-use Rattle.c_tree.specs.Trees.{ExprTree, CallTree, CallFunction, CallTable, CallSpawn, CallModelled}
-use Rattle.c_tree.specs.WellScoped.{Context, signature_at, IsExprScoped, AreExprsScoped, IsCallScoped, call_gives, IsRightScoped}
+use Rattle.c_tree.specs.WellScoped.{Context, signature_at, IsCallScoped, call_gives, IsRightScoped}
 use Rattle.c_scope.specs.declared.faults.Rule.{Rule}
 use Rattle.c_scope.specs.declared.meanings.Meaning.{Meaning}
 use Rattle.c_scope.specs.declared.meanings.Found.{Found}
 use Rattle.c_scope.specs.Names.{Binding, find}
 use Rattle.c_scope.specs.Faults.{broken}
-use Rattle.c_scope.specs.Meanings.{is_callable, is_table, is_spawnable, is_void, takes, is_wrong_count, function_in, function_of, table_in, table_of, callee_in, callee_of}
-use Rattle.c_scope.specs.Expressions.{expr_faults, exprs_faults, listed, expr_of, exprs_of}
+use Rattle.c_scope.specs.Meanings.{is_callable, is_table, is_spawnable, is_void, takes, is_wrong_count, function_in, table_in, table_of, callee_in, callee_of}
+use Rattle.c_scope.specs.Expressions.{expr_faults, exprs_faults, listed, expr_of}
 use Rattle.c_scope.specs.Calls.{call_name_faults, table_name_faults, spawned_faults, spawn_faults, arguments_faults, call_faults, table_call_faults, right_faults, spawned_function, spawn_of, call_by, call_of, table_call_of, right_of}
-use Rattle.c_scope.proofs.NoFaults.{both_none, not_broken, not_false, neither, same_number, Used, used}
+use Rattle.c_scope.proofs.NoFaults.{both_none, not_broken, not_false, same_number, Used, used}
 use Rattle.c_scope.proofs.Fits.{MeaningFits, AllFit, find_fits}
 use Rattle.c_scope.proofs.ScopedExprs.{expr_scoped, exprs_scoped}
 

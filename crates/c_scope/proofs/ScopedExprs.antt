@@ -1,5 +1,5 @@
 -- An expression that breaks no rule is well scoped, with numbers for names.
-use Rattle.std.proofs.Common.{ℕ, ◌≡◌, ◌<◌, ◌%◌, ◌^◌, refl, Bool, true, false, List, [], ◌∷◌, ◌++◌, arith}
+use Rattle.std.proofs.Common.{ℕ, ◌≡◌, ◌<◌, ◌%◌, ◌^◌, refl, true, false, List, [], ◌∷◌, ◌++◌, arith}
 use Rattle.c_tree.specs.RawTrees.{NameTree, RawExprTree, RawNumber, RawName, RawElement, RawUnary, RawParenthesized, RawBinary, RawLogicalAnd, RawLogicalOr, RawConditional, RawCall, RawTableCall}
 use Rattle.c_tree.specs.Trees.{ExprTree}
 use Rattle.c_tree.specs.WellScoped.{Context, IsExprScoped, AreExprsScoped}

@@ -1,18 +1,16 @@
 -- Declarations, assignments and calls that break no rule are well scoped, with numbers for names.
-use Rattle.std.proofs.Common.{ℕ, suc, ◌≡◌, ◌<◌, ◌≤◌, ◌+◌, refl, sym, ap, subst, ◌∙◌, Bool, true, false, not, List, [], ◌∷◌, ◌++◌, length, length-append, append_assoc, get_or, Option, Some, None, arith, min}
+use Rattle.std.proofs.Common.{ℕ, ◌≡◌, ◌<◌, ◌≤◌, ◌+◌, refl, ap, ◌∙◌, Bool, true, false, List, [], ◌∷◌, ◌++◌, length, length-append, append_assoc, get_or, arith}
 use Rattle.std.specs.Prelude.{slice_index, IsTrue, eqb, nat_lt, ◌||◌}
-use Rattle.std.proofs.Math.ListN.{get_or-append}
 use Rattle.std.proofs.lemmas.Bool.Decides.{nat_tests}
-use Rattle.c_tree.specs.RawTrees.{NameTree, RawExprTree, RawSimpleTree, RawDeclareScalar, RawDeclareArray, RawDeclareWith, RawSet, RawSetElement, RawCalling, RawTableCalling}
-use Rattle.c_tree.specs.Trees.{ExprTree, RightTree, SimpleTree}
+use Rattle.c_tree.specs.RawTrees.{NameTree, RawSimpleTree, RawDeclareScalar, RawDeclareArray, RawDeclareWith, RawSet, RawSetElement, RawCalling, RawTableCalling}
+use Rattle.c_tree.specs.Trees.{ExprTree, RightTree}
 use Rattle.c_tree.specs.TextOrder.{simple_names}
 use Rattle.c_tree.specs.Temporaries.{capped}
 use Rattle.c_tree.specs.WellScoped.{Context, visible, IsExprScoped, IsRightScoped, IsSimpleScoped, AreSimplesScoped, with_names, scope_after_all}
 use Rattle.c_scope.specs.declared.faults.Rule.{Rule}
 use Rattle.c_scope.specs.declared.meanings.Meaning.{Meaning}
 use Rattle.c_scope.specs.declared.meanings.Variable.{Variable}
-use Rattle.c_scope.specs.Names.{Binding, find}
-use Rattle.c_scope.specs.Faults.{broken}
+use Rattle.c_scope.specs.Names.{find}
 use Rattle.c_scope.specs.Meanings.{is_scalar, is_array, variable_in, variable_of}
 use Rattle.c_scope.specs.Expressions.{scalar_faults, array_faults, expr_faults, listed, expr_of}
 use Rattle.c_scope.specs.Calls.{right_faults, right_of, right_after}
@@ -22,7 +20,7 @@ use Rattle.c_scope.proofs.NoFaults.{both_none, not_broken, neither, not_less, Us
 use Rattle.c_scope.proofs.Fits.{MeaningFits, AllFit, find_fits, all_fit_more, all_fit_bound}
 use Rattle.c_scope.proofs.ScopedExprs.{expr_scoped}
 use Rattle.c_scope.proofs.ScopedCalls.{call_scoped, table_call_scoped, right_scoped}
-use Rattle.c_scope.proofs.Growth.{Grown, words, simple_grown, simples_grown}
+use Rattle.c_scope.proofs.Growth.{simples_grown}
 
 abbrev pub IsPrefix : List ℕ → List ℕ → Type 0
 IsPrefix some all = (rest : List ℕ) × (all ≡ some ++ rest)

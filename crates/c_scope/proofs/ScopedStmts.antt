@@ -1,25 +1,24 @@
 -- Statements that break no rule are well scoped, with numbers for names.
-use Rattle.std.proofs.Common.{ℕ, ◌≡◌, ◌≤◌, refl, sym, ap, ◌∙◌, Bool, true, false, not, List, [], ◌∷◌, ◌++◌, length, Option, Some, None, arith}
+use Rattle.std.proofs.Common.{ℕ, ◌≡◌, ◌≤◌, refl, ap, Bool, true, false, not, List, [], ◌++◌, length, Option, Some, None}
 use Rattle.std.specs.Prelude.{IsTrue, option_map}
-use Rattle.c_tree.specs.RawTrees.{NameTree, RawExprTree, RawSimpleTree, RawDeclareScalar, RawDeclareArray, RawDeclareWith, RawSet, RawSetElement, RawCalling, RawTableCalling, RawStmtTree, RawStmtTrees, RawDo, RawEmpty, RawBlock, RawIf, RawIfElse, RawWhile, RawFor, RawBreak, RawContinue, RawReturn, NoRawStmts, RawThen}
+use Rattle.c_tree.specs.RawTrees.{RawExprTree, RawSimpleTree, RawDeclareScalar, RawDeclareArray, RawDeclareWith, RawSet, RawSetElement, RawCalling, RawTableCalling, RawStmtTree, RawStmtTrees, RawDo, RawEmpty, RawBlock, RawIf, RawIfElse, RawWhile, RawFor, RawBreak, RawContinue, RawReturn, NoRawStmts, RawThen}
 use Rattle.c_tree.specs.TextOrder.{simple_names}
-use Rattle.c_tree.specs.WellScoped.{Context, with_names, scope_after, scope_after_all, IsSimpleScoped, AreSimplesScoped, IsConditionScoped, IsStepScoped, IsReturnScoped, IsStmtScoped, AreStmtsScoped}
+use Rattle.c_tree.specs.WellScoped.{Context, with_names, scope_after, scope_after_all, IsConditionScoped, IsStepScoped, IsReturnScoped, IsStmtScoped, AreStmtsScoped}
 use Rattle.c_scope.specs.declared.faults.Rule.{Rule}
-use Rattle.c_scope.specs.declared.meanings.Variable.{Variable}
 use Rattle.c_scope.specs.Names.{Binding, find}
 use Rattle.c_scope.specs.Faults.{broken}
 use Rattle.c_scope.specs.Meanings.{variable_of}
 use Rattle.c_scope.specs.Expressions.{expr_faults, expr_of}
 use Rattle.c_scope.specs.Calls.{right_faults, right_of}
 use Rattle.c_scope.specs.Places.{Spot}
-use Rattle.c_scope.specs.Simples.{simple_faults, simple_of, simple_after, simples_faults, simples_of, simples_after, set_scalar, set_element}
-use Rattle.c_scope.specs.Statements.{inside, left, condition_faults, step_kind, step_faults, step_after, return_faults, returned_of, returned_after, stmt_after, stmts_after, stmt_faults, stmts_faults, stmt_of, stmts_of}
+use Rattle.c_scope.specs.Simples.{simple_faults, simple_of, simples_faults, simples_of, simples_after}
+use Rattle.c_scope.specs.Statements.{inside, left, condition_faults, step_kind, step_faults, step_after, return_faults, returned_of, stmt_after, stmts_after, stmt_faults, stmts_faults, stmt_of, stmts_of}
 use Rattle.c_scope.proofs.NoFaults.{both_none, not_broken, not_false}
 use Rattle.c_scope.proofs.Fits.{AllFit}
 use Rattle.c_scope.proofs.ScopedExprs.{expr_scoped}
 use Rattle.c_scope.proofs.ScopedCalls.{right_scoped}
 use Rattle.c_scope.proofs.ScopedSimples.{IsPrefix, prefix_back, simple_scoped, simple_fits, simples_scoped, simples_fits}
-use Rattle.c_scope.proofs.Growth.{Grown, step_grown, stmt_grown, stmts_grown, set_scalar_names, set_element_names}
+use Rattle.c_scope.proofs.Growth.{step_grown, stmt_grown, stmts_grown, set_scalar_names, set_element_names}
 
 loop_true : (b : Bool) (at : ℕ) → broken (not b) at Rule.Kind ≡ [] → IsTrue b
 loop_true true at h = refl

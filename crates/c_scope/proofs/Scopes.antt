@@ -1,5 +1,5 @@
 -- What is in scope after a statement is what was in scope before it, and more names.
-use Rattle.std.proofs.Common.{◌≡◌, ◌+◌, ◌-◌, ℕ, refl, sym, ap, ◌∙◌, Bool, true, false, List, [], ◌∷◌, ◌++◌, length, drop, length-append, append_assoc, arith, Option, Some, None}
+use Rattle.std.proofs.Common.{◌≡◌, ◌-◌, ℕ, refl, sym, ap, ◌∙◌, Bool, true, false, List, [], ◌∷◌, ◌++◌, length, drop, length-append, append_assoc, arith, Option, Some, None}
 use Rattle.std.specs.Prelude.{if◌then◌else◌}
 use Rattle.c_scope.specs.Items.{param_bound}
 use Rattle.c_tree.specs.RawTrees.{NameTree, RawExprTree, RawSimpleTree, RawDeclareScalar, RawDeclareArray, RawDeclareWith, RawSet, RawSetElement, RawCalling, RawTableCalling, RawStmtTree, RawStmtTrees, RawDo, RawEmpty, RawBlock, RawIf, RawIfElse, RawWhile, RawFor, RawBreak, RawContinue, RawReturn, NoRawStmts, RawThen}
@@ -7,7 +7,7 @@ use Rattle.c_scope.specs.declared.meanings.Meaning.{Meaning}
 use Rattle.c_scope.specs.Names.{Binding, find}
 use Rattle.c_scope.specs.Places.{Spot}
 use Rattle.c_scope.specs.Simples.{is_fixed, bound, simple_after, simples_after}
-use Rattle.c_scope.specs.Statements.{inside, left, step_after, returned_after, stmt_after, stmts_after}
+use Rattle.c_scope.specs.Statements.{left, step_after, returned_after, stmt_after, stmts_after}
 
 abbrev pub Extends : List Binding → List Binding → Type 0
 Extends long short = (more : List Binding) × (long ≡ more ++ short)

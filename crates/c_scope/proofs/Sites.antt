@@ -1,5 +1,5 @@
 -- The calls of a program are numbered in the order of the text.
-use Rattle.std.proofs.Common.{ℕ, ◌≡◌, ◌≤◌, ◌+◌, refl, sym, ap, subst, ◌∙◌, List, [], ◌∷◌, ◌++◌, append_assoc, length, length-append, map, arith, min}
+use Rattle.std.proofs.Common.{ℕ, ◌≡◌, ◌≤◌, ◌+◌, refl, sym, ap, subst, ◌∙◌, List, [], ◌∷◌, ◌++◌, append_assoc, length, length-append, arith}
 use Rattle.std.proofs.lemmas.List.{map-append, length-map, append-nil}
 use Rattle.c_tree.specs.declared.facts.Site.{Site}
 use Rattle.c_tree.specs.RawTrees.{RawItemTree, RawGlobal, RawGlobalArray, RawTableItem, RawPrototypeItem, RawFunctionItem}

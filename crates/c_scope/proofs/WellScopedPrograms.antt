@@ -1,25 +1,21 @@
 -- A source that breaks no rule, defines main and exceeds no limit is a well-scoped program.
-use Rattle.std.proofs.Common.{ℕ, ◌≡◌, ◌<◌, ◌≤◌, ◌+◌, refl, sym, ap, subst, ◌∙◌, Bool, true, false, not, List, [], ◌∷◌, length, map, sum, Option, Some, None, arith, min}
+use Rattle.std.proofs.Common.{◌≡◌, ◌<◌, ◌≤◌, refl, ap, ◌∙◌, Bool, true, false, not, List, [], length, map, None, arith}
 use Rattle.std.specs.Prelude.{codes}
 use Rattle.std.specs.List.{AllByRecursion}
 use Rattle.std.proofs.lemmas.List.{length-map}
-use Rattle.c_tree.specs.declared.facts.Site.{Site}
 use Rattle.c_tree.specs.RawTrees.{RawItemTree}
 use Rattle.c_tree.specs.RawTemporaries.{AreWithinTemporaries}
-use Rattle.c_tree.specs.Trees.{ProgramTree}
-use Rattle.c_tree.specs.TextOrder.{program_sites, functions_sites}
+use Rattle.c_tree.specs.TextOrder.{program_sites}
 use Rattle.c_tree.specs.Temporaries.{capped}
 use Rattle.c_tree.specs.WellScoped.{signature_of, signature_at, IsWellScoped}
 use Rattle.c_tree.proofs.SiteNumbers.{counting_site_numbers}
-use Rattle.c_scope.specs.declared.meanings.Found.{Found}
-use Rattle.c_scope.specs.Names.{Binding, find}
-use Rattle.c_scope.specs.Meanings.{function_in, function_of}
-use Rattle.c_scope.specs.Items.{Sofar, modelled_names, definitions, at_start, is_missing, faults_of, parts_of, program_of, has_main}
+use Rattle.c_scope.specs.Names.{find}
+use Rattle.c_scope.specs.Meanings.{function_in}
+use Rattle.c_scope.specs.Items.{definitions, at_start, is_missing, faults_of, parts_of, program_of, has_main}
 use Rattle.c_scope.specs.Limits.{exceeded}
-use Rattle.c_scope.proofs.NoFaults.{not_false}
 use Rattle.c_scope.proofs.Growth.{numbers}
 use Rattle.c_scope.proofs.Definitions.{signatures_of, AreDefinitions, IsDefinedAs, definitions_are, find_definition, signatures_length, items_signatures}
-use Rattle.c_scope.proofs.Agreement.{AreBacked, IsSigned, all_backed}
+use Rattle.c_scope.proofs.Agreement.{AreBacked, all_backed}
 use Rattle.c_scope.proofs.WithinLimits.{AreWithin, within}
 use Rattle.c_scope.proofs.Lengthening.{HasWord, HasMember, items_positive, globals_few, tables_few}
 use Rattle.c_scope.proofs.Sites.{AreNumbered, all_numbered}

@@ -1,11 +1,11 @@
 -- What the limits say of each part of a program.
-use Rattle.std.proofs.Common.{ℕ, zero, suc, ◌≡◌, ◌<◌, ◌≤◌, ◌+◌, refl, sym, ap, ◌∙◌, Bool, true, false, List, [], ◌∷◌, ◌++◌, length, get_or, map, sum, Option, Some, None, arith, max}
+use Rattle.std.proofs.Common.{ℕ, zero, suc, ◌≡◌, ◌≤◌, refl, Bool, true, false, List, [], ◌∷◌, ◌++◌, length, map, sum, Option, Some, None, arith}
 use Rattle.std.specs.Prelude.{nat_lt, if◌then◌else◌}
 use Rattle.cap_word.specs.declared.limits.Which.{Which}
 use Rattle.c_tree.specs.Trees.{FunctionTree, ProgramTree}
 use Rattle.c_tree.specs.Sizes.{declared_words}
 use Rattle.c_tree.specs.TextOrder.{program_sites}
-use Rattle.c_tree.specs.WellScoped.{Signature, signature_of, signature_at}
+use Rattle.c_tree.specs.WellScoped.{signature_of, signature_at}
 use Rattle.c_scope.specs.Limits.{most_locals, most_params, exceeded}
 use Rattle.c_scope.proofs.NoFaults.{not_less}
 

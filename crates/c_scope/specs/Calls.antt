@@ -1,11 +1,10 @@
 -- Calls, and right sides, which may be calls: the rules that they break, and what they are with numbers for names.
-use Rattle.std.specs.Prelude.{ℕ, ◌+◌, Bool, true, false, not, ◌||◌, ◌&&◌, List, [], ◌∷◌, ◌++◌, length, Option, Some, None}
-use Rattle.c_tree.specs.RawTrees.{NameTree, RawExprTree, RawNumber, RawName, RawElement, RawUnary, RawParenthesized, RawBinary, RawLogicalAnd, RawLogicalOr, RawConditional, RawCall, RawTableCall}
+use Rattle.std.specs.Prelude.{ℕ, ◌+◌, Bool, true, not, ◌||◌, ◌&&◌, List, [], ◌∷◌, ◌++◌, length, Option, Some, None}
+use Rattle.c_tree.specs.RawTrees.{NameTree, RawExprTree, RawName, RawCall, RawTableCall}
 use Rattle.c_tree.specs.Trees.{ExprTree, Number, CallTree, CallFunction, CallTable, CallSpawn, CallModelled, RightTree, Computed, Called}
 use Rattle.c_tree.specs.Temporaries.{capped}
 use Rattle.c_scope.specs.declared.faults.Rule.{Rule}
 use Rattle.c_scope.specs.declared.faults.Fault.{Fault}
-use Rattle.c_scope.specs.declared.meanings.Meaning.{Meaning}
 use Rattle.c_scope.specs.declared.meanings.Callee.{Callee}
 use Rattle.c_scope.specs.declared.meanings.Found.{Found}
 use Rattle.c_scope.specs.Names.{Binding, find}

@@ -1,5 +1,5 @@
 -- Expressions: the rules that their names break, and what they are with numbers for names.
-use Rattle.std.specs.Prelude.{ℕ, ◌^◌, ◌%◌, Bool, true, false, not, List, [], ◌∷◌, ◌++◌, length, map, Option, Some, None}
+use Rattle.std.specs.Prelude.{ℕ, ◌^◌, ◌%◌, Bool, not, List, [], ◌∷◌, ◌++◌, map, Option, Some, None}
 use Rattle.c_tree.specs.RawTrees.{NameTree, RawExprTree, RawExprTrees, RawNumber, RawName, RawElement, RawUnary, RawParenthesized, RawBinary, RawLogicalAnd, RawLogicalOr, RawConditional, RawCall, RawTableCall, NoExprs, And}
 use Rattle.c_tree.specs.Trees.{ExprTree, Number, Local, Global, LocalElement, GlobalElement, Unary, Parenthesized, Binary, LogicalAnd, LogicalOr, Conditional}
 use Rattle.c_scope.specs.declared.faults.Rule.{Rule}

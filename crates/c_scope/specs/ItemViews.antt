@@ -1,5 +1,5 @@
 -- What the code's items stand for.
-use Rattle.std.specs.Prelude.{◌≡◌, List, map}
+use Rattle.std.specs.Prelude.{◌≡◌, map}
 use Rattle.c_tree.specs.Views.{function_tree, table_row}
 use Rattle.c_scope.specs.declared.items.Items.{Items}
 use Rattle.c_scope.specs.Places.{spot_of}

@@ -1,5 +1,5 @@
 -- What a source declares and defines outside functions: the rules that it breaks, and the program that it is.
-use Rattle.std.specs.Prelude.{ℕ, Bool, true, false, not, ◌||◌, ◌&&◌, nat_eq, nat_lt, List, [], ◌∷◌, ◌++◌, length, map, Option, Some, None, if◌then◌else◌, codes}
+use Rattle.std.specs.Prelude.{ℕ, Bool, true, false, not, ◌||◌, ◌&&◌, nat_eq, List, [], ◌∷◌, ◌++◌, length, Option, Some, None, codes}
 use Rattle.std.specs.Str.{bytes_eq}
 use Rattle.c_tree.specs.declared.operators.ModelledCall.{ModelledCall}
 use Rattle.c_tree.specs.declared.facts.GlobalFact.{GlobalFact}

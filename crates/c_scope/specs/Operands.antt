@@ -1,6 +1,6 @@
 -- Operators one after another, as the code has them: the rules that the operands break, and what they are with numbers
 -- for names.
-use Rattle.std.specs.Prelude.{List, [], ◌∷◌, ◌++◌, map}
+use Rattle.std.specs.Prelude.{List, [], ◌∷◌, ◌++◌}
 use Rattle.c_tree.specs.declared.operators.Infix.{Infix}
 use Rattle.c_tree.specs.declared.expressions.Expr.{Expr}
 use Rattle.c_tree.specs.declared.raw_expressions.RawExpr.{RawExpr}

@@ -1,5 +1,5 @@
 -- Where a statement stands: what is in scope there, and the numbers that come next.
-use Rattle.std.specs.Prelude.{ℕ, List, length}
+use Rattle.std.specs.Prelude.{ℕ, List}
 use Rattle.c_scope.specs.Names.{Binding}
 use Rattle.c_scope.specs.Calls.{next}
 use Rattle.c_scope.specs.declared.places.Place.{Place}

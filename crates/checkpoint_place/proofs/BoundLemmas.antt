@@ -15,7 +15,7 @@ use Rattle.checkpoint_place.specs.Placement.{callee_bound, is_within, bound_over
 
 -- ---- a bound hangs only on the bounds of the callees
 
-greatest-agree : (p q : ℕ → ℕ) (cs : List ℕ) → AllByRecursion (λ c. p c ≡ q c) cs → greatest p cs ≡ greatest q cs
+pub greatest-agree : (p q : ℕ → ℕ) (cs : List ℕ) → AllByRecursion (λ c. p c ≡ q c) cs → greatest p cs ≡ greatest q cs
 greatest-agree p q [] same = refl
 greatest-agree p q (c ∷ cs) same = rw (same.0, greatest-agree p q cs same.1) refl
 
@@ -47,7 +47,7 @@ calls-within graph back (x ∷ xs) f up h =
     weaker graph back xs (x ∷ xs) f (λ c. has-tail c x xs)
     (has-cases f x xs h (λ e. subst (CallsOnly graph back xs) e up.0) (λ rest. calls-within graph back xs f up.1 rest))
 
-reverse-more : (order : List ℕ) (i : ℕ) → i < length order → reverse (take (i + 1) order) ≡ get_or order i 0 ∷ reverse (take i order)
+pub reverse-more : (order : List ℕ) (i : ℕ) → i < length order → reverse (take (i + 1) order) ≡ get_or order i 0 ∷ reverse (take i order)
 reverse-more order i within = ap reverse (take_more order i 0 within) ∙ reverse-append (take i order) (get_or order i 0 ∷ [])
 
 pub up-front : (graph : CallGraphState) (back order : List ℕ) (i : ℕ) → IsBottomUp graph back (reverse order) → IsBottomUp graph back (reverse (take i order))
@@ -73,6 +73,22 @@ module _ (graph : CallGraphState) (back : List ℕ) (max_path : ℕ) where
       (all-map (λ s. AllByRecursion (λ c. has c others ≡ true) (callees graph.tables s.target)) (λ s. AllByRecursion (λ c. p c ≡ q c) (callees graph.tables s.target))
       (λ s all. all-map (λ c. has c others ≡ true) (λ c. p c ≡ q c) same (callees graph.tables s.target) all) (sites_of graph.sites back f) calls))
 
+  -- what is written for the next function changes no bound that there is
+  pub bounds-kept : (order bounds : List ℕ) (i value : ℕ) → get_or order i 0 < length bounds →
+      AreBound (reverse (take i order)) bounds → value ≡ bound_by (slice_index bounds) (get_or order i 0) →
+      (c : ℕ) → has c (reverse (take i order)) ≡ true → get_or bounds c 0 ≡ get_or (set bounds (get_or order i 0) value) c 0
+  bounds-kept order bounds i value below bound is c h =
+      let f = get_or order i 0 in
+      by_eq c f
+      (λ same. let was : has f (reverse (take i order)) ≡ true = rw (← same) h in rw same (bound f was ∙ sym is ∙ sym (get_or-set_same bounds f value 0 below)))
+      (λ ne. sym (get_or-set_other bounds f c value 0 ne))
+
+  -- the next function calls only functions that have their bounds
+  pub next-calls : (order : List ℕ) (i : ℕ) → i < length order → IsBottomUp graph back (reverse order) → CallsOnly graph back (reverse (take i order)) (get_or order i 0)
+  next-calls order i within up =
+      let more : IsBottomUp graph back (get_or order i 0 ∷ reverse (take i order)) = subst (IsBottomUp graph back) (reverse-more order i within) (up-front graph back order (i + 1) up) in
+      more.0
+
   -- the bound of the next function is written
   pub AreBound-more : (order bounds : List ℕ) (i value : ℕ) → i < length order → get_or order i 0 < length bounds → IsBottomUp graph back (reverse order) →
       AreBound (reverse (take i order)) bounds → value ≡ bound_by (slice_index bounds) (get_or order i 0) →
@@ -82,10 +98,7 @@ module _ (graph : CallGraphState) (back : List ℕ) (max_path : ℕ) where
       let done = reverse (take i order) in
       let new = set bounds f value in
       let up_more : IsBottomUp graph back (f ∷ done) = subst (IsBottomUp graph back) (reverse-more order i within) (up-front graph back order (i + 1) up) in
-      let kept : (c : ℕ) → has c done ≡ true → get_or bounds c 0 ≡ get_or new c 0 =
-      λ c h. by_eq c f
-      (λ same. let was : has f done ≡ true = rw (← same) h in rw same (bound f was ∙ sym is ∙ sym (get_or-set_same bounds f value 0 below)))
-      (λ ne. sym (get_or-set_other bounds f c value 0 ne)) in
+      let kept : (c : ℕ) → has c done ≡ true → get_or bounds c 0 ≡ get_or new c 0 = bounds-kept order bounds i value below bound is in
       λ g h.
       has-cases g f done (subst (λ l. has g l ≡ true) (reverse-more order i within) h)
       (λ same. subst (λ n. get_or new n 0 ≡ bound_by (slice_index new) n) same

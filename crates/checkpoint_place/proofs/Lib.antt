@@ -1,3 +1,4 @@
 pub mod BoundLemmas
+pub mod KnownLemmas
 pub mod PlanLemmas
 pub mod WeightLemmas

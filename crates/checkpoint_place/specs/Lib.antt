@@ -1,3 +1,4 @@
+pub mod KnownTables
 pub mod Placement
 pub mod Refusal
 pub mod Weights

@@ -1,9 +1,10 @@
-ghost use Rattle.std.specs.Prelude.{◌≡◌, ◌≤◌, ◌<◌, ℕ, true, length, reverse, vec_len, slice_index, IfOk};
+ghost use Rattle.std.specs.Prelude.{◌≡◌, ◌≤◌, ◌<◌, ℕ, List, true, length, reverse, vec_len, slice_index, IfOk};
 ghost use Rattle.std.specs.List.{AllByRecursion};
 ghost use Rattle.call_graph.specs.Graph.{IsSiteOf, function_count};
 ghost use Rattle.call_graph.specs.Index.{IsIndex, sites_of};
 ghost use Rattle.call_graph.specs.Lists.{has};
 ghost use Rattle.cycle_break.specs.BottomUp.{IsBottomUp};
+ghost use Rattle.checkpoint_place.specs.KnownTables.{AreKnownAmong, CallAmong, IsKnown};
 ghost use Rattle.checkpoint_place.specs.Placement.{bound_over};
 
 use crate::callee_bounds::callee_bound;
@@ -17,20 +18,24 @@ pub(crate) fn bound_of(
     tables: &[Callees],
     index: &CallerIndex<'_>,
     bounds: &[u32],
+    known: &mut [Option<u32>],
     max_path: u32,
 ) -> u32
     requires function { function < length bounds.now }
     requires weight { weight ≤ max_path }
     requires sites { AllByRecursion (IsSiteOf (length bounds.now) tables.now) index.now.sites.now }
     requires index { IsIndex index.now.sites.now index.now.without.now (length bounds.now) index.now.first.items index.now.next.items }
+    requires known { IsKnown tables.now (slice_index bounds.now) known.old }
     ensures bound { result ≡ bound_over tables.now (slice_index bounds.now) max_path weight (sites_of index.now.sites.now index.now.without.now function) }
     ensures most { result ≤ max_path }
+    ensures known { IsKnown tables.now (slice_index bounds.now) known.new }
+    ensures among { (others : List ℕ) → AreKnownAmong tables.now others known.old → CallAmong tables.now others (sites_of index.now.sites.now index.now.without.now function) → AreKnownAmong tables.now others known.new }
 {
     let room = max_path - weight;
     let mut most = 0;
     let mut place = index.first[function as usize];
     while place < index.sites.len() {
-        let below = callee_bound(index.sites[place].target, tables, bounds);
+        let below = callee_bound(index.sites[place].target, tables, bounds, known);
         if below <= room {
             most = most.max(below);
         }
@@ -58,6 +63,8 @@ pub(crate) fn bounds_of(
 {
     let weights = graph.weights();
     let tables = graph.tables();
+    let mut greatest = vec![in alloc; None; tables.len()]?;
+    let known = greatest.as_mut_slice();
     let mut bounds = vec![in alloc; 0; weights.len()]?;
     for function in order {
         let function = *function;
@@ -68,6 +75,7 @@ pub(crate) fn bounds_of(
             tables,
             index,
             bounds.as_slice(),
+            known,
             max_path,
         );
     }

@@ -1,7 +1,8 @@
-ghost use Rattle.std.specs.Prelude.{◌≡◌, ◌<◌, length, map, slice_index, IfOk};
-ghost use Rattle.std.specs.List.{AllByRecursion};
+ghost use Rattle.std.specs.Prelude.{◌≡◌, ◌<◌, ℕ, List, [], length, map, slice_index, IfOk};
+ghost use Rattle.std.specs.List.{AllByRecursion, slice_index_or};
 ghost use Rattle.call_graph.specs.Callees.{callees, greatest};
 ghost use Rattle.call_graph.specs.Graph.{IsTargetOf};
+ghost use Rattle.checkpoint_place.specs.KnownTables.{AreAmong, AreKnownAmong, IsKnown};
 
 use call_graph::{Callees, Target};
 use std::alloc::{AllocError, Global};
@@ -18,14 +19,39 @@ fn greatest_of(functions: &[u32], bounds: &[u32]) -> u32
     most
 }
 
-/// The greatest bound of what a call may enter.
-pub(crate) fn callee_bound(target: Target, tables: &[Callees], bounds: &[u32]) -> u32
-    requires { IsTargetOf (length bounds.now) tables.now target }
-    ensures { result ≡ greatest (slice_index bounds.now) (callees tables.now target) }
+/// The greatest bound of a table's members, which are looked at only where it isn't known.
+fn table_bound(table: usize, tables: &[Callees], bounds: &[u32], known: &mut [Option<u32>]) -> u32
+    requires table { table < length tables.now }
+    requires members { AllByRecursion (λ f. f < length bounds.now) (slice_index_or tables.now table []) }
+    requires known { IsKnown tables.now (slice_index bounds.now) known.old }
+    ensures greatest { result ≡ greatest (slice_index bounds.now) (slice_index_or tables.now table []) }
+    ensures known { IsKnown tables.now (slice_index bounds.now) known.new }
+    ensures among { (others : List ℕ) → AreKnownAmong tables.now others known.old → AreAmong others (slice_index_or tables.now table []) → AreKnownAmong tables.now others known.new }
+{
+    if let Some(most) = known[table] {
+        return most;
+    }
+    let most = greatest_of(tables[table].as_slice(), bounds);
+    known[table] = Some(most);
+    most
+}
+
+/// The greatest bound of what a call may enter. A table's is then known.
+pub(crate) fn callee_bound(
+    target: Target,
+    tables: &[Callees],
+    bounds: &[u32],
+    known: &mut [Option<u32>],
+) -> u32
+    requires target { IsTargetOf (length bounds.now) tables.now target }
+    requires known { IsKnown tables.now (slice_index bounds.now) known.old }
+    ensures greatest { result ≡ greatest (slice_index bounds.now) (callees tables.now target) }
+    ensures known { IsKnown tables.now (slice_index bounds.now) known.new }
+    ensures among { (others : List ℕ) → AreKnownAmong tables.now others known.old → AreAmong others (callees tables.now target) → AreKnownAmong tables.now others known.new }
 {
     match target {
         Target::Function(function) => bounds[function as usize],
-        Target::Table(table) => greatest_of(tables[table as usize].as_slice(), bounds),
+        Target::Table(table) => table_bound(table as usize, tables, bounds, known),
     }
 }
 

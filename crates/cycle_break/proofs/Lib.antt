@@ -4,5 +4,6 @@ pub mod NumberLemmas
 pub mod OrderLemmas
 pub mod PathLemmas
 pub mod RankLemmas
+pub mod SeenLemmas
 pub mod SiteLemmas
 pub mod WalkLemmas

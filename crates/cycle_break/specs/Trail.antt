@@ -1,5 +1,5 @@
 -- What the walk's code keeps of the functions that were left.
-use Rattle.std.specs.Prelude.{ℕ, ◌≡◌, ◌<◌, ◌+◌, ◌==◌, nat_le, Bool, false, if◌then◌else◌, List, [], ◌∷◌, length}
+use Rattle.std.specs.Prelude.{ℕ, ◌≡◌, ◌<◌, ◌+◌, ◌==◌, nat_le, Bool, true, false, if◌then◌else◌, List, [], ◌∷◌, length}
 use Rattle.std.specs.List.{AllByRecursion, slice_index_or}
 use Rattle.call_graph.specs.Callees.{greatest}
 use Rattle.call_graph.specs.Lists.{has}
@@ -18,6 +18,16 @@ pub record IsMarked (functions : ℕ) (visited : List Bool) (left : List ℕ) : 
   pub each : length visited ≡ functions
   pub marks : (function : ℕ) → function < functions → is_marked visited function ≡ has function left
   pub below : AllByRecursion (λ function. function < functions) left
+
+-- of some functions, those before a place are marked
+abbrev pub AreMarkedBelow : List Bool → List ℕ → ℕ → Type 0
+AreMarkedBelow visited functions end =
+    (place : ℕ) → place < end → place < length functions → is_marked visited (slice_index_or functions place 0) ≡ true
+
+-- of each table, the members before a place are marked
+pub record IsSeen (tables : List (List ℕ)) (visited : List Bool) (seen : List ℕ) : Type 0 where
+  pub each : length seen ≡ length tables
+  pub marks : (table : ℕ) → AreMarkedBelow visited (slice_index_or tables table []) (slice_index_or seen table 0)
 
 -- the place from 1 of a number in a list, or 0 where it isn't there; the list goes on from a place
 abbrev pub place_from : ℕ → ℕ → List ℕ → ℕ

@@ -1,31 +1,55 @@
-ghost use Rattle.std.specs.Prelude.{◌≡◌, ◌<◌, length, not, find};
+ghost use Rattle.std.specs.Prelude.{◌≡◌, ◌<◌, length, not, find, slice_get};
 ghost use Rattle.std.specs.List.{AllByRecursion};
 ghost use Rattle.call_graph.specs.Callees.{callees};
 ghost use Rattle.call_graph.specs.Graph.{IsTargetOf};
-ghost use Rattle.cycle_break.specs.Trail.{is_marked};
+ghost use Rattle.cycle_break.specs.Trail.{AreMarkedBelow, IsSeen, is_marked};
 
 use call_graph::{Callees, Target};
 
-/// The first of these functions that wasn't visited.
-fn first_unmarked(functions: &[u32], visited: &[bool]) -> Option<u32>
-    requires { AllByRecursion (λ f. f < length visited.now) functions.now }
-    ensures { result ≡ find (λ f. not (is_marked visited.now f)) functions.now }
+/// The place of the first of these functions that wasn't visited, or a place behind them. Those before a place
+/// were visited, and aren't looked at.
+fn first_unmarked(functions: &[u32], visited: &[bool], from: usize) -> usize
+    requires below { AllByRecursion (λ f. f < length visited.now) functions.now }
+    requires seen { AreMarkedBelow visited.now functions.now from }
+    ensures seen { AreMarkedBelow visited.now functions.now result }
+    ensures first { slice_get functions.now result ≡ find (λ f. not (is_marked visited.now f)) functions.now }
 {
-    for function in functions {
-        if !visited[*function as usize] {
-            return Some(*function);
-        }
+    let mut place = from;
+    while place < functions.len() && visited[functions[place] as usize] {
+        place += 1;
     }
-    None
+    place
 }
 
-/// The first of a call's callees that wasn't visited.
-pub(crate) fn first_unvisited(target: Target, tables: &[Callees], visited: &[bool]) -> Option<u32>
-    requires { IsTargetOf (length visited.now) tables.now target }
-    ensures { result ≡ find (λ f. not (is_marked visited.now f)) (callees tables.now target) }
+/// The first of a call's callees that wasn't visited. It looks at no member of a table that it has seen visited.
+pub(crate) fn first_unvisited(
+    target: Target,
+    tables: &[Callees],
+    visited: &[bool],
+    seen: &mut [usize],
+) -> Option<u32>
+    requires target { IsTargetOf (length visited.now) tables.now target }
+    requires seen { IsSeen tables.now visited.now seen.old }
+    ensures first { result ≡ find (λ f. not (is_marked visited.now f)) (callees tables.now target) }
+    ensures seen { IsSeen tables.now visited.now seen.new }
 {
     match target {
-        Target::Function(function) => first_unmarked(&[function], visited),
-        Target::Table(table) => first_unmarked(tables[table as usize].as_slice(), visited),
+        Target::Function(function) => {
+            if visited[function as usize] {
+                None
+            } else {
+                Some(function)
+            }
+        }
+        Target::Table(table) => {
+            let members = tables[table as usize].as_slice();
+            let place = first_unmarked(members, visited, seen[table as usize]);
+            seen[table as usize] = place;
+            if place < members.len() {
+                Some(members[place])
+            } else {
+                None
+            }
+        }
     }
 }

@@ -6,7 +6,7 @@ ghost use Rattle.call_graph.specs.Index.{IsIndex};
 ghost use Rattle.call_graph.specs.Lists.{has};
 ghost use Rattle.call_graph.specs.Paths.{BreaksEveryCycle};
 ghost use Rattle.cycle_break.specs.BottomUp.{IsBottomUp};
-ghost use Rattle.cycle_break.specs.Trail.{come, IsMarked};
+ghost use Rattle.cycle_break.specs.Trail.{come, IsMarked, IsSeen};
 ghost use Rattle.cycle_break.specs.Walk.{into_each, walk, whole_walk};
 
 use crate::walking::walk_from;
@@ -20,19 +20,22 @@ fn visit(
     tables: &[Callees],
     function: u32,
     visited: &mut [bool],
+    seen: &mut [usize],
     left: &mut Vec<u32>,
 ) -> Result<(), AllocError>
     requires sites { AllByRecursion (IsSiteOf (length visited.old) tables.now) index.now.sites.now }
     requires index { IsIndex index.now.sites.now index.now.without.now (length visited.old) index.now.first.items index.now.next.items }
     requires function { function < length visited.old }
     requires marks { IsMarked (length visited.old) visited.old (reverse left.old.items) }
+    requires seen { IsSeen tables.now visited.old seen.old }
     ensures order { OnOk result (reverse left.new.items ≡ (into_each (walk tables.now index.now.sites.now index.now.without.now (length visited.old)) [] (function ∷ []) (come (reverse left.old.items))).left) }
     ensures marks { OnOk result (IsMarked (length visited.old) visited.new (reverse left.new.items)) }
+    ensures seen { OnOk result (IsSeen tables.now visited.new seen.new) }
 {
     if visited[function as usize] {
         return Ok(());
     }
-    walk_from(alloc, index, tables, function, visited, left)
+    walk_from(alloc, index, tables, function, visited, seen, left)
 }
 
 /// The functions in the order in which the walk leaves them, where it doesn't take the sites of the numbers
@@ -53,11 +56,29 @@ pub fn leaving_order(
     let index = CallerIndex::new(alloc, functions, graph.sites(), without)?;
     let mut marks = vec![in alloc; false; functions]?;
     let visited = marks.as_mut_slice();
-    let mut left = Vec::new(alloc);
     let tables = graph.tables();
-    visit(alloc, &index, tables, graph.main(), visited, &mut left)?;
+    let mut places = vec![in alloc; 0; tables.len()]?;
+    let seen = places.as_mut_slice();
+    let mut left = Vec::new(alloc);
+    visit(
+        alloc,
+        &index,
+        tables,
+        graph.main(),
+        visited,
+        seen,
+        &mut left,
+    )?;
     for function in 0..functions {
-        visit(alloc, &index, tables, function as u32, visited, &mut left)?;
+        visit(
+            alloc,
+            &index,
+            tables,
+            function as u32,
+            visited,
+            seen,
+            &mut left,
+        )?;
     }
     Ok(left)
 }

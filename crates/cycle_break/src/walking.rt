@@ -2,7 +2,7 @@ ghost use Rattle.std.specs.Prelude.{◌≡◌, ◌<◌, false, [], length, rever
 ghost use Rattle.std.specs.List.{AllByRecursion};
 ghost use Rattle.call_graph.specs.Graph.{IsSiteOf};
 ghost use Rattle.call_graph.specs.Index.{IsIndex};
-ghost use Rattle.cycle_break.specs.Trail.{come, is_marked, IsMarked};
+ghost use Rattle.cycle_break.specs.Trail.{come, is_marked, IsMarked, IsSeen};
 ghost use Rattle.cycle_break.specs.Walk.{walk};
 
 use crate::callees::first_unvisited;
@@ -17,6 +17,7 @@ pub(crate) fn walk_from(
     tables: &[Callees],
     root: u32,
     visited: &mut [bool],
+    seen: &mut [usize],
     left: &mut Vec<u32>,
 ) -> Result<(), AllocError>
     requires sites { AllByRecursion (IsSiteOf (length visited.old) tables.now) index.now.sites.now }
@@ -24,8 +25,10 @@ pub(crate) fn walk_from(
     requires root { root < length visited.old }
     requires unvisited { is_marked visited.old root ≡ false }
     requires marks { IsMarked (length visited.old) visited.old (reverse left.old.items) }
+    requires seen { IsSeen tables.now visited.old seen.old }
     ensures order { OnOk result (reverse left.new.items ≡ (walk tables.now index.now.sites.now index.now.without.now (length visited.old) [] root (come (reverse left.old.items))).left) }
     ensures marks { OnOk result (IsMarked (length visited.old) visited.new (reverse left.new.items)) }
+    ensures seen { OnOk result (IsSeen tables.now visited.new seen.new) }
 {
     let mut path = Path::new(alloc);
     visited[root as usize] = true;
@@ -40,6 +43,7 @@ pub(crate) fn walk_from(
             index.sites[frame.place].target,
             tables,
             visited,
+            seen,
         ) {
             path.enter(frame)?;
             visited[callee as usize] = true;

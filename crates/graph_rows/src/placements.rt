@@ -31,10 +31,9 @@ fn expect(
     bounds: &[u32],
 ) -> Result<(), Fail> {
     let found = back_edges(alloc, graph)?;
-    assert_eq!(rt; found.as_slice(), back);
+    assert!(rt; found.as_slice() == back);
     let plan = place(alloc, graph, found.as_slice(), max_path)?;
-    assert_eq!(rt; plan.checkpointed.as_slice(), checkpointed);
-    assert_eq!(rt; plan.bounds.as_slice(), bounds);
+    assert!(rt; plan.checkpointed.as_slice() == checkpointed && plan.bounds.as_slice() == bounds);
     Ok(())
 }
 
@@ -100,26 +99,22 @@ fn refusal(alloc: Global, graph: &CallGraph, max_path: u32) -> Result<Option<Pla
 fn the_first_frame_that_is_too_large_is_named(rt: HostRuntime) -> Result<(), Fail> {
     let alloc = rt.alloc();
     let over = CallGraph::new(vec![in alloc; 48]?, Vec::new(alloc), Vec::new(alloc), 0);
-    assert_eq!(rt;
-        refusal(alloc, &over, 32)?,
-        Some(PlaceError::FrameTooLarge {
-            function: 0,
-            bytes: 48
-        })
-    );
-    assert_eq!(rt; refusal(alloc, &over, 48)?, None);
+    let first = PlaceError::FrameTooLarge {
+        function: 0,
+        bytes: 48,
+    };
+    assert!(rt; refusal(alloc, &over, 32)? == Some(first));
+    assert!(rt; refusal(alloc, &over, 48)?.is_none());
     let large = CallGraph::new(
         vec![in alloc; 16, 2048, 4096]?,
         Vec::new(alloc),
         Vec::new(alloc),
         0,
     );
-    assert_eq!(rt;
-        refusal(alloc, &large, 4080)?,
-        Some(PlaceError::FrameTooLarge {
-            function: 1,
-            bytes: 2048
-        })
-    );
+    let second = PlaceError::FrameTooLarge {
+        function: 1,
+        bytes: 2048,
+    };
+    assert!(rt; refusal(alloc, &large, 4080)? == Some(second));
     Ok(())
 }

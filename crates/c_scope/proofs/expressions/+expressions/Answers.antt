@@ -1,10 +1,8 @@
-use Rattle.std.proofs.Common.{rules, ◌≡◌, ◌∙◌, ◌∷◌, ◌+◌, sym, ap, ℕ, List, map, drop, append_assoc}
+use Rattle.std.proofs.Common.{◌≡◌, ◌∷◌, ◌+◌, drop, append_assoc}
 use Rattle.c_tree.specs.RawViews.{raw_expr_tree}
-use Rattle.c_tree.specs.Views.{expr_tree, chained}
 use Rattle.c_tree.proofs.RawExprEquations.{raw_expr_tree-Chain, raw_expr_tree-Conditional}
 use Rattle.c_tree.proofs.ExprEquations.{expr_tree-Chain}
-use Rattle.c_scope.specs.Faults.{least_of}
-use Rattle.c_scope.specs.Expressions.{expr_faults, expr_of}
+use Rattle.c_scope.specs.Expressions.{expr_faults}
 use Rattle.c_scope.proofs.Least.{least_of_append}
 use Rattle.c_scope.specs.Operands.{operands_faults}
 use Rattle.c_scope.proofs.Cuts.{drop_at}

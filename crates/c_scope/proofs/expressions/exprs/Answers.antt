@@ -1,8 +1,7 @@
-use Rattle.std.proofs.Common.{rules, ◌≡◌, ◌∙◌, ◌∷◌, [], ◌+◌, sym, ap, ℕ, List, map, drop, append_assoc}
+use Rattle.std.proofs.Common.{◌≡◌, ◌∷◌, [], ◌+◌, map, drop, append_assoc}
 use Rattle.std.proofs.lemmas.List.{map-append}
 use Rattle.c_tree.specs.RawViews.{raw_expr_tree}
 use Rattle.c_tree.specs.Views.{expr_tree}
-use Rattle.c_scope.specs.Faults.{least_of}
 use Rattle.c_scope.specs.Expressions.{expr_faults, exprs_faults}
 use Rattle.c_scope.proofs.Least.{least_of_append}
 use Rattle.c_scope.proofs.Cuts.{drop_at}

@@ -1,4 +1,4 @@
-use Rattle.std.proofs.Common.{◌≡◌, ◌∷◌, [], ◌+◌, map, drop, append_assoc}
+use Rattle.std.proofs.Common.{◌≡◌, ◌∷◌, ◌+◌, map, drop, append_assoc}
 use Rattle.c_tree.specs.RawViews.{name_tree}
 use Rattle.c_scope.specs.Names.{find}
 use Rattle.c_scope.specs.Meanings.{is_member}

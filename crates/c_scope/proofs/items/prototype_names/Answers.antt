@@ -1,10 +1,10 @@
-use Rattle.std.proofs.Common.{◌≡◌, ◌∷◌, ◌+◌, ◌∙◌, subst, sym, map, drop, length}
+use Rattle.std.proofs.Common.{◌≡◌, ◌∷◌, ◌+◌, subst, sym, map, drop, length}
 use Rattle.std.specs.Prelude.{option_map}
 use Rattle.c_tree.specs.RawViews.{name_tree}
 use Rattle.c_scope.specs.Items.{param_faults, param_bound, prototype_faults}
 use Rattle.c_scope.proofs.Cuts.{drop_at}
 use Rattle.c_scope.proofs.Least.{least_of_append}
-use Rattle.c_scope.proofs.Scopes.{Extends, then_extends, param_extends, names_left}
+use Rattle.c_scope.proofs.Scopes.{Extends, then_extends, param_extends}
 use Rattle.c_scope.proofs.items.prototype_names.Goals as goal
 
 pub loop-param-preserved : goal.loop-param-preserved

@@ -1,4 +1,4 @@
-use Rattle.std.proofs.Common.{◌≡◌, ◌∙◌, sym, ap, subst, Some, None, length}
+use Rattle.std.proofs.Common.{◌≡◌, ◌∙◌, sym, ap, subst, None, length}
 use Rattle.c_tree.specs.RawProgramView.{raw_program_tree}
 use Rattle.c_tree.specs.TextOrder.{functions_sites}
 use Rattle.c_tree.specs.Temporaries.{capped}

@@ -1,4 +1,4 @@
-use Rattle.std.proofs.Common.{◌≡◌, ◌∙◌, sym}
+use Rattle.std.proofs.Common.{◌∙◌, sym}
 use Rattle.c_tree.specs.RawProgramView.{raw_program_tree}
 use Rattle.c_tree.specs.ProgramView.{program_tree}
 use Rattle.c_scope.proofs.OneOutcome.{never_both, only_memory, this_or_memory}

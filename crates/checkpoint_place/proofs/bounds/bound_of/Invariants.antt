@@ -1,7 +1,8 @@
-use Rattle.std.proofs.Common.{◌≡◌, ◌≤◌, ◌<◌, ◌+◌, ◌-◌, true, max, length, drop, get_or, filter, slice_index}
+use Rattle.std.proofs.Common.{◌≡◌, ℕ, List, ◌≤◌, ◌<◌, ◌+◌, ◌-◌, true, max, length, drop, get_or, filter, slice_index}
 use Rattle.call_graph.specs.declared.sites.GraphSite.{GraphSite}
 use Rattle.call_graph.specs.Callees.{greatest}
 use Rattle.call_graph.specs.Index.{is_call_of, sites_of}
+use Rattle.checkpoint_place.specs.KnownTables.{AreKnownAmong, CallAmong, IsKnown}
 use Rattle.checkpoint_place.specs.Placement.{callee_bound, is_within}
 use Rattle.checkpoint_place.proofs.bounds.bound_of.Given as goal
 
@@ -14,6 +15,8 @@ invariant-loop-place l = record {
       (filter (is_within l.tables (slice_index l.bounds) l.max_path l.weight) (sites_of (drop l.place l.index.sites.now) l.index.without.now l.function)))
       ≡ greatest (callee_bound l.tables (slice_index l.bounds))
       (filter (is_within l.tables (slice_index l.bounds) l.max_path l.weight) (sites_of l.index.sites.now l.index.without.now l.function));
+  known : IsKnown l.tables (slice_index l.bounds) l.known;
+  among : (others : List ℕ) → AreKnownAmong l.tables others l.fn.known → CallAmong l.tables others (sites_of l.index.sites.now l.index.without.now l.function) → AreKnownAmong l.tables others l.known;
 }
 
 abbrev pub decreases-loop-place : goal.decreases-loop-place

@@ -1,10 +1,12 @@
-use Rattle.std.proofs.Common.{◌≡◌, ◌<◌, length, take, get_or, slice_index, ap, ◌∙◌, arith}
+use Rattle.std.proofs.Common.{◌≡◌, ◌<◌, length, take, reverse, get_or, slice_index, ap, ◌∙◌, arith}
 use Rattle.std.proofs.lemmas.List.{take_all}
 use Rattle.call_graph.specs.Graph.{function_count}
 use Rattle.call_graph.specs.Lists.{has}
 use Rattle.call_graph.proofs.ListLemmas.{all-at}
 use Rattle.cycle_break.proofs.RankLemmas.{has-reverse}
-use Rattle.checkpoint_place.proofs.BoundLemmas.{bound_by, AreBound-more}
+use Rattle.checkpoint_place.specs.KnownTables.{AreKnownAmong}
+use Rattle.checkpoint_place.proofs.KnownLemmas.{IsKnown-agree, AreKnownAmong-more}
+use Rattle.checkpoint_place.proofs.BoundLemmas.{bound_by, bounds-kept, next-calls, AreBound-more}
 use Rattle.checkpoint_place.proofs.bounds.bounds_of.Goals as goal
 
 pub loop-function-preserved : goal.loop-function-preserved
@@ -20,7 +22,15 @@ loop-function-preserved c =
     let in_bounds : f < length bounds = omega (arith, below, c.loop-function.invariant.each) in
     let value : c.bound_of.result ≡ bound_by graph back c.args.max_path (slice_index bounds) f =
     rw (c.tables-tables.ensures, c.as_slice.ensures.value, c.weights-weights.ensures.value, c.requires.sites) at c.bound_of.ensures.bound in
+    let known = rw (c.tables-tables.ensures, c.as_slice.ensures.value) at c.bound_of.ensures.known in
+    let done = reverse (take i order) in
+    let calls = next-calls graph back c.args.max_path order i within c.requires.bottom_up in
+    let ensured = rw (c.tables-tables.ensures, c.requires.sites) at c.bound_of.ensures.among in
+    let among : AreKnownAmong graph.tables done c.bound_of.new.known = ensured done c.loop-function.invariant.among calls in
+    let kept = bounds-kept graph back c.args.max_path order bounds i c.bound_of.result in_bounds c.loop-function.invariant.bound value in
     record {
+      known = IsKnown-agree graph.tables (slice_index bounds) _ (reverse (take i order)) c.bound_of.new.known kept among known;
+      among = AreKnownAmong-more graph.tables order i c.bound_of.new.known within among;
       each = c.loop-function.invariant.each;
       bound = AreBound-more graph back c.args.max_path order bounds i c.bound_of.result within in_bounds c.requires.bottom_up c.loop-function.invariant.bound value;
     }

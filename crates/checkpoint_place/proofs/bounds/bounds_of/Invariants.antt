@@ -1,5 +1,6 @@
-use Rattle.std.proofs.Common.{◌≡◌, reverse, take, vec_len}
+use Rattle.std.proofs.Common.{◌≡◌, reverse, take, vec_len, slice_index}
 use Rattle.call_graph.specs.Graph.{function_count}
+use Rattle.checkpoint_place.specs.KnownTables.{AreKnownAmong, IsKnown}
 use Rattle.checkpoint_place.proofs.BoundLemmas.{AreBound}
 use Rattle.checkpoint_place.proofs.bounds.bounds_of.Given as goal
 
@@ -7,4 +8,6 @@ abbrev pub invariant-loop-function : goal.invariant-loop-function
 invariant-loop-function l = record {
   each : vec_len l.bounds ≡ function_count l.graph;
   bound : AreBound l.graph l.index.without.now l.max_path (reverse (take l.function-index l.order)) l.bounds.items;
+  known : IsKnown l.graph.tables (slice_index l.bounds.items) l.known;
+  among : AreKnownAmong l.graph.tables (reverse (take l.function-index l.order)) l.known;
 }

@@ -1,6 +1,9 @@
-use Rattle.std.proofs.Common.{◌≡◌, not, find, drop}
-use Rattle.cycle_break.specs.Trail.{is_marked}
+use Rattle.std.proofs.Common.{length, ◌-◌}
+use Rattle.cycle_break.specs.Trail.{AreMarkedBelow}
 use Rattle.cycle_break.proofs.callees.first_unmarked.Given as goal
 
-abbrev pub invariant-loop-function : goal.invariant-loop-function
-invariant-loop-function l = find (λ f. not (is_marked l.visited f)) l.functions ≡ find (λ f. not (is_marked l.visited f)) (drop l.function-index l.functions)
+abbrev pub invariant-loop-place : goal.invariant-loop-place
+invariant-loop-place l = AreMarkedBelow l.visited l.functions l.place
+
+abbrev pub decreases-loop-place : goal.decreases-loop-place
+decreases-loop-place l = length l.functions - l.place

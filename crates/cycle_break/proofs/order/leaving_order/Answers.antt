@@ -21,6 +21,7 @@ loop-function-init c =
     record {
       marked = marked;
       goes = ap (λ n. left_after graph without (numbers_from 0 n) (reverse c.visit.new.left.items)) whole ∙ left_after-more graph without graph.main (numbers_from 0 (function_count graph)) [] (reverse c.visit.new.left.items) order;
+      seen = rw c.tables-tables.ensures at c.in_ok-visit.ensures.seen;
     }
 
 pub loop-function-preserved : goal.loop-function-preserved
@@ -38,6 +39,7 @@ loop-function-preserved c =
       goes = left_after-more graph without f (numbers_from (f + 1) (function_count graph - (f + 1))) (reverse c.loop-function.left.items) (reverse c.visit-in-loop-function.new.left.items) order
           ∙ ap (λ fs. left_after graph without fs (reverse c.loop-function.left.items)) (sym (numbers-more f (function_count graph) below))
           ∙ c.loop-function.invariant.goes;
+      seen = rw c.tables-tables.ensures at c.in_ok-visit-2.ensures.seen;
     }
 
 pub returns-clause-functions : goal.returns-clause-functions

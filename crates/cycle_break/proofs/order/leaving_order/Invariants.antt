@@ -1,6 +1,6 @@
 use Rattle.std.proofs.Common.{◌≡◌, ◌-◌, reverse, []}
 use Rattle.call_graph.specs.Graph.{function_count}
-use Rattle.cycle_break.specs.Trail.{come, IsMarked}
+use Rattle.cycle_break.specs.Trail.{come, IsMarked, IsSeen}
 use Rattle.cycle_break.specs.Walk.{into_each, walk, whole_walk, numbers_from}
 use Rattle.cycle_break.proofs.order.leaving_order.Given as goal
 
@@ -9,4 +9,5 @@ invariant-loop-function l = record {
   marked : IsMarked (function_count l.graph) l.visited (reverse l.left.items);
   goes : (into_each (walk l.graph.tables l.graph.sites l.without (function_count l.graph)) [] (numbers_from l.function (function_count l.graph - l.function)) (come (reverse l.left.items))).left
       ≡ (whole_walk l.graph l.without).left;
+  seen : IsSeen l.graph.tables l.visited l.seen;
 }

@@ -1,4 +1,4 @@
-use Rattle.std.proofs.Common.{rules, ◌≡◌, ◌∷◌, ◌∙◌, sym, ap, List, map, length, drop, sum}
+use Rattle.std.proofs.Common.{rules, ◌≡◌, ◌∙◌, sym, ap, map, length, drop, sum}
 use Rattle.std.proofs.lemmas.List.{length-map}
 use Rattle.c_tree.specs.RawViews.{name_tree, raw_stmt_trees}
 use Rattle.c_tree.specs.Views.{stmt_trees}

@@ -1,11 +1,10 @@
-use Rattle.std.proofs.Common.{rules, ◌≡◌, ◌++◌, ◌∙◌, sym, ap, map, length, false, Option, List}
+use Rattle.std.proofs.Common.{rules, ◌≡◌, ◌++◌, ◌∙◌, sym, ap, map, length, false}
 use Rattle.std.specs.Prelude.{option_map}
 use Rattle.std.proofs.lemmas.List.{length-map}
 use Rattle.c_tree.specs.RawViews.{name_tree}
 use Rattle.c_scope.specs.declared.faults.Rule.{Rule}
-use Rattle.c_scope.specs.declared.faults.Fault.{Fault}
 use Rattle.c_scope.specs.declared.meanings.Meaning.{Meaning}
-use Rattle.c_scope.specs.Names.{Binding, find}
+use Rattle.c_scope.specs.Names.{find}
 use Rattle.c_scope.specs.Faults.{broken, least_of}
 use Rattle.c_scope.specs.Meanings.{function_of}
 use Rattle.c_scope.specs.Simples.{bound}

@@ -1,5 +1,5 @@
 use Rattle.c_scope.proofs.Links.{drop_one}
-use Rattle.std.proofs.Common.{◌≡◌, ◌∙◌, ◌<◌, length, arith}
+use Rattle.std.proofs.Common.{◌∙◌, ◌<◌, length, arith}
 use Rattle.c_scope.proofs.names.Names.leave.Goals as goal
 
 pub loop-self-preserved : goal.loop-self-preserved

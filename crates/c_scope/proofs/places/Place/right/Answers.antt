@@ -1,4 +1,4 @@
-use Rattle.std.proofs.Common.{◌≡◌, ap, map}
+use Rattle.std.proofs.Common.{ap, map}
 use Rattle.c_tree.specs.Trees.{Called}
 use Rattle.c_tree.specs.RawViews.{raw_expr_tree}
 use Rattle.c_scope.proofs.NeitherForms.{listed_arguments}

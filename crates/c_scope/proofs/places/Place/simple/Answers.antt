@@ -1,4 +1,4 @@
-use Rattle.std.proofs.Common.{◌≡◌, ◌++◌, ap, map}
+use Rattle.std.proofs.Common.{◌++◌, ap, map}
 use Rattle.c_tree.specs.Trees.{Calling}
 use Rattle.c_tree.specs.RawViews.{name_tree, raw_expr_tree}
 use Rattle.c_scope.specs.Expressions.{array_faults, expr_faults}

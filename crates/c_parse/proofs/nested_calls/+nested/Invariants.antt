@@ -1,0 +1,7 @@
+use Rattle.std.proofs.Common.{◌≡◌, drop}
+use Rattle.c_tree.specs.RawViews.{raw_stmt_trees}
+use Rattle.c_parse.specs.NestedCalls.{earlier, nested_in_stmts}
+use Rattle.c_parse.proofs.nested_calls.+nested.Given as goal
+
+abbrev pub invariant-nested_in_stmts-loop-stmt : goal.invariant-nested_in_stmts-loop-stmt
+invariant-nested_in_stmts-loop-stmt l = earlier l.found (nested_in_stmts (raw_stmt_trees (drop l.stmt-index l.stmts))) ≡ nested_in_stmts (raw_stmt_trees l.stmts)

@@ -1,0 +1,7 @@
+use Rattle.std.proofs.Common.{◌≡◌, drop}
+use Rattle.c_tree.specs.RawViews.{raw_expr_trees}
+use Rattle.c_parse.specs.NestedCalls.{earlier, first_call_of}
+use Rattle.c_parse.proofs.nested_calls.first_call_of.Given as goal
+
+abbrev pub invariant-loop-expr : goal.invariant-loop-expr
+invariant-loop-expr l = earlier l.found (first_call_of (raw_expr_trees (drop l.expr-index l.exprs))) ≡ first_call_of (raw_expr_trees l.exprs)

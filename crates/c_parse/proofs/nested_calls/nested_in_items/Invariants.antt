@@ -1,0 +1,7 @@
+use Rattle.std.proofs.Common.{◌≡◌, drop}
+use Rattle.c_tree.specs.RawViews.{raw_item_trees}
+use Rattle.c_parse.specs.NestedCalls.{earlier, nested_in_items}
+use Rattle.c_parse.proofs.nested_calls.nested_in_items.Given as goal
+
+abbrev pub invariant-loop-item : goal.invariant-loop-item
+invariant-loop-item l = earlier l.found (nested_in_items (raw_item_trees (drop l.item-index l.items))) ≡ nested_in_items (raw_item_trees l.items)

@@ -1,0 +1,7 @@
+use Rattle.std.proofs.Common.{◌≡◌, map, drop}
+use Rattle.c_tree.specs.RawViews.{raw_simple_tree}
+use Rattle.c_parse.specs.NestedCalls.{earlier, nested_in_simples}
+use Rattle.c_parse.proofs.nested_calls.nested_in_simples.Given as goal
+
+abbrev pub invariant-loop-simple : goal.invariant-loop-simple
+invariant-loop-simple l = earlier l.found (nested_in_simples (map raw_simple_tree (drop l.simple-index l.simples))) ≡ nested_in_simples (map raw_simple_tree l.simples)

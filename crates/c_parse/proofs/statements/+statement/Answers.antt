@@ -1,0 +1,106 @@
+use Rattle.std.proofs.Common.{[], ◌∷◌, map, ap, ◌∙◌}
+use Rattle.std.proofs.lemmas.List.{map-append}
+use Rattle.c_tree.specs.RawViews.{raw_stmt_tree}
+use Rattle.c_tree.proofs.RawStmtEquations.{raw_stmt_tree-Empty, raw_stmt_tree-Block, raw_stmt_tree-If, raw_stmt_tree-IfElse, raw_stmt_tree-While, raw_stmt_tree-For}
+use Rattle.c_parse.proofs.SignTests.{other_sign, no_other_sign, not_that_sign}
+use Rattle.c_parse.proofs.Paths.{exit, arm_is, arm_other}
+use Rattle.c_parse.proofs.BodyRules as rules
+use Rattle.c_parse.proofs.BodyRules.{Construct}
+use Rattle.c_parse.proofs.statements.+statement.Goals as goal
+
+pub block-loop-text-init : goal.block-loop-text-init
+block-loop-text-init t c = rw c.new-stmts.ensures.items (rules.block_start _ _ _ _ _ _ c.requires.brace c.in_ok-inside.ensures.taken c.in_ok-inside.ensures.fits)
+
+pub block-loop-text-preserved : goal.block-loop-text-preserved
+block-loop-text-preserved t c = rules.block_more _ _ _ _ _ _ _ _ _ c.in_ok-inside.ensures.taken.0 c.loop-text.invariant c.in_ok-block_item.ensures.read
+
+pub block-returns-in_err-inside-clause-refused : goal.block-returns-in_err-inside-clause-refused
+block-returns-in_err-inside-clause-refused t c = exit _ _ c.from_residual.ensures.1 (rules.block_deep _ _ _ _ c.requires.brace c.in_err-inside.ensures.deep)
+
+pub block-returns-in_err-block_item-clause-refused : goal.block-returns-in_err-block_item-clause-refused
+block-returns-in_err-block_item-clause-refused t c = exit _ _ c.from_residual-in_err-block_item.ensures.1 (rules.block_more_refused _ _ _ _ _ _ _ _ c.in_ok-inside.ensures.taken.0 c.loop-text.invariant c.in_err-block_item.ensures.refused)
+
+pub block-returns-clause-read : goal.block-returns-clause-read
+block-returns-clause-read t c = rules.block_done _ _ _ _ _ _ _ c.requires.fits c.requires.brace c.loop-text.invariant (no_other_sign c.sign.ensures c.loop-text-test.ensures) c.pass.ensures
+
+pub block_item-returns-in_err-stmt-clause-refused : goal.block_item-returns-in_err-stmt-clause-refused
+block_item-returns-in_err-stmt-clause-refused t c = exit _ _ c.from_residual.ensures.1 (rules.item_refused _ _ _ _ c.requires.some (other_sign c.sign.ensures c.if-eq.ensures) c.in_err-stmt.ensures.refused)
+
+pub block_item-returns-clause-read : goal.block_item-returns-clause-read
+block_item-returns-clause-read t c =
+    rules.item_read _ _ _ _ _ _ _ _ c.requires.some (other_sign c.sign.ensures c.if-eq.ensures) c.in_ok-stmt.ensures.read
+    (ap (map raw_stmt_tree) c.in_ok-push.ensures.items ∙ map-append raw_stmt_tree c.args.stmts.now.items (c.in_ok-stmt.stmt ∷ []))
+
+pub statement-returns-in-Semicolon-clause-read : goal.statement-returns-in-Semicolon-clause-read
+statement-returns-in-Semicolon-clause-read t c = rw raw_stmt_tree-Empty (rules.empty_read _ _ _ _ _ c.requires (arm_is c.sign.ensures c.in-Semicolon.is) c.pass.ensures)
+
+pub statement-returns-in_err-stmts-in-LeftBrace-clause-refused : goal.statement-returns-in_err-stmts-in-LeftBrace-clause-refused
+statement-returns-in_err-stmts-in-LeftBrace-clause-refused t c = exit _ _ c.from_residual.ensures.1 (rules.block_stmt_refused _ _ _ _ c.in_err-stmts-in-LeftBrace.ensures.refused)
+
+pub statement-returns-in_ok-stmts-in-LeftBrace-clause-read : goal.statement-returns-in_ok-stmts-in-LeftBrace-clause-read
+statement-returns-in_ok-stmts-in-LeftBrace-clause-read t c = rw (raw_stmt_tree-Block c.in_ok-stmts-in-LeftBrace.stmts) (rules.block_stmt _ _ _ _ _ _ c.in_ok-stmts-in-LeftBrace.ensures.read)
+
+pub statement-simple_statement-requires-clause-other : goal.statement-simple_statement-requires-clause-other
+statement-simple_statement-requires-clause-other t c =
+    rules.no_statement _
+    (arm_other c.sign.ensures c.in_default.not-Semicolon) (arm_other c.sign.ensures c.in_default.not-LeftBrace) (arm_other c.sign.ensures c.in_default.not-If) (arm_other c.sign.ensures c.in_default.not-While) (arm_other c.sign.ensures c.in_default.not-For)
+    (arm_other c.sign.ensures c.in_default.not-Break) (arm_other c.sign.ensures c.in_default.not-Continue) (arm_other c.sign.ensures c.in_default.not-Return)
+
+pub if_statement-returns-in_err-inside-clause-refused : goal.if_statement-returns-in_err-inside-clause-refused
+if_statement-returns-in_err-inside-clause-refused t c = exit _ _ c.from_residual.ensures.1 (rules.construct_deep _ _ _ _ Construct.if_construct c.requires.keyword c.in_err-inside.ensures.deep)
+
+pub if_statement-returns-in_err-condition-clause-refused : goal.if_statement-returns-in_err-condition-clause-refused
+if_statement-returns-in_err-condition-clause-refused t c =
+    exit _ _ c.from_residual-in_err-condition.ensures.1 (rules.if_condition_refused _ _ _ _ _ _ c.requires.keyword c.in_ok-inside.ensures.taken c.in_ok-inside.ensures.fits c.in_err-condition.ensures.refused)
+
+pub if_statement-returns-in_err-then-clause-refused : goal.if_statement-returns-in_err-then-clause-refused
+if_statement-returns-in_err-then-clause-refused t c =
+    exit _ _ c.from_residual-in_err-then.ensures.1 (rules.if_then_refused _ _ _ _ _ _ _ _ _ c.requires.keyword c.in_ok-inside.ensures.taken c.in_ok-inside.ensures.fits c.in_ok-condition.ensures.read c.in_err-then.ensures.refused)
+
+pub if_statement-returns-then-ne-clause-read : goal.if_statement-returns-then-ne-clause-read
+if_statement-returns-then-ne-clause-read t c =
+    rw (raw_stmt_tree-If c.in_ok-condition.condition c.in_ok-then-2.then, c.in_ok-then-2.ensures.ok)
+    (rules.if_read _ _ _ _ _ _ _ _ _ _ c.requires.keyword c.in_ok-inside.ensures.taken c.in_ok-inside.ensures.fits c.in_ok-condition.ensures.read c.in_ok-then.ensures.read (not_that_sign c.sign.ensures c.if-ne.ensures))
+
+pub if_statement-returns-in_err-otherwise-clause-refused : goal.if_statement-returns-in_err-otherwise-clause-refused
+if_statement-returns-in_err-otherwise-clause-refused t c =
+    exit _ _ c.from_residual-in_err-otherwise.ensures.1 (rules.if_else_refused _ _ _ _ _ _ _ _ _ _ _ _ c.requires.keyword c.in_ok-inside.ensures.taken c.in_ok-inside.ensures.fits c.in_ok-condition.ensures.read c.in_ok-then.ensures.read
+    (no_other_sign c.sign.ensures c.if-ne.ensures) c.pass.ensures c.in_err-otherwise.ensures.refused)
+
+pub if_statement-returns-clause-read : goal.if_statement-returns-clause-read
+if_statement-returns-clause-read t c =
+    rw (raw_stmt_tree-IfElse c.in_ok-condition.condition c.in_ok-then-2.then c.in_ok-otherwise-2.otherwise, c.in_ok-then-2.ensures.ok, c.in_ok-otherwise-2.ensures.ok)
+    (rules.if_else_read _ _ _ _ _ _ _ _ _ _ _ _ _ c.requires.keyword c.in_ok-inside.ensures.taken c.in_ok-inside.ensures.fits c.in_ok-condition.ensures.read c.in_ok-then.ensures.read (no_other_sign c.sign.ensures c.if-ne.ensures) c.pass.ensures
+    c.in_ok-otherwise.ensures.read)
+
+pub while_statement-returns-in_err-inside-clause-refused : goal.while_statement-returns-in_err-inside-clause-refused
+while_statement-returns-in_err-inside-clause-refused t c = exit _ _ c.from_residual.ensures.1 (rules.construct_deep _ _ _ _ Construct.while_construct c.requires.keyword c.in_err-inside.ensures.deep)
+
+pub while_statement-returns-in_err-condition-clause-refused : goal.while_statement-returns-in_err-condition-clause-refused
+while_statement-returns-in_err-condition-clause-refused t c =
+    exit _ _ c.from_residual-in_err-condition.ensures.1 (rules.while_condition_refused _ _ _ _ _ _ c.requires.keyword c.in_ok-inside.ensures.taken c.in_ok-inside.ensures.fits c.in_err-condition.ensures.refused)
+
+pub while_statement-returns-in_err-body-clause-refused : goal.while_statement-returns-in_err-body-clause-refused
+while_statement-returns-in_err-body-clause-refused t c =
+    exit _ _ c.from_residual-in_err-body.ensures.1 (rules.while_body_refused _ _ _ _ _ _ _ _ _ c.requires.keyword c.in_ok-inside.ensures.taken c.in_ok-inside.ensures.fits c.in_ok-condition.ensures.read c.in_err-body.ensures.refused)
+
+pub while_statement-returns-clause-read : goal.while_statement-returns-clause-read
+while_statement-returns-clause-read t c =
+    rw (raw_stmt_tree-While c.in_ok-condition.condition c.in_ok-body-2.body, c.in_ok-body-2.ensures.ok)
+    (rules.while_read _ _ _ _ _ _ _ _ _ _ c.requires.keyword c.in_ok-inside.ensures.taken c.in_ok-inside.ensures.fits c.in_ok-condition.ensures.read c.in_ok-body.ensures.read)
+
+pub for_statement-returns-in_err-inside-clause-refused : goal.for_statement-returns-in_err-inside-clause-refused
+for_statement-returns-in_err-inside-clause-refused t c = exit _ _ c.from_residual.ensures.1 (rules.construct_deep _ _ _ _ Construct.for_construct c.requires.keyword c.in_err-inside.ensures.deep)
+
+pub for_statement-returns-in_err-parts-clause-refused : goal.for_statement-returns-in_err-parts-clause-refused
+for_statement-returns-in_err-parts-clause-refused t c =
+    exit _ _ c.from_residual-in_err-parts.ensures.1 (rules.for_parts_refused _ _ _ _ _ _ c.requires.keyword c.in_ok-inside.ensures.taken c.in_ok-inside.ensures.fits c.in_err-parts.ensures.refused)
+
+pub for_statement-returns-in_err-body-clause-refused : goal.for_statement-returns-in_err-body-clause-refused
+for_statement-returns-in_err-body-clause-refused t c =
+    exit _ _ c.from_residual-in_err-body.ensures.1 (rules.for_body_refused _ _ _ _ _ _ _ _ _ _ _ c.requires.keyword c.in_ok-inside.ensures.taken c.in_ok-inside.ensures.fits c.in_ok-parts.ensures.read c.in_err-body.ensures.refused)
+
+pub for_statement-returns-clause-read : goal.for_statement-returns-clause-read
+for_statement-returns-clause-read t c =
+    rw (raw_stmt_tree-For c.in_ok-parts.parts.init c.in_ok-parts.parts.condition c.in_ok-parts.parts.step c.in_ok-body-2.body, c.in_ok-body-2.ensures.ok)
+    (rules.for_read _ _ _ _ _ _ _ _ _ _ _ _ c.requires.keyword c.in_ok-inside.ensures.taken c.in_ok-inside.ensures.fits c.in_ok-parts.ensures.read c.in_ok-body.ensures.read)

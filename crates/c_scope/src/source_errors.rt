@@ -1,0 +1,126 @@
+// Why a source text is no program.
+ghost use Rattle.std.specs.Prelude.{◌≡◌};
+ghost use Rattle.c_scope.specs.SourceText.{by_lex, by_parse, by_scope};
+
+use crate::errors::ScopeError;
+use c_lex::LexError;
+use c_parse::ParseError;
+use cap_word::Which;
+use thiserror::Error;
+
+/// Why a source text is no program: the refusal of the first of the three readings, into tokens, into a tree and into a
+/// program, that has one. `at` is a place, a byte of the source counted from 0.
+#[derive(Debug, Drop, Error)]
+pub enum SourceError {
+    /// The byte there begins no token.
+    #[error("BadByte at {at}")]
+    BadByte {
+        /// The byte's place.
+        at: u32,
+    },
+    /// A comment without its end.
+    #[error("OpenComment at {at}")]
+    OpenComment {
+        /// The place of its `/*`.
+        at: u32,
+    },
+    /// A text that begins with a digit and is no number, or none below 2^32.
+    #[error("BadNumber at {at}")]
+    BadNumber {
+        /// The place of its first digit.
+        at: u32,
+    },
+    /// The token there, or the end of the source, fits nothing that may stand there.
+    #[error("Unexpected at {at}")]
+    Unexpected {
+        /// The place of the token, or the length of the source.
+        at: u32,
+    },
+    /// At the token there more than 64 constructs are open.
+    #[error("TooDeep at {at}")]
+    TooDeep {
+        /// The place of the token.
+        at: u32,
+    },
+    /// A call inside an expression.
+    #[error("NestedCall at {at}")]
+    NestedCall {
+        /// The place of the call's name.
+        at: u32,
+    },
+    /// A name that isn't in scope, or a prototype without a definition.
+    #[error("Unknown at {at}")]
+    Unknown {
+        /// The name's place.
+        at: u32,
+    },
+    /// A name that is declared twice in one scope.
+    #[error("Twice at {at}")]
+    Twice {
+        /// The later name's place.
+        at: u32,
+    },
+    /// A wrong number of arguments or of members, or a prototype that differs from an earlier one.
+    #[error("Arity at {at}")]
+    Arity {
+        /// The name's place.
+        at: u32,
+    },
+    /// A name or a statement of the wrong kind for its place.
+    #[error("Kind at {at}")]
+    Kind {
+        /// The name's or the keyword's place.
+        at: u32,
+    },
+    /// `main` has no definition.
+    #[error("NoMain")]
+    NoMain,
+    /// The first limit that the program exceeds.
+    #[error("Limit {}", which.name())]
+    Limit {
+        /// The quantity.
+        which: Which,
+    },
+    /// Memory ran out.
+    #[error("out of memory")]
+    Memory,
+}
+
+/// The refusal of the reading into tokens as one of the source.
+pub(crate) fn of_lex(error: LexError) -> SourceError
+    ensures { result ≡ by_lex error }
+{
+    match error {
+        LexError::BadByte { at } => SourceError::BadByte { at },
+        LexError::OpenComment { at } => SourceError::OpenComment { at },
+        LexError::BadNumber { at } => SourceError::BadNumber { at },
+        LexError::Memory => SourceError::Memory,
+    }
+}
+
+/// The refusal of the reading into a tree as one of the source.
+pub(crate) fn of_parse(error: ParseError) -> SourceError
+    ensures { result ≡ by_parse error }
+{
+    match error {
+        ParseError::Unexpected { at } => SourceError::Unexpected { at },
+        ParseError::TooDeep { at } => SourceError::TooDeep { at },
+        ParseError::NestedCall { at } => SourceError::NestedCall { at },
+        ParseError::Memory => SourceError::Memory,
+    }
+}
+
+/// The refusal of the reading into a program as one of the source.
+pub(crate) fn of_scope(error: ScopeError) -> SourceError
+    ensures { result ≡ by_scope error }
+{
+    match error {
+        ScopeError::Unknown { at } => SourceError::Unknown { at },
+        ScopeError::Twice { at } => SourceError::Twice { at },
+        ScopeError::Arity { at } => SourceError::Arity { at },
+        ScopeError::Kind { at } => SourceError::Kind { at },
+        ScopeError::NoMain => SourceError::NoMain,
+        ScopeError::Limit { which } => SourceError::Limit { which },
+        ScopeError::Memory => SourceError::Memory,
+    }
+}

@@ -1,0 +1,11 @@
+use Rattle.std.proofs.Common.{◌≡◌, map}
+use Rattle.std.specs.List.{range_with_len}
+use Rattle.flat_code.specs.ProgramView.{program_code}
+use Rattle.codegen_link.specs.Layout.{fact_of, words_to}
+use Rattle.codegen_link.proofs.facts.facts_of.Given as goal
+
+abbrev pub invariant-loop-function : goal.invariant-loop-function
+invariant-loop-function l = record {
+  facts : l.facts.items ≡ map (fact_of (program_code l.flat) l.plan) (range_with_len 0 l.function);
+  before : l.before ≡ words_to (program_code l.flat) l.plan l.function;
+}

@@ -1,0 +1,18 @@
+use Rattle.std.proofs.Common.{length, ap, ◌∙◌, arith}
+use Rattle.std.specs.Prelude.{slice_index}
+use Rattle.std.proofs.lemmas.List.FromFn.{length-map-range_with_len, get_or-map-range_with_len}
+use Rattle.flat_code.specs.ProgramView.{program_code}
+use Rattle.stack_certificate.specs.Certificates.{table_address}
+use Rattle.codegen_link.proofs.settings.table_address.Goals as goal
+
+pub bounds-as_slice-t : goal.bounds-as_slice-t
+bounds-as_slice-t c =
+    let code = program_code c.args.layout.now.flat.now in
+    let count = ap length c.requires.ready.table_addresses ∙ length-map-range_with_len (table_address code) 0 (length code.tables) in
+    omega (arith, count, ap length c.as_slice.ensures.value, c.requires.table)
+
+pub returns : goal.returns
+returns c =
+    let code = program_code c.args.layout.now.flat.now in
+    ap (λ xs. slice_index xs c.args.t) (c.as_slice.ensures.value ∙ c.requires.ready.table_addresses) ∙
+    get_or-map-range_with_len (table_address code) 0 (length code.tables) c.args.t c.args.t 0 c.requires.table (omega arith)

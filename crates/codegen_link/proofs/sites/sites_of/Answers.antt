@@ -1,0 +1,16 @@
+use Rattle.std.proofs.Common.{rules}
+use Rattle.std.specs.List.Sorted.{IsNonDecreasingBy, IsPermutation}
+use Rattle.std.proofs.lemmas.List.Sorted.{IsNonDecreasingBy-from_sort_by_key}
+use Rattle.flat_code.specs.ProgramView.{program_code}
+use Rattle.stack_certificate.specs.declared.sites.SiteFact.{SiteFact}
+use Rattle.codegen_link.specs.Links.{site_facts}
+use Rattle.codegen_link.proofs.SiteLemmas.{rising}
+use Rattle.codegen_link.proofs.sites.sites_of.Goals as goal
+
+pub returns-clause-increasing : goal.returns-clause-increasing
+returns-clause-increasing c =
+    let up : IsNonDecreasingBy (λ (s : SiteFact). s.number) c.sort_by_key.new.self.items =
+    IsNonDecreasingBy-from_sort_by_key (λ (s : SiteFact). s.number) _ c.in_ok-sort_by_key.ensures.sorted (λ a r q k. search rules) in
+    let permutation : IsPermutation (site_facts (program_code c.args.flat.now) c.args.plan.now) c.sort_by_key.new.self.items =
+    rw c.in_ok-sites.ensures at c.sort_by_key.ensures.permutation in
+    rising (program_code c.args.flat.now) c.args.plan.now c.sort_by_key.new.self.items c.args.flat.now.well_formed permutation up

@@ -1,0 +1,8 @@
+use Rattle.std.proofs.Common.{◌≡◌, ◌++◌, map, take}
+use Rattle.rv_code.specs.Table.{encoding}
+use Rattle.flat_code.specs.ProgramView.{program_code}
+use Rattle.stack_certificate.specs.Templates.{template}
+use Rattle.codegen_link.proofs.words.push_operation.Given as goal
+
+abbrev pub invariant-loop-word : goal.invariant-loop-word
+invariant-loop-word l = l.code.items ≡ l.fn.code.items ++ map encoding (take l.word (template (program_code l.layout.flat.now) l.layout.certificate.now l.function l.op))

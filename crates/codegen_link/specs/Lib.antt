@@ -1,0 +1,4 @@
+pub mod Emission
+pub mod Layout
+pub mod Links
+pub mod Plans

@@ -1,0 +1,37 @@
+-- How the calls of a program link, by a plan.
+use Rattle.std.specs.Prelude.{ℕ, Bool, true, false, List, filter_map, flat_map, slice_index, Option, Some, None}
+use Rattle.flat_code.specs.declared.operations.Op.{Op}
+use Rattle.flat_code.specs.Codes.{FlatCode}
+use Rattle.call_graph.specs.Callees.{greatest}
+use Rattle.call_graph.specs.Lists.{has}
+use Rattle.checkpoint_place.specs.declared.plans.Plan.{Plan}
+use Rattle.stack_certificate.specs.declared.sites.LinkKind.{LinkKind}
+use Rattle.stack_certificate.specs.declared.sites.SiteFact.{SiteFact}
+use Rattle.certificate_rules.specs.Sites.{callees_of}
+
+-- the greatest bound of the functions that a call or the start of a thread may enter
+abbrev pub need : FlatCode → Plan → Op → ℕ
+need code plan op = greatest (slice_index plan.bounds) (callees_of code op)
+
+-- a call links where its site is checkpointed, and is plain elsewhere
+abbrev pub linked_if : Bool → ℕ → LinkKind
+linked_if true bytes = LinkKind.Linked bytes
+linked_if false bytes = LinkKind.Plain
+
+-- how an operation links: a call of a function or a table where the plan has a checkpoint, and the start of a thread
+abbrev pub link : FlatCode → Plan → Op → LinkKind
+link code plan (Op.Call site d f args) = linked_if (has site plan.checkpointed) (need code plan (Op.Call site d f args))
+link code plan (Op.CallTable site d t i s) = linked_if (has site plan.checkpointed) (need code plan (Op.CallTable site d t i s))
+link code plan (Op.Spawn site d f s) = LinkKind.Spawned (need code plan (Op.Spawn site d f s))
+link code plan _ = LinkKind.Plain
+
+-- what a certificate says of an operation's site: nothing of a modelled call
+abbrev pub site_fact : FlatCode → Plan → Op → Option SiteFact
+site_fact code plan (Op.Call site d f args) = Some (record { number = site; kind = link code plan (Op.Call site d f args) })
+site_fact code plan (Op.CallTable site d t i s) = Some (record { number = site; kind = link code plan (Op.CallTable site d t i s) })
+site_fact code plan (Op.Spawn site d f s) = Some (record { number = site; kind = link code plan (Op.Spawn site d f s) })
+site_fact code plan _ = None
+
+-- what it says of all sites, in the order of the text
+abbrev pub site_facts : FlatCode → Plan → List SiteFact
+site_facts code plan = flat_map (λ function. filter_map (site_fact code plan) function.ops) code.functions

@@ -1,0 +1,37 @@
+// The addresses of globals and tables.
+
+ghost use Rattle.std.specs.Prelude.{◌≡◌, length, map, IfOk};
+ghost use Rattle.std.specs.List.{range_with_len};
+ghost use Rattle.flat_code.specs.ProgramView.{program_code};
+ghost use Rattle.stack_certificate.specs.Certificates.{global_address, table_address};
+
+use flat_code::FlatProgram;
+use std::alloc::{AllocError, Global};
+
+// The address of the first word of each global.
+pub(crate) fn global_addresses(alloc: Global, flat: &FlatProgram) -> Result<Vec<u32>, AllocError>
+    ensures { IfOk result (λ addresses. addresses.items ≡ map (global_address (program_code flat.now)) (range_with_len 0 (length (program_code flat.now).globals))) }
+{
+    let globals = flat.globals();
+    let mut addresses = Vec::with_capacity(alloc, globals.len())?;
+    let mut words = 0;
+    for global in globals {
+        addresses.push(0x1000_0000 + 4 * words)?;
+        words += global.words;
+    }
+    Ok(addresses)
+}
+
+// The address of the first word of each table.
+pub(crate) fn table_addresses(alloc: Global, flat: &FlatProgram) -> Result<Vec<u32>, AllocError>
+    ensures { IfOk result (λ addresses. addresses.items ≡ map (table_address (program_code flat.now)) (range_with_len 0 (length (program_code flat.now).tables))) }
+{
+    let tables = flat.tables();
+    let mut addresses = Vec::with_capacity(alloc, tables.len())?;
+    let mut words = 0;
+    for table in tables {
+        addresses.push(0x2000_0000 + 4 * words)?;
+        words += table.len() as u32;
+    }
+    Ok(addresses)
+}

@@ -1,0 +1,68 @@
+// A graph as large as a program may have it: a chain of 4,096 functions, and a table of 65,536 members that is
+// called at 60,000 sites.
+ghost use Rattle.std.specs.Prelude.{◌≡◌, ◌+◌, ◌<◌, ◌≤◌, ◌^◌, ℕ, List, [], ◌∷◌, length, IfOk};
+ghost use Rattle.std.specs.List.{AllByRecursion};
+ghost use Rattle.call_graph.specs.Graph.{IsRising, IsSiteOf};
+
+use call_graph::{CallGraph, Callees, GraphSite, Target};
+use checkpoint_place::place;
+use cycle_break::back_edges;
+use std::alloc::{AllocError, Global};
+use std::test::Fail;
+
+/// Up to the last function each calls the next one at the site of its own number. At any other site the first
+/// calls the table.
+fn site_of(last: u32, number: u32) -> GraphSite
+    requires { last < 2 ^ 16 }
+    ensures number { result.number ≡ number }
+    ensures sound { (members : List ℕ) → 0 < length members → AllByRecursion (λ f. f < last + 1) members → IsSiteOf (last + 1) (members ∷ []) result }
+{
+    if number < last {
+        GraphSite {
+            number,
+            caller: number,
+            target: Target::Function(number + 1),
+        }
+    } else {
+        GraphSite {
+            number,
+            caller: 0,
+            target: Target::Table(0),
+        }
+    }
+}
+
+fn sites_of(alloc: Global, last: u32, count: u32) -> Result<Vec<GraphSite>, AllocError>
+    requires { last < 2 ^ 16 }
+    ensures sound { IfOk result (λ sites. (members : List ℕ) → 0 < length members → AllByRecursion (λ f. f < last + 1) members → AllByRecursion (IsSiteOf (last + 1) (members ∷ [])) sites.items) }
+    ensures rising { IfOk result (λ sites. IsRising sites.items) }
+{
+    let mut sites = Vec::new(alloc);
+    for number in 0..count {
+        sites.push(site_of(last, number))?;
+    }
+    Ok(sites)
+}
+
+/// The graph of `last + 1` functions of 16 bytes, and a table that has the last one so many times.
+fn graph_of(alloc: Global, last: u32, members: u32, sites: u32) -> Result<CallGraph, AllocError>
+    requires last { last < 2 ^ 16 }
+    requires members { 0 < members }
+{
+    let weights = vec![in alloc; 16; last as usize + 1]?;
+    let table = Callees::new(vec![in alloc; last; members as usize]?);
+    let sites = sites_of(alloc, last, sites)?;
+    Ok(CallGraph::new(weights, vec![in alloc; table]?, sites, 0))
+}
+
+#[test]
+fn a_large_table_is_called_at_many_sites(rt: HostRuntime) -> Result<(), Fail> {
+    let alloc = rt.alloc();
+    let graph = graph_of(alloc, 4_095, 65_536, 64_095)?;
+    let back = back_edges(alloc, &graph)?;
+    let plan = place(alloc, &graph, back.as_slice(), 65_536)?;
+    let bounds = plan.bounds.as_slice();
+    assert!(rt; back.is_empty() && plan.checkpointed.is_empty());
+    assert!(rt; bounds.first().copied() == Some(65_536) && bounds.last().copied() == Some(16));
+    Ok(())
+}
