@@ -4,10 +4,8 @@ use Rattle.std.specs.Prelude.{Some, slice_index}
 use Rattle.flat_code.specs.declared.operations.Op.{Op}
 use Rattle.flat_code.specs.Codes.{FlatCode, function_at, operation_at}
 use Rattle.flat_code.specs.Weight.{weight_of}
-use Rattle.call_graph.specs.Callees.{callees, greatest}
 use Rattle.call_graph.specs.Lists.{has}
 use Rattle.call_graph.specs.declared.sites.Target.TheVariants.{Function, Table}
-use Rattle.call_graph.proofs.ListLemmas.{by_test}
 use Rattle.checkpoint_place.specs.declared.plans.Plan.{Plan}
 use Rattle.stack_certificate.specs.declared.sites.LinkKind.{LinkKind}
 use Rattle.codegen_link.specs.Links.{linked_if, link, need}

@@ -1,6 +1,6 @@
 -- What the steps of a build say together.
-use Rattle.std.proofs.Common.{◌≡◌, inl, inr, ◌⊎◌, ◌<◌, ◌≤◌, ◌-◌, ◌^◌, ℕ, nat_le, Bool, true, false, List, length, map, min, refl, sym, ap, subst, ◌∙◌, arith}
-use Rattle.std.specs.Prelude.{Option, Some, None, Err, option_map, IsOkUnless, Result}
+use Rattle.std.proofs.Common.{◌≡◌, inl, inr, ◌⊎◌, ◌<◌, ◌≤◌, ◌-◌, ◌^◌, ℕ, nat_le, List, length, min, sym, ap, subst, ◌∙◌, arith}
+use Rattle.std.specs.Prelude.{Some, Err, option_map, IsOkUnless, Result}
 use Rattle.std.proofs.lemmas.Bool.Decides.{nat_tests}
 use Rattle.call_graph.proofs.ListLemmas.{by_test}
 use Rattle.call_graph.specs.Graph.{CallGraphState}
@@ -16,7 +16,7 @@ use Rattle.codegen_link.specs.declared.refusals.GenError.TheVariants as gen
 use Rattle.codegen_link.specs.Layout.{code_words}
 use Rattle.stack_plan.specs.Plans.{weights_of}
 use Rattle.stack_build.specs.declared.refusals.BuildError.{BuildError}
-use Rattle.stack_build.specs.declared.refusals.BuildError.TheVariants.{CodeTooLarge, Memory}
+use Rattle.stack_build.specs.declared.refusals.BuildError.TheVariants.{Memory}
 use Rattle.stack_build.specs.Refusals.{of_place, of_generate}
 use Rattle.stack_build.specs.Builds.{frame_refusal, IsPlanned, IsTooLarge}
 
