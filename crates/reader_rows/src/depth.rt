@@ -48,6 +48,7 @@ fn the_limit_of_each_construct(rt: HostRuntime) -> Result<(), Fail> {
         (body, b"if(1);else ", b";", b"", b" }", 62, 694),
     ];
     for (before, part, middle, end, after, most, at) in rows {
+        assert!(rt; most < 100);
         let fits = source(rt.alloc(), before, part, middle, end, after, most)?;
         assert_eq!(rt; refusal(rt.alloc(), &fits)?, None, "{part:?}");
         let deep = source(rt.alloc(), before, part, middle, end, after, most + 1)?;

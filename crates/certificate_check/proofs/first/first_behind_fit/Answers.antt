@@ -1,0 +1,23 @@
+use Rattle.std.proofs.Common.{◌≡◌, ◌+◌, ℕ, refl, sym, ap, subst, arith}
+use Rattle.flat_code.specs.ProgramView.{program_code}
+use Rattle.certificate_rules.specs.Validity.{Holds}
+use Rattle.certificate_check.specs.First.{HoldBelow, IsFirstSpot}
+use Rattle.certificate_check.proofs.BelowLemmas.{readable, counts_of, below_next, valid_from, failure_from}
+use Rattle.certificate_check.proofs.first.first_behind_fit.Goals as goal
+
+pub tables_of-requires : goal.tables_of-requires
+tables_of-requires c = (counts_of (program_code c.args.flat.now) c.args.image.now c.args.certificate.now c.requires.below).0
+
+pub first_in_rule-requires-clause-readable : goal.first_in_rule-requires-clause-readable
+first_in_rule-requires-clause-readable c = readable (program_code c.args.flat.now) c.args.image.now c.args.certificate.now c.requires.few c.requires.below
+
+pub returns-in-Some : goal.returns-in-Some
+returns-in-Some c = failure_from (program_code c.args.flat.now) c.args.image.now c.args.certificate.now c.loop-rule.rule c.in-Some.spot c.loop-rule.invariant (subst (λ r. IsFirstSpot (λ f i. Holds (program_code c.args.flat.now) c.args.image.now c.args.certificate.now c.loop-rule.rule f i) r) c.in-Some.is c.in_ok-spot.ensures)
+
+pub loop-rule-preserved : goal.loop-rule-preserved
+loop-rule-preserved c = below_next (program_code c.args.flat.now) c.args.image.now c.args.certificate.now c.loop-rule.rule c.loop-rule.invariant (subst (λ r. IsFirstSpot (λ f i. Holds (program_code c.args.flat.now) c.args.image.now c.args.certificate.now c.loop-rule.rule f i) r) c.in_default.is c.in_ok-spot.ensures)
+
+pub returns : goal.returns
+returns c =
+    let end : c.loop-rule.rule ≡ 13 = omega arith in
+    valid_from (program_code c.args.flat.now) c.args.image.now c.args.certificate.now (subst (λ (r : ℕ). HoldBelow (program_code c.args.flat.now) c.args.image.now c.args.certificate.now r) end c.loop-rule.invariant)

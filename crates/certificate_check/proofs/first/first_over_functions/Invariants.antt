@@ -1,0 +1,7 @@
+use Rattle.std.proofs.Common.{ℕ, ◌<◌}
+use Rattle.flat_code.specs.ProgramView.{program_code}
+use Rattle.certificate_rules.specs.Validity.{Holds}
+use Rattle.certificate_check.proofs.first.first_over_functions.Given as goal
+
+abbrev pub invariant-loop-f : goal.invariant-loop-f
+invariant-loop-f l = (g j : ℕ) → g < l.f → Holds (program_code l.flat) l.image l.certificate l.rule g j

@@ -1,0 +1,6 @@
+use Rattle.flat_code.specs.ProgramView.{program_code}
+use Rattle.certificate_check.specs.LeastSite.{IsLeastSite}
+use Rattle.certificate_check.proofs.site_rules.first_wrong_site.Given as goal
+
+abbrev pub invariant-loop-op : goal.invariant-loop-op
+invariant-loop-op l = IsLeastSite l.rule (program_code l.flat) l.certificate l.function l.op l.first

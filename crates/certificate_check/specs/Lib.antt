@@ -1,0 +1,4 @@
+pub mod First
+pub mod Held
+pub mod Marks
+pub mod LeastSite

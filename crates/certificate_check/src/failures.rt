@@ -1,0 +1,15 @@
+/// The first failure of the rules: the number of the rule, from 1 to 12, the function and the index. What an index
+/// means depends on the rule; where no function is meant, it is 0.
+#[derive(Clone, Copy, PartialEq, Eq)]
+pub struct Failure {
+    pub rule: u32,
+    pub function: u32,
+    pub index: u64,
+}
+
+// Where a rule fails: the function and the index.
+#[derive(Clone, Copy, PartialEq, Eq)]
+pub struct Spot {
+    pub function: u32,
+    pub index: u64,
+}

@@ -1,0 +1,158 @@
+ghost use Rattle.std.specs.Prelude.{◌≡◌, ◌^◌, ◌<◌, ◌≤◌, IfOk, length};
+ghost use Rattle.flat_code.specs.ProgramView.{program_code};
+ghost use Rattle.certificate_rules.specs.Validity.{Holds};
+ghost use Rattle.certificate_check.specs.First.{HoldBelow, IsAnswer, IsFirst, IsFirstSpot, at_zero};
+ghost use Rattle.certificate_check.specs.Held.{IsReadable, AreTablesOf, IsFunctionRule};
+
+use crate::failures::{Failure, Spot};
+use crate::fit::first_unfit;
+use crate::frames::{first_outside_path, first_wrong_frame};
+use crate::image_lists::{first_wrong_global, first_wrong_member};
+use crate::operations::first_wrong_operation;
+use crate::places::first_wrong_place;
+use crate::ranges::first_wrong_range;
+use crate::site_rules::{SiteRule, first_wrong_site};
+use crate::tables::{Tables, tables_of};
+use crate::words::{first_wrong_prologue_word, first_wrong_stub_word};
+use flat_code::FlatProgram;
+use stack_certificate::Certificate;
+use stack_image::Image;
+use std::alloc::{AllocError, Global};
+
+/// The first failure of the rules V1 to V12, or none where all of them hold: the least rule that fails, in it
+/// the least function, and in it the least index. It takes memory in the size of the program and of the code.
+pub fn first_failure(
+    alloc: Global,
+    flat: &FlatProgram,
+    image: &Image,
+    certificate: &Certificate,
+) -> Result<Option<Failure>, AllocError>
+    requires { length (program_code flat.now).functions ≤ 2 ^ 32 }
+    ensures { IfOk result (λ answer. IsAnswer (program_code flat.now) image.now certificate.now answer) }
+{
+    if let Some(spot) = first_unfit(alloc, flat, image, certificate)? {
+        return Ok(Some(Failure {
+            rule: 1,
+            function: spot.function,
+            index: spot.index,
+        }));
+    }
+    first_behind_fit(alloc, flat, image, certificate)
+}
+
+// The first failure of the rules from V2 on.
+fn first_behind_fit(
+    alloc: Global,
+    flat: &FlatProgram,
+    image: &Image,
+    certificate: &Certificate,
+) -> Result<Option<Failure>, AllocError>
+    requires few { length (program_code flat.now).functions ≤ 2 ^ 32 }
+    requires below { HoldBelow (program_code flat.now) image.now certificate.now 2 }
+    ensures { IfOk result (λ answer. IsAnswer (program_code flat.now) image.now certificate.now answer) }
+{
+    let tables = tables_of(alloc, flat, certificate)?;
+    for rule in 2..13 {
+        if let Some(spot) = first_in_rule(alloc, flat, image, certificate, &tables, rule)? {
+            return Ok(Some(Failure {
+                rule,
+                function: spot.function,
+                index: spot.index,
+            }));
+        }
+    }
+    Ok(None)
+}
+
+// Where a rule from V2 on fails first.
+fn first_in_rule(
+    alloc: Global,
+    flat: &FlatProgram,
+    image: &Image,
+    certificate: &Certificate,
+    tables: &Tables,
+    rule: u32,
+) -> Result<Option<Spot>, AllocError>
+    requires readable { IsReadable (program_code flat.now) certificate.now }
+    requires tables { AreTablesOf (program_code flat.now) certificate.now tables.now }
+    requires below { HoldBelow (program_code flat.now) image.now certificate.now rule }
+    requires least { 2 ≤ rule }
+    requires greatest { rule < 13 }
+    ensures { IfOk result (λ spot. IsFirstSpot (λ f i. Holds (program_code flat.now) image.now certificate.now rule f i) spot) }
+{
+    match rule {
+        2 => first_wrong_range(alloc, flat, image, certificate),
+        7 => Ok(everywhere(first_wrong_stub_word(image))),
+        8 => Ok(everywhere(first_wrong_member(flat, image, certificate))),
+        12 => Ok(everywhere(first_wrong_global(flat, image))),
+        _ => first_over_functions(alloc, flat, image, certificate, tables, rule),
+    }
+}
+
+// Where a rule that means no function fails first.
+fn everywhere(index: Option<u64>) -> Option<Spot>
+    ensures { result ≡ at_zero index }
+{
+    match index {
+        Some(index) => Some(Spot { function: 0, index }),
+        None => None,
+    }
+}
+
+// Where a rule that looks at each function by itself fails first.
+fn first_over_functions(
+    alloc: Global,
+    flat: &FlatProgram,
+    image: &Image,
+    certificate: &Certificate,
+    tables: &Tables,
+    rule: u32,
+) -> Result<Option<Spot>, AllocError>
+    requires readable { IsReadable (program_code flat.now) certificate.now }
+    requires tables { AreTablesOf (program_code flat.now) certificate.now tables.now }
+    requires rule { IsFunctionRule rule }
+    ensures { IfOk result (λ spot. IsFirstSpot (λ f i. Holds (program_code flat.now) image.now certificate.now rule f i) spot) }
+{
+    for f in 0..flat.functions().len() as u64 {
+        let function = f as u32;
+        if let Some(index) = first_in_function(
+            alloc,
+            flat,
+            image,
+            certificate,
+            tables,
+            rule,
+            function,
+        )? {
+            return Ok(Some(Spot { function, index }));
+        }
+    }
+    Ok(None)
+}
+
+// At which index a rule fails first in a function.
+fn first_in_function(
+    alloc: Global,
+    flat: &FlatProgram,
+    image: &Image,
+    certificate: &Certificate,
+    tables: &Tables,
+    rule: u32,
+    function: u32,
+) -> Result<Option<u64>, AllocError>
+    requires readable { IsReadable (program_code flat.now) certificate.now }
+    requires tables { AreTablesOf (program_code flat.now) certificate.now tables.now }
+    requires rule { IsFunctionRule rule }
+    requires function { function < length (program_code flat.now).functions }
+    ensures { IfOk result (λ index. IsFirst (λ i. Holds (program_code flat.now) image.now certificate.now rule function i) index) }
+{
+    match rule {
+        3 => Ok(first_wrong_frame(certificate, function)),
+        4 => first_wrong_place(alloc, flat, certificate, function),
+        5 => Ok(first_wrong_prologue_word(flat, image, certificate, function)),
+        6 => first_wrong_operation(alloc, flat, image, certificate, tables, function),
+        9 => Ok(first_wrong_site(flat, certificate, tables, SiteRule::Need, function)),
+        10 => Ok(first_wrong_site(flat, certificate, tables, SiteRule::Bound, function)),
+        _ => Ok(first_outside_path(certificate, function)),
+    }
+}

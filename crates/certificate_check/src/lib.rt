@@ -1,0 +1,27 @@
+// The checker of certificates: whether an image and a certificate are valid for a program in flat code.
+//
+// In: a program, an image and a certificate, of any origin. Out: the first failure of the rules V1 to V12, or none.
+// The rules are the definitions of certificate_rules, and the contract of `first_failure` says that it decides just
+// these. It looks at single words and single inequalities and builds nothing again: its work is linear in the code, the
+// certificate and the program, up to a logarithm, whatever they hold. The layers above rest on an accepted pair
+// alone, so neither the code generator nor what was read from a file is trusted.
+#![tactic(auto)]
+
+mod failures;
+mod first;
+mod fit;
+mod frames;
+mod image_lists;
+mod lookups;
+mod marks;
+mod named_sites;
+mod operations;
+mod places;
+mod ranges;
+mod settings;
+mod site_rules;
+mod tables;
+mod words;
+
+pub use failures::Failure;
+pub use first::first_failure;

@@ -1,0 +1,16 @@
+pub mod Standing
+pub mod Entering
+pub mod Calling
+pub mod PlainCalls
+pub mod Leaving
+pub mod Coming
+pub mod CallShapes
+pub mod Returning
+pub mod EndStub
+pub mod Transfers
+pub mod Linked
+pub mod Agreeing
+pub mod Linking
+pub mod FarCalls
+pub mod Unlinking
+pub mod CallSteps

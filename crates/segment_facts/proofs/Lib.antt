@@ -1,0 +1,3 @@
+pub mod Standing
+pub mod FramePlaces
+pub mod ValidFacts

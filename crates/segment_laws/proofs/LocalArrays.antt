@@ -1,0 +1,254 @@
+-- Elements of a variable, by an index behind its guard.
+use Rattle.std.proofs.Common.{◌≡◌, ℕ, ◌+◌, ◌*◌, ◌%◌, ◌^◌, ◌<◌, ◌≤◌, List, length, get_or, set, pos, Some, None, refl, sym, ap, subst, ◌∙◌, arith, get_or-set_same, get_or-set_other}
+use Rattle.std.specs.Prelude.{slice_get}
+use Rattle.std.proofs.lemmas.List.{length-set}
+use Rattle.cap_word.specs.Word as word
+use Rattle.cap_word.specs.Word.{word_of}
+use Rattle.cap_word.specs.Runs.{Stops}
+use Rattle.cap_word.specs.declared.traps.TrapKind.{TrapKind}
+use Rattle.rv_code.specs.declared.instructions.Instr.{Instr}
+use Rattle.rv_machine.specs.Access.{accessed}
+use Rattle.rv_machine.specs.Effect.{effect}
+use Rattle.rv_machine.specs.Registers.{read}
+use Rattle.rv_machine.specs.Rows as rows
+use Rattle.rv_machine.specs.Rows.{sets}
+use Rattle.flat_code.specs.declared.operations.Op.{Op}
+use Rattle.flat_code.specs.Codes.{function_at}
+use Rattle.flat_code.specs.Frames.{FlatThread, variable, passed, set_to}
+use Rattle.flat_code.specs.Step.{scalar}
+use Rattle.stack_certificate.specs.Certificates.{fact_at}
+use Rattle.machine_world.specs.InPlace.{Frame, word_in}
+use Rattle.machine_world.specs.Local.{Local, Trapped, machine_of}
+use Rattle.machine_world.specs.Places.{Checked}
+use Rattle.machine_world.specs.Rests.{variable_word}
+use Rattle.segment_laws.proofs.Facts.{CodeFacts, IsOperationAt}
+use Rattle.segment_laws.proofs.Finish.{store_scalar, store_variable, Simulates-at, behind_last, Reaches-after}
+use Rattle.segment_laws.proofs.FrameWords.{InFrame-inside, frame_bounded, load_at}
+use Rattle.segment_laws.proofs.Guards.{IsGuarded, guard_passes, guard_traps}
+use Rattle.segment_laws.proofs.Immediate.{words_of, fetch_at, is_t0, is_t1}
+use Rattle.segment_laws.proofs.Inside.{IsWholeWord, IsSet}
+use Rattle.segment_laws.proofs.Registers.{add-small, word_of-small}
+use Rattle.segment_laws.proofs.Simulation.{During, Simulates, Reaches, Sets, Sets-register, set_value, IsWordPlace-variable, load_scalar}
+use Rattle.segment_laws.proofs.Straight.{one_word, flat_set}
+use Rattle.segment_laws.proofs.Variables.{HasWord}
+use Rattle.segment_laws.proofs.Ways.{Leads, Leads-then, ComesTo}
+
+does_slli : (m : rows.Machine) (k : ℕ) → read m.x 5 ≡ k → 4 * k < 2 ^ 32 → effect (Instr.Slli 5 5 (pos 2)) m ≡ sets m 5 (4 * k)
+unfolding effect word.sll
+does_slli m k e small =
+    let two : word_of (pos 2) ≡ 2 = word_of-small 2 (omega arith) in
+    ap (λ (n : ℕ). sets m 5 (word.sll n (word_of (pos 2)))) e
+    ∙ ap (λ (s : ℕ). sets m 5 (k * 2 ^ (s % 32) % 2 ^ 32)) two
+    ∙ ap (sets m 5) (let sum : k * 2 ^ (2 % 32) % 2 ^ 32 ≡ 4 * k = omega arith in sum)
+
+none_slli : (m : rows.Machine) → accessed (Instr.Slli 5 5 (pos 2)) m ≡ None
+unfolding accessed
+none_slli m = refl
+
+does_add : (m : rows.Machine) (r a b v : ℕ) → read m.x 5 ≡ a → read m.x r ≡ b → word.add a b ≡ v → effect (Instr.Add 5 5 r) m ≡ sets m 5 v
+unfolding effect
+does_add m r a b v p q e = (λ i. sets m 5 (word.add (p i) (q i))) ∙ ap (sets m 5) e
+
+none_add : (m : rows.Machine) (r : ℕ) → accessed (Instr.Add 5 5 r) m ≡ None
+unfolding accessed
+none_add m r = refl
+
+-- four times the index in t0
+pub scales : (c : Checked) (code : List ℕ) (l : Local) (t : FlatThread) (op : Op) (frame : Frame) (below : List Frame) (k : ℕ) → IsOperationAt c code t.frame.function t.frame.next op → IsWholeWord c t.frame.function 7 op → During c l t 7 frame below →
+    slice_get (words_of c t.frame.function t.frame.next op) 7 ≡ Some (Instr.Slli 5 5 (pos 2)) → read l.core.x 5 ≡ k → 4 * k < 2 ^ 32 → Sets c code l t 7 frame below 5 (4 * k)
+scales c code l t op frame below k there whole during e index small =
+    set_value c code l t 7 op frame below (Instr.Slli 5 5 (pos 2)) 5 (4 * k) there whole during (fetch_at c code l t.frame.function t.frame.next 7 op frame below (Instr.Slli 5 5 (pos 2)) there during.inside e)
+    (does_slli (machine_of l) k index small) (none_slli (machine_of l)) is_t0
+
+-- t0 plus a register
+pub adds : (c : Checked) (code : List ℕ) (l : Local) (t : FlatThread) (w : ℕ) (op : Op) (frame : Frame) (below : List Frame) (r a b v : ℕ) → IsOperationAt c code t.frame.function t.frame.next op → IsWholeWord c t.frame.function w op → During c l t w frame below →
+    slice_get (words_of c t.frame.function t.frame.next op) w ≡ Some (Instr.Add 5 5 r) → read l.core.x 5 ≡ a → read l.core.x r ≡ b → word.add a b ≡ v → Sets c code l t w frame below 5 v
+adds c code l t w op frame below r a b v there whole during e left right sum =
+    set_value c code l t w op frame below (Instr.Add 5 5 r) 5 v there whole during (fetch_at c code l t.frame.function t.frame.next w op frame below (Instr.Add 5 5 r) there during.inside e)
+    (does_add (machine_of l) r a b v left right sum) (none_add (machine_of l) r) is_t0
+
+-- ---- an element of a variable
+
+-- t0 is the frame's lowest address plus four times the index
+record Addressed (c : Checked) (code : List ℕ) (l : Local) (t : FlatThread) (frame : Frame) (below : List Frame) (k : ℕ) : Type 0 where
+  next : Local
+  leads : Leads c code 6 l next
+  during : During c next t 9 frame below
+  value_is : read next.core.x 5 ≡ frame.low + 4 * k
+
+addresses : (c : Checked) (code : List ℕ) (l : Local) (t : FlatThread) (op : Op) (frame : Frame) (below : List Frame) (x n k : ℕ) → CodeFacts c code → IsOperationAt c code t.frame.function t.frame.next op → IsGuarded c t.frame.function t.frame.next op x n 1 → During c l t 0 frame below → scalar t x ≡ Some k → k < n → 4 * n ≤ 2032 →
+    IsWholeWord c t.frame.function 7 op → IsWholeWord c t.frame.function 8 op → slice_get (words_of c t.frame.function t.frame.next op) 7 ≡ Some (Instr.Slli 5 5 (pos 2)) → slice_get (words_of c t.frame.function t.frame.next op) 8 ≡ Some (Instr.Add 5 5 2) →
+    Addressed c code l t frame below k
+addresses c code l t op frame below x n k facts there guarded during value within few w7 w8 e7 e8 =
+    let passed = guard_passes c code l t op frame below x n 1 k facts there guarded during value within in
+    let scaled = scales c code passed.next t op frame below k there w7 passed.during e7 passed.index (omega arith) in
+    let high = frame_bounded c l t.frame.function t.frame.next 0 frame below during.inside in
+    let bounded : frame.low + 4 * k < 2 ^ 32 = omega (arith, high, few, within) in
+    let summed = adds c code scaled.next t 8 op frame below 2 (4 * k) frame.low (frame.low + 4 * k) there w8 scaled.during e8 scaled.value_is scaled.during.inside.sp_is
+    (add-small (4 * k) frame.low (omega arith) ∙ (let e : 4 * k + frame.low ≡ frame.low + 4 * k = omega arith in e)) in
+    record {
+      next = summed.next;
+      leads = Leads-then c code 5 1 l scaled.next summed.next (Leads-then c code 4 1 l passed.next scaled.next passed.leads scaled.leads) summed.leads;
+      during = summed.during;
+      value_is = summed.value_is;
+    }
+
+-- few words fit a frame
+few_words : (c : Checked) (code : List ℕ) (f a : ℕ) → CodeFacts c code → f < length c.flat.functions → a < length (function_at c.flat f).sizes → 4 * get_or (function_at c.flat f).sizes a 0 ≤ 2032
+few_words c code f a facts there below =
+    let fact = facts.frame f there in
+    let inside = fact.place_inside a below in
+    let most = fact.most in
+    omega (arith, inside, most)
+
+-- the address of an element
+element_address : (l : Local) (low place k : ℕ) → read l.core.x 5 ≡ low + 4 * k → low + 4 * k + place < 2 ^ 32 → place < 2 ^ 32 → word.add (read l.core.x 5) (word_of (pos place)) ≡ low + (place + 4 * k)
+element_address l low place k is below place_below =
+    ap (word.add (read l.core.x 5)) (word_of-small place place_below) ∙ ap (λ (n : ℕ). word.add n place) is ∙ add-small (low + 4 * k) place below
+    ∙ (let e : low + 4 * k + place ≡ low + (place + 4 * k) = omega arith in e)
+
+pub load_local_reaches : (c : Checked) (code : List ℕ) (l : Local) (t : FlatThread) (d a x k : ℕ) (row : List ℕ) → CodeFacts c code → IsOperationAt c code t.frame.function t.frame.next (Op.LoadLocal d a x) → Simulates c l t → scalar t x ≡ Some k → variable t.frame a ≡ Some row → k < length row →
+    Reaches c code l (flat_set t d (get_or row k 0))
+load_local_reaches c code l t d a x k row facts there simulates value set within =
+    let op = Op.LoadLocal d a x in
+    let f = t.frame.function in
+    let i = t.frame.next in
+    let frame = simulates.frame in
+    let below = simulates.below in
+    let during = simulates.during in
+    let n = get_or (function_at c.flat f).sizes a 0 in
+    let place = get_or (fact_at c.certificate f).places a 0 in
+    let count : length row ≡ n = during.shape.words a row set in
+    let few : 4 * n ≤ 2032 = few_words c code f a facts there.function there.formed.1 in
+    let inside_n : k < n = omega (arith, within, count) in
+    let whole = (λ (w : ℕ) (small : w < 11). (let word : IsWholeWord c f w op = record { small = small; row_is = refl } in word)) in
+    let guarded : IsGuarded c f i op x n 1 = record {
+      e0 = refl;
+      e1 = refl;
+      e2 = refl;
+      e3 = refl;
+      e4 = refl;
+      e5 = refl;
+      e6 = refl;
+      whole = λ w small. whole w (omega arith);
+      one = one_word c f x there.formed.2;
+      small = omega arith;
+      more = omega arith;
+    } in
+    let addressed = addresses c code l t op frame below x n k facts there guarded during value inside_n few (whole 7 (omega arith)) (whole 8 (omega arith)) refl refl in
+    let fact = facts.frame f there.function in
+    let word_place = IsWordPlace-variable c code f a k fact there.formed.1 inside_n in
+    let in_frame = InFrame-inside c code addressed.next f i 9 frame below (place + 4 * k) facts there.function addressed.during.inside word_place.aligned word_place.fits in
+    let high = frame_bounded c l f i 0 frame below during.inside in
+    let fits = in_frame.inside in
+    let address = element_address addressed.next frame.low place k addressed.value_is (omega (arith, high, fits)) (omega (arith, high, fits)) in
+    let held : variable_word c addressed.next.areas.pool frame a k ≡ get_or row k 0 = addressed.during.variables a row set k within in
+    let function : frame.function ≡ f = during.inside.body.function in
+    let here : word_in addressed.next.areas.pool frame.chunk (frame.low + (place + 4 * k)) ≡ get_or row k 0 =
+    (let e : frame.low + (place + 4 * k) ≡ frame.low + place + 4 * k = omega arith in ap (word_in addressed.next.areas.pool frame.chunk) e)
+    ∙ ap (λ (g : ℕ). word_in addressed.next.areas.pool frame.chunk (frame.low + get_or (fact_at c.certificate g).places a 0 + 4 * k)) (sym function) ∙ held in
+    let loaded = Sets-register c code addressed.next t 9 frame below 5 (get_or row k 0) addressed.during
+    (subst (IsSet c code addressed.next f i 9 frame below 5) here
+    (load_at c code addressed.next f i 9 op frame below 5 5 (place + 4 * k) (pos place) facts there (whole 9 (omega arith)) addressed.during.inside
+    (fetch_at c code addressed.next f i 9 op frame below _ there addressed.during.inside refl) in_frame address is_t0)) in
+    let stored = store_scalar c code loaded.next t 10 op frame below 5 d (get_or row k 0) facts there (whole 10 (omega arith)) loaded.during (fetch_at c code loaded.next f i 10 op frame below _ there loaded.during.inside refl) (one_word c f d there.formed.0) loaded.value_is refl in
+    Reaches-after c code 7 l loaded.next (flat_set t d (get_or row k 0)) (Leads-then c code 6 1 l addressed.next loaded.next addressed.leads loaded.leads) stored
+
+pub store_local_reaches : (c : Checked) (code : List ℕ) (l : Local) (t : FlatThread) (a x y k v : ℕ) (row : List ℕ) → CodeFacts c code → IsOperationAt c code t.frame.function t.frame.next (Op.StoreLocal a x y) → Simulates c l t → scalar t x ≡ Some k → scalar t y ≡ Some v → variable t.frame a ≡ Some row → k < length row →
+    Reaches c code l (record t { frame = passed (set_to t.frame a (set row k v)) })
+store_local_reaches c code l t a x y k v row facts there simulates index value set_row within =
+    let op = Op.StoreLocal a x y in
+    let f = t.frame.function in
+    let i = t.frame.next in
+    let frame = simulates.frame in
+    let below = simulates.below in
+    let during = simulates.during in
+    let n = get_or (function_at c.flat f).sizes a 0 in
+    let place = get_or (fact_at c.certificate f).places a 0 in
+    let count : length row ≡ n = during.shape.words a row set_row in
+    let few : 4 * n ≤ 2032 = few_words c code f a facts there.function there.formed.0 in
+    let inside_n : k < n = omega (arith, within, count) in
+    let whole = (λ (w : ℕ) (small : w < 11). (let word : IsWholeWord c f w op = record { small = small; row_is = refl } in word)) in
+    let guarded : IsGuarded c f i op x n 1 = record {
+      e0 = refl;
+      e1 = refl;
+      e2 = refl;
+      e3 = refl;
+      e4 = refl;
+      e5 = refl;
+      e6 = refl;
+      whole = λ w small. whole w (omega arith);
+      one = one_word c f x there.formed.1;
+      small = omega arith;
+      more = omega arith;
+    } in
+    let addressed = addresses c code l t op frame below x n k facts there guarded during index inside_n few (whole 7 (omega arith)) (whole 8 (omega arith)) refl refl in
+    let loaded = load_scalar c code addressed.next t 9 op frame below 6 y v facts there (whole 9 (omega arith)) addressed.during (fetch_at c code addressed.next f i 9 op frame below _ there addressed.during.inside refl) (one_word c f y there.formed.2) value is_t1 in
+    let function : frame.function ≡ f = during.inside.body.function in
+    let has : HasWord c frame a k = (subst (λ (g : ℕ). a < length (function_at c.flat g).sizes) (sym function) there.formed.0, subst (λ (g : ℕ). k < get_or (function_at c.flat g).sizes a 0) (sym function) inside_n) in
+    let fact = facts.frame f there.function in
+    let word_place = IsWordPlace-variable c code f a k fact there.formed.0 inside_n in
+    let fits = word_place.fits in
+    let bytes = during.inside.body.bytes in
+    let high = frame_bounded c l f i 0 frame below during.inside in
+    let address = element_address loaded.next frame.low place k (loaded.others 5 (λ e. absurd (omega arith)) ∙ addressed.value_is) (omega (arith, high, fits, bytes)) (omega (arith, high, fits, bytes)) in
+    let new = set row k v in
+    let stored = store_variable c code loaded.next t 10 op frame below 5 6 a k v (pos place) new facts there (whole 10 (omega arith)) loaded.during (fetch_at c code loaded.next f i 10 op frame below _ there loaded.during.inside refl) has
+    (address ∙ ap (λ (g : ℕ). frame.low + (get_or (fact_at c.certificate g).places a 0 + 4 * k)) (sym function)) loaded.value_is
+    (length-set row k v ∙ count ∙ ap (λ (g : ℕ). get_or (function_at c.flat g).sizes a 0) (sym function))
+    (get_or-set_same row k v 0 within)
+    (λ j small apart. get_or-set_other row k j v 0 apart ∙ sym (loaded.during.variables a row set_row j (omega (arith, small, length-set row k v)))) in
+    record {
+      steps = 7;
+      after = stored.next;
+      leads = Leads-then c code 7 1 l loaded.next stored.next (Leads-then c code 6 1 l addressed.next loaded.next addressed.leads loaded.leads) stored.leads;
+      simulates = Simulates-at c stored.next (record t { frame = set_to t.frame a new }) 11 (i + 1) frame below stored.during
+          (behind_last c code stored.next f i 10 op frame below there stored.during.inside refl);
+    }
+
+-- out of range
+pub load_local_traps : (c : Checked) (code : List ℕ) (l : Local) (t : FlatThread) (d a x k : ℕ) (row : List ℕ) → CodeFacts c code → IsOperationAt c code t.frame.function t.frame.next (Op.LoadLocal d a x) → Simulates c l t → scalar t x ≡ Some k → variable t.frame a ≡ Some row → length row ≤ k →
+    ComesTo c code 6 l (Stops (Trapped TrapKind.Index))
+load_local_traps c code l t d a x k row facts there simulates value set past =
+    let op = Op.LoadLocal d a x in
+    let f = t.frame.function in
+    let n = get_or (function_at c.flat f).sizes a 0 in
+    let count : length row ≡ n = simulates.during.shape.words a row set in
+    let few : 4 * n ≤ 2032 = few_words c code f a facts there.function there.formed.1 in
+    guard_traps c code l t op simulates.frame simulates.below x n 1 k facts there
+    (record {
+      e0 = refl;
+      e1 = refl;
+      e2 = refl;
+      e3 = refl;
+      e4 = refl;
+      e5 = refl;
+      e6 = refl;
+      whole = λ w small. record { small = omega arith; row_is = refl };
+      one = one_word c f x there.formed.2;
+      small = omega arith;
+      more = omega arith;
+    }) simulates.during value (omega (arith, past, count)) (omega arith)
+
+pub store_local_traps : (c : Checked) (code : List ℕ) (l : Local) (t : FlatThread) (a x y k : ℕ) (row : List ℕ) → CodeFacts c code → IsOperationAt c code t.frame.function t.frame.next (Op.StoreLocal a x y) → Simulates c l t → scalar t x ≡ Some k → variable t.frame a ≡ Some row → length row ≤ k →
+    ComesTo c code 6 l (Stops (Trapped TrapKind.Index))
+store_local_traps c code l t a x y k row facts there simulates value set past =
+    let op = Op.StoreLocal a x y in
+    let f = t.frame.function in
+    let n = get_or (function_at c.flat f).sizes a 0 in
+    let count : length row ≡ n = simulates.during.shape.words a row set in
+    let few : 4 * n ≤ 2032 = few_words c code f a facts there.function there.formed.0 in
+    guard_traps c code l t op simulates.frame simulates.below x n 1 k facts there
+    (record {
+      e0 = refl;
+      e1 = refl;
+      e2 = refl;
+      e3 = refl;
+      e4 = refl;
+      e5 = refl;
+      e6 = refl;
+      whole = λ w small. record { small = omega arith; row_is = refl };
+      one = one_word c f x there.formed.1;
+      small = omega arith;
+      more = omega arith;
+    }) simulates.during value (omega (arith, past, count)) (omega arith)

@@ -1,0 +1,5 @@
+pub mod Ways
+pub mod Facts
+pub mod Simulation
+pub mod Straight
+pub mod Asking
