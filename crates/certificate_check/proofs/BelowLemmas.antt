@@ -128,9 +128,9 @@ v2_more code image certificate f before here g j less = elim (cases_lt g f) [
 pub holds_more : (code : FlatCode) (image : Image) (certificate : Certificate) (rule f : ℕ) → ((g j : ℕ) → g < f → Holds code image certificate rule g j) → ((j : ℕ) → Holds code image certificate rule f j) →
     (g j : ℕ) → g < f + 1 → Holds code image certificate rule g j
 holds_more code image certificate rule f before here g j less = elim (cases_lt g f) [
-      inl below ↦ before g j below
-    | inr above ↦ (let is : f ≡ g = omega arith in subst (λ (n : ℕ). Holds code image certificate rule n j) is (here j))
-    ]
+  | inl below ↦ before g j below
+  | inr above ↦ (let is : f ≡ g = omega arith in subst (λ (n : ℕ). Holds code image certificate rule n j) is (here j))
+]
 
 -- the first failure of V1 is that of the pair
 pub first_failure_from : (code : FlatCode) (image : Image) (certificate : Certificate) (spot : Spot) → IsFirstSpot (V1 code image certificate) (Some spot) →

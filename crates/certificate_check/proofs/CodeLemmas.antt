@@ -146,12 +146,12 @@ pub words_more : (code : FlatCode) (image : Image) (certificate : Certificate) (
     ((v : ℕ) (instr : Instr) → v < w → slice_get (template code certificate f i) v ≡ Some instr → Stands image (begin code certificate f i + 4 * v) instr) →
     (v : ℕ) (instr : Instr) → v < w + 1 → slice_get (template code certificate f i) v ≡ Some instr → Stands image (begin code certificate f i + 4 * v) instr
 words_more code image certificate f i w here before v instr less e = elim (cases_lt v w) [
-      inl below ↦ before v instr below e
-    | inr above ↦
-        (let is : w ≡ v = omega arith in
-        let at : slice_get (template code certificate f i) w ≡ Some instr = ap (λ (n : ℕ). slice_get (template code certificate f i) n) is ∙ e in
-        subst (λ (n : ℕ). Stands image (begin code certificate f i + 4 * n) instr) is (here instr at))
-    ]
+  | inl below ↦ before v instr below e
+  | inr above ↦
+      (let is : w ≡ v = omega arith in
+      let at : slice_get (template code certificate f i) w ≡ Some instr = ap (λ (n : ℕ). slice_get (template code certificate f i) n) is ∙ e in
+      subst (λ (n : ℕ). Stands image (begin code certificate f i + 4 * n) instr) is (here instr at))
+]
 
 pub operation_there : (code : FlatCode) (f i : ℕ) → i < length (function_at code f).ops → (op : Op) × (operation_at code f i ≡ Some op)
 operation_there code f i lt = some_at (function_at code f).ops i lt
@@ -170,21 +170,21 @@ last before after n w count e = ap (λ (l : List ℕ). slice_index l (n + 1)) e 
 pub before_more : (before after : List ℕ) (n w : ℕ) (F : ℕ → ℕ) → length before ≡ n + 1 → after ≡ before ++ w ∷ [] → w ≡ F (n + 1) → ((i : ℕ) → i ≤ n → slice_index before i ≡ F i) →
     (i : ℕ) → i ≤ n + 1 → slice_index after i ≡ F i
 before_more before after n w F count e is each i le = elim (cases_lt i (n + 1)) [
-      inl below ↦ pushed before after n w i count e below ∙ each i (omega arith)
-    | inr above ↦
-        (let at : n + 1 ≡ i = omega arith in
-        subst (λ (k : ℕ). slice_index after k ≡ F k) at (last before after n w count e ∙ is))
-    ]
+  | inl below ↦ pushed before after n w i count e below ∙ each i (omega arith)
+  | inr above ↦
+      (let at : n + 1 ≡ i = omega arith in
+      subst (λ (k : ℕ). slice_index after k ≡ F k) at (last before after n w count e ∙ is))
+]
 
 pub range_more : (before after : List ℕ) (n w : ℕ) → length before ≡ n + 1 → after ≡ before ++ w ∷ [] → w < 2 ^ 54 → ((i : ℕ) → slice_index before i < 2 ^ 54) → (i : ℕ) → slice_index after i < 2 ^ 54
 range_more before after n w count e room range i = elim (cases_lt i (n + 1)) [
-      inl below ↦ subst (λ (v : ℕ). v < 2 ^ 54) (sym (pushed before after n w i count e below)) (range i)
-    | inr above ↦ elim (cases_lt (n + 1) i) [
-        inl past ↦
-          (let none : slice_index after i ≡ 0 = get_or_past after i 0 (let c = count_more before after n w count e in omega arith) in
-          subst (λ (v : ℕ). v < 2 ^ 54) (sym none) (lit< tt))
-      | inr within ↦
-          (let at : n + 1 ≡ i = omega arith in
-          subst (λ (k : ℕ). slice_index after k < 2 ^ 54) at (subst (λ (v : ℕ). v < 2 ^ 54) (sym (last before after n w count e)) room))
-      ]
-    ]
+  | inl below ↦ subst (λ (v : ℕ). v < 2 ^ 54) (sym (pushed before after n w i count e below)) (range i)
+  | inr above ↦ elim (cases_lt (n + 1) i) [
+    | inl past ↦
+        (let none : slice_index after i ≡ 0 = get_or_past after i 0 (let c = count_more before after n w count e in omega arith) in
+        subst (λ (v : ℕ). v < 2 ^ 54) (sym none) (lit< tt))
+    | inr within ↦
+        (let at : n + 1 ≡ i = omega arith in
+        subst (λ (k : ℕ). slice_index after k < 2 ^ 54) at (subst (λ (v : ℕ). v < 2 ^ 54) (sym (last before after n w count e)) room))
+  ]
+]

@@ -17,9 +17,9 @@ HasPlacesAt code certificate f = f < length code.functions → length (fact_at c
 pub count_spot : (code : FlatCode) (image : Image) (certificate : Certificate) (i : ℕ) → IsFirst (λ j. j ≤ 3 → V1 code image certificate 0 j) (Some i) →
     IsFirstSpot (λ f j. V1 code image certificate f j) (Some (record { function = 0; index = i }))
 count_spot code image certificate i h = elim (cases_lt 3 i) [
-      inl past ↦ absurd (h.0 (λ le. absurd (omega arith)))
-    | inr within ↦ (λ v. h.0 (λ _. v), λ j lt. h.1 j lt (omega arith), λ g j lt. absurd (omega arith))
-    ]
+  | inl past ↦ absurd (h.0 (λ le. absurd (omega arith)))
+  | inr within ↦ (λ v. h.0 (λ _. v), λ j lt. h.1 j lt (omega arith), λ g j lt. absurd (omega arith))
+]
 
 pub same_functions : (code : FlatCode) (image : Image) (certificate : Certificate) → IsFirst (λ j. j ≤ 3 → V1 code image certificate 0 j) None → length certificate.functions ≡ length code.functions
 same_functions code image certificate counts = ((counts 3 (omega arith)).functions refl).0
@@ -46,14 +46,13 @@ fit_spot code image certificate None false counts places names = (
 fit_spot code image certificate (Some f) named counts places names = by (nat_eq f 0) refl named names
   where
     by : (b : Bool) → nat_eq f 0 ≡ b → (n : Bool) → (IsTrue n ↔ NamesSites code certificate) →
-      IsFirstSpot (λ g j. V1 code image certificate g j) (if b then Some (record { function = f; index = 4 }) else if n then Some (record { function = f; index = 4 }) else Some (record { function = 0; index = 5 }))
+        IsFirstSpot (λ g j. V1 code image certificate g j) (if b then Some (record { function = f; index = 4 }) else if n then Some (record { function = f; index = 4 }) else Some (record { function = 0; index = 5 }))
     by true e n nn =
-      let is : f ≡ 0 = eqb-true f 0 e in
-      (
-        λ v. places.0 (λ lt. v.places refl lt),
-        λ j lt. with_counts code image certificate f j counts (λ g. absurd (omega arith)) (λ g. absurd (omega arith)),
-        λ g j lt. absurd (omega arith),
-      )
+        let is : f ≡ 0 = eqb-true f 0 e in (
+          λ v. places.0 (λ lt. v.places refl lt),
+          λ j lt. with_counts code image certificate f j counts (λ g. absurd (omega arith)) (λ g. absurd (omega arith)),
+          λ g j lt. absurd (omega arith),
+        )
     by false e true nn = (
       λ v. places.0 (λ lt. v.places refl lt),
       λ j lt. with_counts code image certificate f j counts (λ g. absurd (omega arith)) (λ g. absurd (omega arith)),
@@ -62,8 +61,8 @@ fit_spot code image certificate (Some f) named counts places names = by (nat_eq 
     by false e false nn = (
       λ v. false≢true (nn.1 (v.sites refl)),
       λ j lt. with_counts code image certificate 0 j counts (λ _. places.1 0 (elim (cases_lt 0 f) [
-          inl above ↦ above
+        | inl above ↦ above
         | inr zero_ ↦ absurd (eqb-false f 0 e (omega arith))
-        ])) (λ g. absurd (omega arith)),
+      ])) (λ g. absurd (omega arith)),
       λ g j lt. absurd (omega arith),
     )

@@ -1,5 +1,5 @@
 -- In code with a valid certificate each pc has one place at most.
-use Rattle.std.proofs.Common.{◌≡◌, ℕ, zero, suc, ◌+◌, ◌-◌, ◌*◌, ◌%◌, ◌<◌, ◌≤◌, List, [], ◌∷◌, length, take, Option, Some, None, slice_get, refl, sym, ap, subst, ◌∙◌, arith, ⊎_elim}
+use Rattle.std.proofs.Common.{◌≡◌, ℕ, zero, suc, ◌+◌, ◌*◌, ◌<◌, ◌≤◌, List, [], ◌∷◌, length, take, Option, Some, None, slice_get, refl, sym, ap, ◌∙◌, arith, ⊎_elim}
 use Rattle.std.specs.Prelude.{sum_by}
 use Rattle.std.proofs.lemmas.Bool.{cases_eq, cases_lt}
 use Rattle.std.proofs.lemmas.List.Sums.{sum_by-cons}
@@ -7,11 +7,10 @@ use Rattle.flat_code.specs.Codes.{FlatCode, function_at, operation_at}
 use Rattle.flat_code.specs.declared.operations.Op.{Op}
 use Rattle.stack_image.specs.declared.images.Image.{Image}
 use Rattle.stack_certificate.specs.Certificates.{fact_at}
-use Rattle.stack_certificate.specs.Templates.{words_before, begin, size, size_at, kind_of}
+use Rattle.stack_certificate.specs.Templates.{words_before, size, size_at, kind_of}
 use Rattle.stack_certificate.specs.declared.certificates.Certificate.{Certificate}
 use Rattle.stack_certificate.proofs.AddressLemmas.{words_step}
-use Rattle.certificate_rules.specs.Ranges.{AreApart}
-use Rattle.certificate_rules.specs.Validity.{Holds, IsValid}
+use Rattle.certificate_rules.specs.Validity.{IsValid}
 use Rattle.machine_world.specs.Places.{Checked, Place, InStub, InPrologue, InOperation, IsAt, size_in}
 
 -- ---- words before an operation
@@ -37,7 +36,7 @@ has_operation : (c : Checked) (f i w : ℕ) (found : Option Op) → operation_at
 has_operation c f i w None there small = absurd (omega arith)
 has_operation c f i w (Some op) there small =
     let step : words_before c.flat c.certificate f i + size (function_at c.flat f).sizes (kind_of c.certificate op) op ≡ words_before c.flat c.certificate f (i + 1) =
-        ap (λ (o : Option Op). words_before c.flat c.certificate f i + size_at (function_at c.flat f).sizes (kind_of c.certificate op) o) (sym there) ∙ words_step c.flat c.certificate f i op (sym there) in
+    ap (λ (o : Option Op). words_before c.flat c.certificate f i + size_at (function_at c.flat f).sizes (kind_of c.certificate op) o) (sym there) ∙ words_step c.flat c.certificate f i op (sym there) in
     record { op = op; there = there; past = omega (arith, step, small) }
 
 within : (ops : List Op) (i : ℕ) (op : Op) → slice_get ops i ≡ Some op → i < length ops
@@ -133,11 +132,11 @@ one_place flat image certificate pc (InOperation f i w) (InOperation g j v) vali
     let mine = has_operation c f i w (operation_at flat f i) refl at.1 in
     let yours = has_operation c g j v (operation_at flat g j) refl too.1 in
     let operation : i ≡ j = ⊎_elim (λ (equal : i ≡ j). equal)
-        (λ (apart : i ≡ j → ⊥). absurd (⊎_elim
-        (λ (lower : i < j). (let front = before-front flat certificate g (i + 1) j (omega arith) in omega (arith, front, mine.past, here_next, number)))
-        (λ (upper : j ≤ i). (let front = before-front flat certificate g (j + 1) i (omega (arith, upper, apart)) in omega (arith, front, yours.past, here, number)))
-        (cases_lt i j)))
-        (cases_eq i j) in
+    (λ (apart : i ≡ j → ⊥). absurd (⊎_elim
+    (λ (lower : i < j). (let front = before-front flat certificate g (i + 1) j (omega arith) in omega (arith, front, mine.past, here_next, number)))
+    (λ (upper : j ≤ i). (let front = before-front flat certificate g (j + 1) i (omega (arith, upper, apart)) in omega (arith, front, yours.past, here, number)))
+    (cases_lt i j)))
+    (cases_eq i j) in
     let begins : words_before flat certificate f i ≡ words_before flat certificate g j = sym here ∙ ap (words_before flat certificate g) operation in
     let word : w ≡ v = omega (arith, begins, number) in
     (λ k. InOperation (same k) (operation k) (word k))

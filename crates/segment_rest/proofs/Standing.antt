@@ -1,11 +1,11 @@
 -- A thread that came to rest at an ECALL stands for the flat thread that asks there.
-use Rattle.std.proofs.Common.{◌≡◌, ℕ, List, ◌∷◌}
+use Rattle.std.proofs.Common.{ℕ, List, ◌∷◌}
 use Rattle.flat_code.specs.Frames.{FlatThread}
 use Rattle.flat_code.specs.declared.operations.Op.{Op}
 use Rattle.machine_world.specs.InPlace.{Frame}
 use Rattle.machine_world.specs.Local.{Local, Question}
 use Rattle.machine_world.specs.Places.{Checked}
-use Rattle.machine_world.specs.Rests.{AtCall, IsFlatFrame}
+use Rattle.machine_world.specs.Rests.{AtCall}
 use Rattle.machine_world.specs.StandsFor.{StandsForFlatThread}
 use Rattle.segment_laws.specs.Asking.{AtAsk}
 
@@ -13,11 +13,14 @@ pub stands_asking : (c : Checked) (code : List ℕ) (l : Local) (t : FlatThread)
     StandsForFlatThread c at.at (t.frame ∷ t.below) t.globals
 stands_asking c code l t op word question frame below at = record {
   rests = AtCall t.frame.function t.frame.next op word (frame ∷ below) at.rests;
-  stands = (record {
+  stands = (
+    record {
       function = at.during.inside.body.function;
       operation = at.during.inside.body.operation;
       shape = at.during.shape;
       variables = at.during.variables;
-    }, at.during.flats);
+    },
+    at.during.flats,
+  );
   globals_are = at.during.globals;
 }

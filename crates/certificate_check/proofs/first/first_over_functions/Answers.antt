@@ -11,8 +11,8 @@ loop-f-preserved c = holds_more (program_code c.args.flat.now) c.args.image.now 
 
 pub returns : goal.returns
 returns c = λ f i. elim (cases_lt f c.loop-f.f) [
-      inl below ↦ c.loop-f.invariant f i below
-    | inr past ↦
-        (let some = c.args.flat.now.well_formed.main_defined in
-        past_functions (program_code c.args.flat.now) c.args.image.now c.args.certificate.now c.args.rule f i c.requires.rule (omega arith) (omega (arith, ap length c.functions.ensures)) (λ j. c.loop-f.invariant zero j (omega (arith, ap length c.functions.ensures))))
-    ]
+  | inl below ↦ c.loop-f.invariant f i below
+  | inr past ↦
+      (let some = c.args.flat.now.well_formed.main_defined in
+      past_functions (program_code c.args.flat.now) c.args.image.now c.args.certificate.now c.args.rule f i c.requires.rule (omega arith) (omega (arith, ap length c.functions.ensures)) (λ j. c.loop-f.invariant zero j (omega (arith, ap length c.functions.ensures))))
+]

@@ -30,7 +30,7 @@ returns-in-Some c = λ f.
     get_or_default c.globals-global-items.result.now c.loop-global.global-index (record { words = 0; start = 0 }) global c.loop-global-test.true ∙ ap (λ l. slice_index_or l c.loop-global.global-index global) c.loop-global.invariant.items in
     let first : IsFirst (λ j. slice_get c.as_slice-words.result.now j ≡ slice_get (starting_words code) j) (Some c.in-Some.index) =
     differs_in starts count (λ x. length-replicate x.words x.start) c.args.flat.now.globals.items c.loop-global.global-index global c.as_slice-words.result.now c.loop-global.passed
-      c.in-Some.index (omega (arith, ap length c.loop-global.invariant.items)) at c.loop-global.invariant.passed c.loop-global.invariant.lower c.in-Some.ensures in
+    c.in-Some.index (omega (arith, ap length c.loop-global.invariant.items)) at c.loop-global.invariant.passed c.loop-global.invariant.lower c.in-Some.ensures in
     let there : IsFirst (λ j. slice_get c.args.image.now.globals j ≡ slice_get (starting_words code) j) (Some c.in-Some.index) =
     subst (λ ws. IsFirst (λ j. slice_get ws j ≡ slice_get (starting_words code) j) (Some c.in-Some.index)) c.as_slice-words.ensures first in
     first_same (λ j. slice_get c.args.image.now.globals j ≡ slice_get (starting_words code) j) (V12 code c.args.image.now f)
@@ -45,7 +45,7 @@ loop-global-preserved c =
     get_or_default c.globals-global-items.result.now c.loop-global.global-index (record { words = 0; start = 0 }) global c.loop-global-test.true ∙ ap (λ l. slice_index_or l c.loop-global.global-index global) c.loop-global.invariant.items in
     let lt : c.loop-global.global-index < length c.args.flat.now.globals.items = omega (arith, ap length c.loop-global.invariant.items) in
     let more = agrees_more starts count (λ x. length-replicate x.words x.start) c.args.flat.now.globals.items c.loop-global.global-index global c.as_slice-words.result.now
-      c.loop-global.passed lt at c.loop-global.invariant.passed c.loop-global.invariant.lower c.in_default.ensures in
+    c.loop-global.passed lt at c.loop-global.invariant.passed c.loop-global.invariant.lower c.in_default.ensures in
     record {
       items = c.loop-global.invariant.items;
       passed = omega (arith, c.loop-global.invariant.passed, sum_step (λ x. x.words) c.args.flat.now.globals.items c.loop-global.global-index global lt at);

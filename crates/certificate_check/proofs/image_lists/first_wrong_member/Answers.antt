@@ -29,7 +29,7 @@ returns-in-Some c = λ f.
     subst (λ l. IsFirstOther (entries l) c.as_slice-words.result.now c.loop-table.passed (Some c.in-Some.index)) c.as_slice.ensures c.in-Some.ensures in
     let first : IsFirst (λ j. slice_get c.as_slice-words.result.now j ≡ slice_get (member_entries code c.args.certificate.now) j) (Some c.in-Some.index) =
     differs_in entries length (λ x. length-map x (λ g. (fact_at c.args.certificate.now g).entry)) c.args.flat.now.tables.items c.loop-table.table-index c.table-item.result c.as_slice-words.result.now c.loop-table.passed
-      c.in-Some.index (omega (arith, ap length c.loop-table.invariant.items)) at c.loop-table.invariant.passed c.loop-table.invariant.lower other in
+    c.in-Some.index (omega (arith, ap length c.loop-table.invariant.items)) at c.loop-table.invariant.passed c.loop-table.invariant.lower other in
     let there : IsFirst (λ j. slice_get c.args.image.now.tables j ≡ slice_get (member_entries code c.args.certificate.now) j) (Some c.in-Some.index) =
     subst (λ ws. IsFirst (λ j. slice_get ws j ≡ slice_get (member_entries code c.args.certificate.now) j) (Some c.in-Some.index)) c.as_slice-words.ensures first in
     first_same (λ j. slice_get c.args.image.now.tables j ≡ slice_get (member_entries code c.args.certificate.now) j) (V8 code c.args.image.now c.args.certificate.now f)
@@ -44,7 +44,7 @@ loop-table-preserved c =
     let none : IsFirstOther (entries c.table-item.result) c.as_slice-words.result.now c.loop-table.passed None =
     subst (λ l. IsFirstOther (entries l) c.as_slice-words.result.now c.loop-table.passed None) c.as_slice.ensures c.in_default.ensures in
     let more = agrees_more entries length (λ x. length-map x (λ g. (fact_at c.args.certificate.now g).entry)) c.args.flat.now.tables.items c.loop-table.table-index c.table-item.result c.as_slice-words.result.now
-      c.loop-table.passed lt at c.loop-table.invariant.passed c.loop-table.invariant.lower none in
+    c.loop-table.passed lt at c.loop-table.invariant.passed c.loop-table.invariant.lower none in
     record {
       items = c.loop-table.invariant.items;
       passed = omega (arith, c.len-passed.ensures, c.loop-table.invariant.passed, sum_step length c.args.flat.now.tables.items c.loop-table.table-index c.table-item.result lt at);

@@ -19,7 +19,7 @@ returns-then-not-agrees-clause-named c = (
 pub returns-else-not-agrees-clause-named : goal.returns-else-not-agrees-clause-named
 returns-else-not-agrees-clause-named c = (
   λ t. named_right c.args.facts.now c.args.op.now c.args.site c.in-Some.k _ c.requires.rising c.requires.site c.in-Some.ensures.found.0 c.in-Some.ensures.found.1
-    (c.if-not-agrees.ensures.0 refl),
+      (c.if-not-agrees.ensures.0 refl),
   λ h. refl,
 )
 

@@ -18,7 +18,7 @@ loop-op-preserved c =
     let count = ap (λ f. length f.ops) c.function_of.ensures.value in
     below_more (λ (j : ℕ). V6 (program_code c.args.flat.now) c.args.image.now c.args.certificate.now c.args.function j) c.loop-op.op c.loop-op.invariant
     (operation_holds (program_code c.args.flat.now) c.args.image.now c.args.certificate.now c.args.function c.loop-op.op c.fact_of.result.now.words (ap (λ f. f.words) c.fact_of.ensures)
-      (omega (arith, count)) (omega (arith, count, c.requires.before.each (c.loop-op.op + 1) (omega (arith, count)))) (c.if-not-operation_stands.ensures.0 refl))
+    (omega (arith, count)) (omega (arith, count, c.requires.before.each (c.loop-op.op + 1) (omega (arith, count)))) (c.if-not-operation_stands.ensures.0 refl))
 
 pub returns : goal.returns
 returns c =
@@ -27,6 +27,6 @@ returns c =
     let whole : words_before (program_code c.args.flat.now) c.args.certificate.now c.args.function (length (function_at (program_code c.args.flat.now) c.args.function).ops) ≡ c.fact_of.result.now.words =
     omega (arith, c.requires.before.each c.len-count.result (omega (arith, n)), ap (λ (k : ℕ). words_before (program_code c.args.flat.now) c.args.certificate.now c.args.function k) n) in
     λ i. elim (cases_lt i c.loop-op.op) [
-      inl below ↦ c.loop-op.invariant i below
-    | inr past ↦ over_holds (program_code c.args.flat.now) c.args.image.now c.args.certificate.now c.args.function i c.fact_of.result.now.words (ap (λ f. f.words) c.fact_of.ensures) (omega (arith, count)) whole
+      | inl below ↦ c.loop-op.invariant i below
+      | inr past ↦ over_holds (program_code c.args.flat.now) c.args.image.now c.args.certificate.now c.args.function i c.fact_of.result.now.words (ap (λ f. f.words) c.fact_of.ensures) (omega (arith, count)) whole
     ]

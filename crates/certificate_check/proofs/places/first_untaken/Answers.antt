@@ -36,10 +36,9 @@ returns-then-not-takes_place-2 c =
     let at : c.loop-x.x ≡ length c.args.sizes.now = omega arith in
     let marked : AreMarked 0 starts runs (length c.args.sizes.now) c.loop-x.marks = subst (λ (n : ℕ). AreMarked 0 starts runs n c.loop-x.marks) at c.loop-x.invariant.marked in
     let e = place_of_ra c.args.fact.now (length c.args.sizes.now) c.requires.places in
-    let f = words_of_ra c.args.sizes.now in
-    (
+    let f = words_of_ra c.args.sizes.now in (
       λ h. absurd (false≢true (((c.if-not-takes_place-2.ensures.placed (length c.args.sizes.now) starts runs marked e f).1)
-        (taken_as c.args.fact.now c.args.sizes.now (length c.args.sizes.now) _ _ e f (h (omega arith))))),
+          (taken_as c.args.fact.now c.args.sizes.now (length c.args.sizes.now) _ _ e f (h (omega arith))))),
       λ j lt le. c.loop-x.invariant.lower j (omega arith),
     )
 
@@ -54,6 +53,6 @@ returns c =
     let last : IsPlaced c.args.fact.now c.args.sizes.now (length c.args.sizes.now) =
     placed_as c.args.fact.now c.args.sizes.now (length c.args.sizes.now) _ _ e f ((c.if-not-takes_place-2.ensures.placed (length c.args.sizes.now) starts runs marked e f).0 refl) in
     λ i le. elim (cases_lt i (length c.args.sizes.now)) [
-      inl below ↦ c.loop-x.invariant.lower i (omega arith)
-    | inr above ↦ (let is : length c.args.sizes.now ≡ i = omega arith in subst (λ (x : ℕ). IsPlaced c.args.fact.now c.args.sizes.now x) is last)
+      | inl below ↦ c.loop-x.invariant.lower i (omega arith)
+      | inr above ↦ (let is : length c.args.sizes.now ≡ i = omega arith in subst (λ (x : ℕ). IsPlaced c.args.fact.now c.args.sizes.now x) is last)
     ]

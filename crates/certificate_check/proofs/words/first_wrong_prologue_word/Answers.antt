@@ -14,15 +14,15 @@ prologue_word-requires-clause-places c =
 pub returns-then-word-fact : goal.returns-then-word-fact
 returns-then-word-fact c = (
   prologue_fails (program_code c.args.flat.now) c.args.image.now c.args.certificate.now c.args.function c.loop-word.word c.function_of.result.now.params c.placed_fact_of-fact.result.now
-    c.placed_fact_of-fact.ensures.value (ap (λ f. f.params) c.function_of.ensures.value) c.requires.function (omega arith) (λ instr e h. omega (arith, h.0)),
+      c.placed_fact_of-fact.ensures.value (ap (λ f. f.params) c.function_of.ensures.value) c.requires.function (omega arith) (λ instr e h. omega (arith, h.0)),
   λ j lt. c.loop-word.invariant j lt,
 )
 
 pub returns-then-not-stands_at : goal.returns-then-not-stands_at
 returns-then-not-stands_at c = (
   prologue_fails (program_code c.args.flat.now) c.args.image.now c.args.certificate.now c.args.function c.loop-word.word c.function_of.result.now.params c.placed_fact_of-fact.result.now
-    c.placed_fact_of-fact.ensures.value (ap (λ f. f.params) c.function_of.ensures.value) c.requires.function (omega arith)
-    (λ instr e h. false≢true (stands_not c.args.image.now _ (prologue c.placed_fact_of-fact.result.now c.function_of.result.now.params) c.loop-word.word c.prologue_word.result c.prologue_word.ensures c.if-not-stands_at.ensures instr e h.1)),
+      c.placed_fact_of-fact.ensures.value (ap (λ f. f.params) c.function_of.ensures.value) c.requires.function (omega arith)
+      (λ instr e h. false≢true (stands_not c.args.image.now _ (prologue c.placed_fact_of-fact.result.now c.function_of.result.now.params) c.loop-word.word c.prologue_word.result c.prologue_word.ensures c.if-not-stands_at.ensures instr e h.1)),
   λ j lt. c.loop-word.invariant j lt,
 )
 
@@ -34,6 +34,6 @@ loop-word-preserved c = below_more (λ j. V5 (program_code c.args.flat.now) c.ar
 
 pub returns : goal.returns
 returns c = λ i. elim (cases_lt i c.loop-word.word) [
-      inl below ↦ c.loop-word.invariant i below
-    | inr past ↦ prologue_past (program_code c.args.flat.now) c.args.image.now c.args.certificate.now c.args.function i (omega (arith, ap (λ f. f.params) c.function_of.ensures.value))
-    ]
+  | inl below ↦ c.loop-word.invariant i below
+  | inr past ↦ prologue_past (program_code c.args.flat.now) c.args.image.now c.args.certificate.now c.args.function i (omega (arith, ap (λ f. f.params) c.function_of.ensures.value))
+]

@@ -1,4 +1,5 @@
 use Rattle.segment_rest.proofs.OnePlace.{one_place}
+use Rattle.segment_rest.proofs.Past.{past_arrives}
 use Rattle.segment_rest.proofs.Standing.{stands_asking}
 use Rattle.segment_rest.proofs.resting.rest_laws.Goals as goal
 
@@ -7,3 +8,6 @@ returns-clause-asks c = stands_asking
 
 pub returns-clause-one_place : goal.returns-clause-one_place
 returns-clause-one_place c = one_place
+
+pub returns-clause-goes_on : goal.returns-clause-goes_on
+returns-clause-goes_on c = past_arrives

@@ -1,0 +1,56 @@
+ghost use Rattle.std.specs.Prelude.{◌≡◌, ◌⊎◌, Some, IfOk, IfErr};
+ghost use Rattle.c_tree.specs.ProgramView.{program_tree};
+ghost use Rattle.c_lower.specs.ProgramCode.{lowered};
+ghost use Rattle.stack_build.specs.declared.refusals.BuildError.TheVariants.{Memory};
+ghost use Rattle.stack_build.specs.Builds.{frame_refusal, IsPlacedBy};
+
+use crate::refusals::BuildError;
+use c_lower::lower;
+use c_tree::Program;
+use call_graph::GraphSite;
+use cap_word::Words;
+use checkpoint_place::Plan;
+use codegen_link::Options;
+use stack_plan::plan_of;
+use std::alloc::{AllocError, Global};
+
+/// What was found out of a program's calls.
+#[derive(Drop)]
+pub struct Analysis {
+    /// The bytes of each function's frame, by number.
+    pub weights: Words,
+    /// The bound of each function in bytes, by number.
+    pub bounds: Words,
+    /// The call sites, in order of their numbers.
+    pub sites: Vec<GraphSite>,
+    /// The numbers of the back-edge sites, rising.
+    pub back: Words,
+    /// The numbers of the checkpointed sites, rising.
+    pub checkpointed: Words,
+}
+
+/// The analysis of a program for paths of at most `options.max_path` bytes: its call graph, the back edges
+/// of the walk, and the placement. It refuses with `FrameTooLarge` only where a frame exceeds that or 2,032
+/// bytes, and names the first such function; where there is one, no analysis is given.
+pub fn analyse(alloc: Global, program: &Program, options: Options) -> Result<Analysis, BuildError>
+    ensures refused { IfErr result (λ error. (error ≡ Memory) ⊎ (frame_refusal (lowered (program_tree program.now)) options.max_path ≡ Some error)) }
+    ensures planned { IfOk result (λ a. IsPlacedBy (lowered (program_tree program.now)) options.max_path
+        (record { weights = a.weights; tables = (program_tree program.now).tables; sites = a.sites.items; main = (program_tree program.now).main })
+        a.back (record { checkpointed = a.checkpointed; bounds = a.bounds })) }
+{
+    let flat = lower(alloc, program)?;
+    let planned = plan_of(alloc, &flat, options.max_path)?;
+    let weights = Vec::from_slice(alloc, planned.graph.weights())?;
+    let sites = Vec::from_slice(alloc, planned.graph.sites())?;
+    let Plan {
+        checkpointed,
+        bounds,
+    } = planned.plan;
+    Ok(Analysis {
+        weights: Words::new(weights),
+        bounds,
+        sites,
+        back: planned.back,
+        checkpointed,
+    })
+}

@@ -1,0 +1,49 @@
+ghost use Rattle.std.specs.Prelude.{◌≡◌, ◌⊎◌, Some, IfOk, IfErr};
+ghost use Rattle.c_tree.specs.ProgramView.{program_tree};
+ghost use Rattle.certificate_rules.specs.Validity.{IsValid};
+ghost use Rattle.c_lower.specs.ProgramCode.{lowered};
+ghost use Rattle.codegen_link.specs.Plans.{AreInRange};
+ghost use Rattle.flat_code.specs.ProgramView.{program_code};
+ghost use Rattle.stack_build.specs.declared.refusals.BuildError.TheVariants.{Memory};
+ghost use Rattle.stack_build.specs.Builds.{frame_refusal, IsTooLarge, IsLaidOut};
+
+use crate::refusals::BuildError;
+use c_lower::lower;
+use c_tree::Program;
+use codegen_link::{Options, generate};
+use flat_code::FlatProgram;
+use stack_certificate::Certificate;
+use stack_image::Image;
+use stack_plan::plan_of;
+use std::alloc::Global;
+
+/// What a program is built into.
+#[derive(Drop)]
+pub struct Build {
+    /// The flat code of the program.
+    pub flat: FlatProgram,
+    pub image: Image,
+    pub certificate: Certificate,
+}
+
+/// The image and the certificate of a program, laid out for the placement, which meet every rule of the
+/// checker. It refuses with `FrameTooLarge` only where a frame exceeds `options.max_path` or 2,032 bytes, and
+/// names the first such function; with `CodeTooLarge` only where the code of the placement has more than
+/// 200,000 words.
+pub fn lay_out(alloc: Global, program: &Program, options: Options) -> Result<Build, BuildError>
+    requires { AreInRange options }
+    ensures refused { IfErr result (λ error. (error ≡ Memory)
+        ⊎ ((frame_refusal (lowered (program_tree program.now)) options.max_path ≡ Some error) ⊎ IsTooLarge (lowered (program_tree program.now)) options error)) }
+    ensures flat { IfOk result (λ build. program_code build.flat ≡ lowered (program_tree program.now)) }
+    ensures laid_out { IfOk result (λ build. IsLaidOut (lowered (program_tree program.now)) options build.image build.certificate) }
+    ensures valid { IfOk result (λ build. IsValid (lowered (program_tree program.now)) build.image build.certificate) }
+{
+    let flat = lower(alloc, program)?;
+    let planned = plan_of(alloc, &flat, options.max_path)?;
+    let (image, certificate) = generate(alloc, &flat, &planned.plan, options)?;
+    Ok(Build {
+        flat,
+        image,
+        certificate,
+    })
+}
