@@ -7,6 +7,8 @@
 // alone, so neither the code generator nor what was read from a file is trusted.
 #![tactic(auto)]
 
+mod accepted;
+mod checking;
 mod failures;
 mod first;
 mod fit;
@@ -23,5 +25,7 @@ mod site_rules;
 mod tables;
 mod words;
 
+pub use accepted::Accepted;
+pub use checking::{CheckError, check};
 pub use failures::Failure;
 pub use first::first_failure;

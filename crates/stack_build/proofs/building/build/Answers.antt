@@ -1,0 +1,4 @@
+use Rattle.stack_build.proofs.building.build.Goals as goal
+
+pub unreachable-requires : goal.unreachable-requires
+unreachable-requires c = ?
