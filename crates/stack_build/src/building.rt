@@ -1,5 +1,6 @@
 ghost use Rattle.std.specs.Prelude.{◌≡◌, ◌⊎◌, Some, IfOk, IfErr};
 ghost use Rattle.c_tree.specs.ProgramView.{program_tree};
+ghost use Rattle.certificate_check.specs.Accepting.{accepted_tree};
 ghost use Rattle.certificate_rules.specs.Validity.{IsValid};
 ghost use Rattle.c_lower.specs.ProgramCode.{lowered};
 ghost use Rattle.codegen_link.specs.Plans.{AreInRange};
@@ -10,6 +11,7 @@ ghost use Rattle.stack_build.specs.Builds.{frame_refusal, IsTooLarge, IsLaidOut}
 use crate::refusals::BuildError;
 use c_lower::lower;
 use c_tree::Program;
+use certificate_check::{Accepted, CheckError, check};
 use codegen_link::{Options, generate};
 use flat_code::FlatProgram;
 use stack_certificate::Certificate;
@@ -19,7 +21,7 @@ use std::alloc::Global;
 
 /// What a program is built into.
 #[derive(Drop)]
-pub struct Build {
+pub struct Built {
     /// The flat code of the program.
     pub flat: FlatProgram,
     pub image: Image,
@@ -30,7 +32,7 @@ pub struct Build {
 /// checker. It refuses with `FrameTooLarge` only where a frame exceeds `options.max_path` or 2,032 bytes, and
 /// names the first such function; with `CodeTooLarge` only where the code of the placement has more than
 /// 200,000 words.
-pub fn lay_out(alloc: Global, program: &Program, options: Options) -> Result<Build, BuildError>
+pub fn lay_out(alloc: Global, program: &Program, options: Options) -> Result<Built, BuildError>
     requires { AreInRange options }
     ensures refused { IfErr result (λ error. (error ≡ Memory)
         ⊎ ((frame_refusal (lowered (program_tree program.now)) options.max_path ≡ Some error) ⊎ IsTooLarge (lowered (program_tree program.now)) options error)) }
@@ -41,9 +43,26 @@ pub fn lay_out(alloc: Global, program: &Program, options: Options) -> Result<Bui
     let flat = lower(alloc, program)?;
     let planned = plan_of(alloc, &flat, options.max_path)?;
     let (image, certificate) = generate(alloc, &flat, &planned.plan, options)?;
-    Ok(Build {
+    Ok(Built {
         flat,
         image,
         certificate,
     })
+}
+
+/// The accepted program: its image and its certificate are laid out for the placement, and the checker accepts
+/// them. It refuses as `lay_out` does; a refusal drops the program.
+pub fn build(alloc: Global, program: Program, options: Options) -> Result<Accepted, BuildError>
+    requires { AreInRange options }
+    ensures refused { IfErr result (λ error. (error ≡ Memory)
+        ⊎ ((frame_refusal (lowered (program_tree program)) options.max_path ≡ Some error) ⊎ IsTooLarge (lowered (program_tree program)) options error)) }
+    ensures program { IfOk result (λ accepted. accepted_tree accepted ≡ program_tree program) }
+    ensures laid_out { IfOk result (λ accepted. IsLaidOut (lowered (program_tree program)) options accepted.image accepted.certificate) }
+{
+    let built = lay_out(alloc, &program, options)?;
+    match check(alloc, program, built.image, built.certificate) {
+        Ok(accepted) => Ok(accepted),
+        Err(CheckError::Memory { .. }) => Err(BuildError::Memory),
+        Err(CheckError::Rejected { .. }) => unreachable!(),
+    }
 }
