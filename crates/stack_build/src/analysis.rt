@@ -3,6 +3,7 @@ ghost use Rattle.c_tree.specs.ProgramView.{program_tree};
 ghost use Rattle.c_lower.specs.ProgramCode.{lowered};
 ghost use Rattle.stack_build.specs.declared.refusals.BuildError.TheVariants.{Memory};
 ghost use Rattle.stack_build.specs.Builds.{frame_refusal, IsPlacedBy};
+ghost use Rattle.stack_plan.specs.Plans.{IsEnough};
 
 use crate::refusals::BuildError;
 use c_lower::lower;
@@ -37,6 +38,8 @@ pub fn analyse(alloc: Global, program: &Program, options: Options) -> Result<Ana
     ensures planned { IfOk result (λ a. IsPlacedBy (lowered (program_tree program.now)) options.max_path
         (record { weights = a.weights; tables = (program_tree program.now).tables; sites = a.sites.items; main = (program_tree program.now).main })
         a.back (record { checkpointed = a.checkpointed; bounds = a.bounds })) }
+    // No frame exceeds 2,032 bytes or its bound, and no bound a path.
+    ensures enough { IfOk result (λ a. IsEnough (lowered (program_tree program.now)) options.max_path (record { checkpointed = a.checkpointed; bounds = a.bounds })) }
 {
     let flat = lower(alloc, program)?;
     let planned = plan_of(alloc, &flat, options.max_path)?;

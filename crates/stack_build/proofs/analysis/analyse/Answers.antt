@@ -5,6 +5,7 @@ use Rattle.flat_code.specs.ProgramView.{program_code}
 use Rattle.call_graph.specs.Graph.{CallGraphState}
 use Rattle.c_lower.specs.ProgramCode.{lowered}
 use Rattle.stack_build.specs.Builds.{IsPlacedBy}
+use Rattle.stack_plan.specs.Plans.{IsEnough}
 use Rattle.stack_build.proofs.Together.{same-graph}
 use Rattle.stack_build.proofs.analysis.analyse.Goals as goal
 
@@ -22,3 +23,7 @@ returns-clause-planned c =
     (sym (c.in_ok-planned.ensures.graph.main ∙ ap (λ (x : FlatCode). x.main) code)) in
     subst (λ (g : CallGraphState). IsPlacedBy (lowered p) c.args.options.max_path g planned.back planned.plan) (sym same)
     (subst (λ (x : FlatCode). IsPlacedBy x c.args.options.max_path planned.graph planned.back planned.plan) code placed)
+
+pub returns-clause-enough : goal.returns-clause-enough
+returns-clause-enough c =
+    subst (λ (x : FlatCode). IsEnough x c.args.options.max_path c.in_ok-planned.planned.plan) c.in_ok-flat.ensures c.in_ok-planned.ensures.enough
