@@ -1,0 +1,11 @@
+pub mod Setup
+pub mod Trace
+pub mod State
+pub mod Readiness
+pub mod Clock
+pub mod Choice
+pub mod Deliveries
+pub mod Segments
+pub mod Stops
+pub mod Lawful
+pub mod Good
