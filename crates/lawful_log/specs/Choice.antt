@@ -9,7 +9,7 @@ use Rattle.resource_monitor.specs.Monitor.{MonitorState}
 use Rattle.scheduler.specs.Scores as scores
 use Rattle.scheduler.specs.Scores.{comes_before}
 use Rattle.lawful_log.specs.Setup.{Setup, setting_of, all_caps}
-use Rattle.lawful_log.specs.State.{Waiter, Segment, Past, State, uses_of}
+use Rattle.lawful_log.specs.State.{Waiter, Past, State, uses_of}
 use Rattle.lawful_log.specs.Readiness.{is_ready, at_accept, any_elsewhere}
 use Rattle.lawful_log.specs.Clock.{is_due, IsChoicePoint}
 
@@ -51,7 +51,7 @@ is_eligible g state clock w =
 pub record IsLawful (g : Setup) (state : State) (clock : ℕ) (chosen : Waiter) : Type 0 where
   pub first : find (is_eligible g state clock) (queue_at state chosen.node) ≡ Some chosen
   pub least : (other : ℕ) → other ≢ chosen.node → IsSome (find (is_eligible g state clock) (queue_at state other)) →
-    IsTrue (comes_before (score_of g state) (last_choice state.past.taken) chosen.node other)
+      IsTrue (comes_before (score_of g state) (last_choice state.past.taken) chosen.node other)
 
 -- the state after a choice: the thread waits no more, and its segment begins in this machine world
 abbrev pub chosen_from : State → Waiter → World → State

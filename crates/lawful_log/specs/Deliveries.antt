@@ -1,5 +1,5 @@
 -- What comes from outside.
-use Rattle.std.specs.Prelude.{◌≡◌, ℕ, Bool, true, false, List, [], ◌∷◌, Option, Some}
+use Rattle.std.specs.Prelude.{◌≡◌, ℕ, Bool, true, false, [], ◌∷◌, Some}
 use Rattle.cap_word.specs.Word.{signed}
 use Rattle.c_mean.specs.ModelledCalls.{Delivery, Arrival, Message, is_dropped, with_delivery}
 use Rattle.c_mean.specs.World as source

@@ -1,5 +1,5 @@
 -- A good log: the steps of each of its segments are a good stretch, from the world in which the segment begins.
-use Rattle.std.specs.Prelude.{◌≡◌, ℕ, List, [], ◌∷◌, Some}
+use Rattle.std.specs.Prelude.{◌≡◌, List, [], ◌∷◌, Some}
 use Rattle.std.specs.Int.{w32, cast_unsigned}
 use Rattle.c_lower.specs.ProgramCode.{lowered}
 use Rattle.c_mean.specs.ModelledCalls.{Delivery, Arrival, Message}

@@ -1,5 +1,5 @@
 -- The lawful log: its entries are allowed one after another from the start, and then come the edges and one stop.
-use Rattle.std.specs.Prelude.{◌≡◌, ⊥, ℕ, ℤ, true, false, List, [], ◌∷◌, ◌++◌, map, drop, Some, nat_eq, if◌then◌else◌}
+use Rattle.std.specs.Prelude.{◌≡◌, ℕ, ℤ, true, false, List, [], ◌∷◌, ◌++◌, map, drop, Some, nat_eq, if◌then◌else◌}
 use Rattle.blocking_graph.specs.Edges.{edges_of}
 use Rattle.blocking_graph.specs.declared.edges.EdgeLine.{EdgeLine}
 use Rattle.machine_world.specs.Threads.{World}
@@ -27,7 +27,7 @@ IsAllowed g before (Entry.Stop line) after = ⊥
 pub data Leads (g : Setup) : State → List Entry → State → Type 0 where
   nowhere : {state : State} → Leads g state [] state
   by_entry : {before between after : State} {entry : Entry} {entries : List Entry} →
-    IsAllowed g before entry between → Leads g between entries after → Leads g before (entry ∷ entries) after
+      IsAllowed g before entry between → Leads g between entries after → Leads g before (entry ∷ entries) after
 
 -- ---- the end
 

@@ -3,7 +3,6 @@
 use Rattle.std.specs.Prelude.{◌≡◌, ℕ, zero, suc, ◌+◌, ◌-◌, ℤ, pos, ◌-ℤ◌, List, [], ◌∷◌, ◌++◌, length, map, Option, Some, None, slice_get}
 use Rattle.std.specs.List.{range_with_len}
 use Rattle.blocking_graph.specs.Nodes.{keys_with, node_number}
-use Rattle.blocking_graph.specs.declared.segments.SegmentRecord.{SegmentRecord}
 use Rattle.cap_word.specs.Word.{signed}
 use Rattle.cap_word.specs.declared.calls.Block.{Block}
 use Rattle.cap_word.specs.declared.traps.TrapKind.{TrapKind}
@@ -13,7 +12,7 @@ use Rattle.c_mean.specs.World.{RunsTo, IsCutAt}
 use Rattle.machine_world.specs.Runs.{and_then}
 use Rattle.machine_world.specs.Threads.{World, Setting, Move, Goes, Puts, Spawns, Blocks, Ends, Stops, Wrong, step}
 use Rattle.lawful_log.specs.Setup.{Setup, setting_of}
-use Rattle.lawful_log.specs.State.{Waiter, Segment, Past, State, uses_in}
+use Rattle.lawful_log.specs.State.{Waiter, Segment, State, uses_in}
 
 -- ---- the machine's steps
 
@@ -118,7 +117,7 @@ pub record IsBlock (g : Setup) (before : State) (thread node : ℕ) (key : List 
   pub key_is : key ≡ key_of waiting
   pub node_is : node ≡ node_number before.past.keys key
   pub after_is : after ≡ rested before segment node cost machine world
-    (record { thread = thread; node = node; since = machine.clock } ∷ []) (keys_with before.past.keys key)
+      (record { thread = thread; node = node; since = machine.clock } ∷ []) (keys_with before.past.keys key)
 
 -- the node at which threads end
 abbrev pub end_node : ℕ

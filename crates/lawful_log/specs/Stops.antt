@@ -1,5 +1,5 @@
 -- Where a run stops, and in which machine world.
-use Rattle.std.specs.Prelude.{◌≡◌, ◌≢◌, ℕ, ◌+◌, false, List, [], length, Some, None}
+use Rattle.std.specs.Prelude.{◌≡◌, ◌≢◌, ℕ, ◌+◌, false, [], length, Some, None}
 use Rattle.cap_word.specs.declared.stops.Stop.{Stop}
 use Rattle.c_mean.specs.World as source
 use Rattle.machine_world.specs.Threads.{World, Stops, step}

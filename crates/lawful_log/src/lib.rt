@@ -8,3 +8,7 @@
 // it is good where each segment is a good stretch (Good). The idea of choices by a blocking graph is Capriccio's (von
 // Behren et al., SOSP 2003).
 #![tactic(auto)]
+
+mod laws;
+
+pub use laws::at_most_one_log;

@@ -1,0 +1,5 @@
+pub mod Quiet
+pub mod Points
+pub mod Going
+pub mod Choosing
+pub mod AtMostOne
