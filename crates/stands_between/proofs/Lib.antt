@@ -1,0 +1,13 @@
+pub mod Numbering
+pub mod Sites
+pub mod Ends
+pub mod Past
+pub mod Variables
+pub mod Down
+pub mod Up
+pub mod Whole
+pub mod TextSites
+pub mod Standing
+pub mod Laws
+pub mod Going
+pub mod SiteKeys
