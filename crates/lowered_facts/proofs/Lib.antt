@@ -1,0 +1,2 @@
+pub mod Zeroes
+pub mod Formed
