@@ -1,0 +1,3 @@
+pub mod ResourceLaws
+pub mod QueueLaws
+pub mod Sent

@@ -1,0 +1,208 @@
+ghost use Rattle.std.specs.Prelude.{◌≡◌, ◌+◌, ◌-◌, ◌≤◌, ◌<◌, ◌^◌, not, None, IfOk, nat_le, if◌then◌else◌};
+ghost use Rattle.c_mean.specs.ModelledCalls as table;
+ghost use Rattle.c_mean.specs.ModelledCalls.{Arrival, Message, immediate_row};
+ghost use Rattle.c_mean.specs.World.{empty_exchange};
+ghost use Rattle.cap_word.specs.declared.calls.Ask.{Ask};
+ghost use Rattle.thread_exchange.specs.Exchanges.{after_delivery, row_of, MayResume, after_ask, AreWithinCaps};
+
+use crate::numbers::{is_negative, ticks_of};
+use crate::queues::channel_queues;
+use cap_word::{Block, TrapKind};
+use circular_buffer::HeapCircularBuffer;
+use std::alloc::{AllocError, Global};
+use std::marker::Model;
+
+/// The queue of arrivals, the 64 channel queues and the uses of the resources 1 to 7. Contracts see it as its caps, the
+/// most items that may wait in a queue, and the queues and uses by themselves. No call but `new` takes memory.
+#[derive(Drop)]
+pub struct Exchange {
+    caps: [u32; 8],
+    backlog: u32,
+    arrivals: HeapCircularBuffer<u32>,
+    channels: Vec<HeapCircularBuffer<u32>>,
+    uses: [u32; 8],
+}
+
+impl Model for Exchange {
+    ghost use Rattle.thread_exchange.specs.Exchanges.{Exchanging};
+
+    ghost Value = { Exchanging };
+
+    ghost use Rattle.thread_exchange.specs.Inside.{exchanging, IsExchanging};
+
+    ghost view = { exchanging };
+
+    ghost invariant = { IsExchanging };
+}
+
+impl Exchange {
+    /// How many channels there are.
+    pub const CHANNELS: u32 = 64;
+
+    /// An exchange in which nothing waits and nothing is used. At most `backlog` items may wait in a queue. The caps stand
+    /// by the numbers of their resources, of which 0 isn't read; a cap of 0 says that the resource isn't given.
+    pub fn new(alloc: Global, backlog: u32, caps: [u32; 8]) -> Result<Exchange, AllocError>
+        ensures { IfOk result (λ x. x ≡ record { caps = caps; backlog = backlog; exchange = empty_exchange }) }
+    {
+        let arrivals = HeapCircularBuffer::with_capacity(alloc, backlog as usize)?;
+        let channels = channel_queues(alloc, backlog)?;
+        Ok(Exchange {
+            caps,
+            backlog,
+            arrivals,
+            channels,
+            uses: [0; 8],
+        })
+    }
+
+    /// A value arrives, and joins the queue of arrivals. Tells whether it did: it is dropped exactly where as many wait
+    /// there as may.
+    pub fn arrive(&mut self, value: u32) -> bool
+        ensures queued { result ≡ not (table.is_dropped self.old.backlog self.old.exchange (Arrival value)) }
+        ensures after { self.new ≡ after_delivery self.old (Arrival value) }
+    {
+        self.arrivals.try_push_back(value).is_ok()
+    }
+
+    /// A message of a channel comes, and joins that channel's queue. Tells whether it did: it is dropped exactly where as
+    /// many wait there as may.
+    pub fn send(&mut self, channel: u32, value: u32) -> bool
+        requires { channel < 64 }
+        ensures queued { result ≡ not (table.is_dropped self.old.backlog self.old.exchange (Message channel value)) }
+        ensures after { self.new ≡ after_delivery self.old (Message channel value) }
+    {
+        let queue = &mut self.channels[channel as usize];
+        match queue.try_push_back(value) {
+            Ok(()) => true,
+            Err(_) => false,
+        }
+    }
+
+    /// The trap that a call which blocks is, if it is one.
+    pub fn trap_of(&self, block: Block) -> Option<TrapKind>
+        ensures { result ≡ (row_of self.now block).trap }
+    {
+        match block {
+            Block::Accept | Block::Sleep { .. } | Block::Yield => None,
+            Block::Wait { channel } => {
+                if channel < Exchange::CHANNELS {
+                    None
+                } else {
+                    Some(TrapKind::Channel)
+                }
+            }
+            Block::Take { resource, amount } => self.resource_trap(resource, amount, false),
+        }
+    }
+
+    /// Whether a thread that blocked at a call, which was no trap, since that clock is ready.
+    pub fn is_ready(&self, block: Block, since: u64, clock: u64) -> bool
+        requires untrapped { (row_of self.now block).trap ≡ None }
+        requires early { since < 2 ^ 64 - 2 ^ 31 }
+        ensures { result ≡ table.is_ready self.now.caps self.now.exchange clock since block }
+    {
+        match block {
+            Block::Accept => !self.arrivals.is_empty(),
+            Block::Wait { channel } => !self.channels[channel as usize].is_empty(),
+            Block::Sleep { ticks } => since + ticks_of(ticks) <= clock,
+            Block::Yield => true,
+            Block::Take { resource, amount } => self.fits(resource, amount),
+        }
+    }
+
+    /// The effect of resuming from a call which was no trap, by a thread that is ready: takes from its queue, or raises a
+    /// use. Answers the call's result, or 0 where it has none.
+    pub fn resume(&mut self, block: Block) -> u32
+        requires { MayResume self.old block }
+        ensures result_is { result ≡ (row_of self.old block).result }
+        ensures after { self.new ≡ record self.old { exchange = (row_of self.old block).after } }
+    {
+        match block {
+            Block::Accept => self.arrivals.pop_front().unwrap_or(0),
+            Block::Wait { channel } => {
+                let queue = &mut self.channels[channel as usize];
+                queue.pop_front().unwrap_or(0)
+            }
+            Block::Sleep { .. } | Block::Yield => 0,
+            Block::Take { resource, amount } => {
+                self.uses[resource as usize] += amount;
+                0
+            }
+        }
+    }
+
+    /// `give(resource, amount)`: lowers the use, or answers the trap that the call is, and then nothing changes.
+    pub fn give(&mut self, resource: u32, amount: u32) -> Option<TrapKind>
+        ensures trap { result ≡ table.resource_trap self.old.caps resource amount (table.use_of self.old.exchange resource) }
+        ensures after { self.new ≡ after_ask self.old (immediate_row self.old.caps self.old.exchange 0 0 (Ask.Give resource amount)) }
+    {
+        let trap = self.resource_trap(resource, amount, true);
+        if trap.is_none() {
+            self.uses[resource as usize] -= amount;
+        }
+        trap
+    }
+
+    /// Tells whether an arrival waits.
+    pub fn holds_arrival(&self) -> bool
+        ensures { result ≡ table.holds_some self.now.exchange.arrivals }
+    {
+        !self.arrivals.is_empty()
+    }
+
+    /// Tells whether a message waits in the channel's queue.
+    pub fn holds_message(&self, channel: u32) -> bool
+        requires { channel < 64 }
+        ensures { result ≡ table.holds_some (table.channel_of self.now.exchange channel) }
+    {
+        !self.channels[channel as usize].is_empty()
+    }
+
+    /// Tells whether so much of a resource that is given is unused.
+    pub fn fits(&self, resource: u32, amount: u32) -> bool
+        requires { resource < 8 }
+        ensures { result ≡ nat_le (table.use_of self.now.exchange resource + amount) (table.cap_of self.now.caps resource) }
+    {
+        self.used(resource) as u64 + amount as u64 <= self.cap(resource) as u64
+    }
+
+    /// The use of a resource.
+    pub fn used(&self, resource: u32) -> u32
+        requires { resource < 8 }
+        ensures use_is { result ≡ table.use_of self.now.exchange resource }
+        ensures within { result ≤ table.cap_of self.now.caps resource }
+    {
+        self.uses[resource as usize]
+    }
+
+    /// The cap of a resource, 0 where it isn't given.
+    pub fn cap(&self, resource: u32) -> u32
+        requires { resource < 8 }
+        ensures { result ≡ table.cap_of self.now.caps resource }
+    {
+        match resource {
+            0 => 0,
+            _ => self.caps[resource as usize],
+        }
+    }
+
+    // The trap of a call that takes so much of a resource, which may be its cap at most, or gives it, at most its use.
+    fn resource_trap(&self, resource: u32, amount: u32, gives: bool) -> Option<TrapKind>
+        ensures { result ≡ table.resource_trap self.now.caps resource amount (if gives then table.use_of self.now.exchange resource else table.cap_of self.now.caps resource) }
+    {
+        let caps = &self.caps;
+        if resource as usize >= caps.len() {
+            return Some(TrapKind::Resource);
+        }
+        let most = if gives {
+            self.used(resource)
+        } else {
+            self.cap(resource)
+        };
+        if self.cap(resource) < 1 || is_negative(amount) || most < amount {
+            Some(TrapKind::Resource)
+        } else {
+            None
+        }
+    }
+}

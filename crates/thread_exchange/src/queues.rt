@@ -1,0 +1,21 @@
+ghost use Rattle.std.specs.Prelude.{◌≡◌, [], length, replicate, IfOk};
+ghost use Rattle.circular_buffer.specs.Buffer.{buffer};
+
+use circular_buffer::HeapCircularBuffer;
+use std::alloc::{AllocError, Global};
+
+/// As many empty queues as there are channels.
+pub(crate) fn channel_queues(
+    alloc: Global,
+    backlog: u32,
+) -> Result<Vec<HeapCircularBuffer<u32>>, AllocError>
+    ensures { IfOk result (λ queues. queues.items ≡ replicate 64 (buffer [] backlog)) }
+{
+    let mut queues = Vec::with_capacity(alloc, 64)?;
+    for made in 0..64u32 {
+        let queue = HeapCircularBuffer::with_capacity(alloc, backlog as usize)?;
+        queues.push(queue)?;
+        let _count = made;
+    }
+    Ok(queues)
+}
