@@ -41,7 +41,7 @@ abbrev row_or : Bool → Row
 row_or b = cond b Linking Whole
 
 -- the frame is whole there
-row_first : (kind : LinkKind) (op : Op) → row_in kind 0 op ≡ Whole
+pub row_first : (kind : LinkKind) (op : Op) → row_in kind 0 op ≡ Whole
 row_first kind (Op.Return None) = refl
 row_first kind (Op.Return (Some s)) = refl
 row_first kind (Op.Call site d f args) = ap (λ (b : Bool). row_or b) (not_linking kind (length args))
@@ -97,12 +97,12 @@ tp_is_front l (k ∷ chain) chunk front is = is ∙ (let same : k ≡ chunk = (l
 -- ---- just behind an ECALL
 
 -- the thread is within the operation, behind its ECALL
-record IsWithin (c : Checked) (l : Local) (t : FlatThread) (f i w : ℕ) : Type 0 where
-  frame : Frame
-  below : List Frame
-  during : During c l t w frame below
-  function : f ≡ t.frame.function
-  next : i ≡ t.frame.next
+pub record IsWithin (c : Checked) (l : Local) (t : FlatThread) (f i w : ℕ) : Type 0 where
+  pub frame : Frame
+  pub below : List Frame
+  pub during : During c l t w frame below
+  pub function : f ≡ t.frame.function
+  pub next : i ≡ t.frame.next
 
 -- at a place with a whole frame, whose pc is behind the ECALL of the operation at which the flat frame waits
 within_at : (c : Checked) (l : Local) (f i j v w : ℕ) (frames : List Frame) (t : FlatThread) → HasForm c l → IsAt c l.core.pc (InOperation f j v) → FramesAt c l.areas.pool l.core (InOperation f j v) Whole l.core.chain frames → TpIsFront l.areas.pool l.core l.core.chain → HeadersName l.areas.pool l.core.chain →
@@ -163,7 +163,7 @@ transfer_some LinkKind.Plain = omega arith
 transfer_some (LinkKind.Linked need) = omega arith
 transfer_some (LinkKind.Spawned need) = omega arith
 
-size_some : (sizes : List ℕ) (kind : LinkKind) (op : Op) → ((a : ℕ) → op ≡ Op.Zero a → 0 < get_or sizes a 0) → 0 < size sizes kind op
+pub size_some : (sizes : List ℕ) (kind : LinkKind) (op : Op) → ((a : ℕ) → op ≡ Op.Zero a → 0 < get_or sizes a 0) → 0 < size sizes kind op
 size_some sizes kind (Op.Zero a) zeroes = zeroes a refl
 size_some sizes kind (Op.Call site d f args) zeroes = omega (arith, transfer_some kind)
 size_some sizes kind (Op.Return None) zeroes = omega arith
@@ -190,14 +190,14 @@ abbrev no_op : Option Op
 no_op = None
 
 -- a function with an operation is there
-function_of_op : (flat : FlatCode) (f i : ℕ) (op : Op) → operation_at flat f i ≡ Some op → f < length flat.functions
+pub function_of_op : (flat : FlatCode) (f i : ℕ) (op : Op) → operation_at flat f i ≡ Some op → f < length flat.functions
 function_of_op flat f i op is = ⊎_elim (λ (within : f < length flat.functions). within)
     (λ (past : length flat.functions ≤ f). absurd (let none : function_at flat f ≡ record { params = 0; gives = false; sizes = []; ops = [] } = get_or_past flat.functions f _ past in
     let e : no_op ≡ Some op = sym (ap (λ (g : FlatFunction). slice_get g.ops i) none) ∙ is in cc))
     (cases_lt f (length flat.functions))
 
 -- the words of an operation that asks: a place for the result behind the ECALL, or the next operation's first word
-behind : (flat : FlatCode) (image : Image) (certificate : Certificate) (l : Local) (f i word : ℕ) (op next : Op) (d : Option ℕ) (place : Place) (frames : List Frame) (t : FlatThread) → CodeFacts (record { flat = flat; certificate = certificate }) image.code → IsValid flat image certificate → HasForm (record { flat = flat; certificate = certificate }) l →
+pub behind : (flat : FlatCode) (image : Image) (certificate : Certificate) (l : Local) (f i word : ℕ) (op next : Op) (d : Option ℕ) (place : Place) (frames : List Frame) (t : FlatThread) → CodeFacts (record { flat = flat; certificate = certificate }) image.code → IsValid flat image certificate → HasForm (record { flat = flat; certificate = certificate }) l →
     IsPastCall (record { flat = flat; certificate = certificate }) l.areas.pool l.core f i op word place frames → operation_at flat f (i + 1) ≡ Some next → size (function_at flat f).sizes (kind_of certificate op) op ≡ word + 1 + result_size d → ((w : ℕ) → row_in (kind_of certificate op) w op ≡ Whole) →
     AreFlatPast (record { flat = flat; certificate = certificate }) l.areas.pool i frames (t.frame ∷ t.below) → AreGlobals flat t.globals l.areas.globals → IsWithin (record { flat = flat; certificate = certificate }) l t f i (word + 1)
 behind flat image certificate l f i word op next (Some d) place frames t facts valid form past followed size_is whole stands globals =

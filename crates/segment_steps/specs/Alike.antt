@@ -1,0 +1,116 @@
+-- That a thread of the machine runs as a thread of flat code does, until it asks or stops: what the one comes to, the other
+-- comes to, or the machine finds no free chunk first.
+use Rattle.std.specs.Prelude.{◌≡◌, ◌≢◌, ℕ, ◌+◌, ◌<◌, ◌≤◌, ◌⊎◌, List, [], ◌∷◌, length, Some, None}
+use Rattle.cap_word.specs.Calls.{Call, Question, Finish, spawn_of}
+use Rattle.cap_word.specs.Runs.{Goes, Asks, Stops, moves}
+use Rattle.rv_machine.specs.Registers.{read}
+use Rattle.flat_code.specs.Codes.{FlatCode, function_at, operation_at}
+use Rattle.flat_code.specs.Frames.{FlatThread, FlatWaiting, Finished, Lost}
+use Rattle.flat_code.specs.Step.{FlatMove, flat_machine, flat_resume}
+use Rattle.flat_code.specs.declared.operations.Op.{Op}
+use Rattle.stack_certificate.specs.Certificates.{fact_at, need_of}
+use Rattle.stack_certificate.specs.Templates.{kind_of}
+use Rattle.chunk_pool.specs.Pool.{Pool}
+use Rattle.machine_world.specs.Globals.{AreGlobals}
+use Rattle.machine_world.specs.InPlace.{Frame}
+use Rattle.machine_world.specs.Local as local
+use Rattle.machine_world.specs.Local.{Core, Local, LocalMove, Ended, Trapped, NoRoom, Wrong, a0, local_step, local_machine}
+use Rattle.machine_world.specs.Places.{Checked}
+use Rattle.machine_world.specs.Rests.{IsResting, AtStart, AtCall, PastCall, ecall_word, IsAtCall, AreFlatFrames}
+use Rattle.segment_laws.specs.Simulation.{Simulates}
+use Rattle.segment_laws.specs.Ways.{HasForm, IsGoodState}
+
+-- ---- what the lowering of a source gives and the rules of a certificate don't
+
+-- each modelled call and each start of a thread is followed by an operation of its function
+abbrev pub FollowsAsks : FlatCode → Type 0
+FollowsAsks code = (f i word : ℕ) (op : Op) → f < length code.functions → operation_at code f i ≡ Some op → ecall_word op ≡ Some word → i + 1 < length (function_at code f).ops
+
+-- the thread never reads a variable that wasn't set, nor stands at no operation, nor makes a call that there isn't
+abbrev pub IsNeverLost : FlatCode → FlatThread → Type 0
+IsNeverLost code t = (n : ℕ) → moves (flat_machine code) n t ≢ Stops Lost
+
+-- ---- where a thread runs on from
+
+-- a thread that rests, but at no ECALL, may run
+abbrev pub MayRun : (c : Checked) (pool : Pool) (core : Core) → IsResting c pool core → Type 0
+MayRun c pool core (AtStart f frames in_place) = Unit {0}
+MayRun c pool core (AtCall f i op word frames in_place) = ⊥
+MayRun c pool core (PastCall f i op word place frames in_place) = Unit {0}
+
+-- the flat thread for which it rests, as it runs on: from its function's start, or with a0 as the result of its call
+abbrev pub running_on : (c : Checked) (pool : Pool) (core : Core) → IsResting c pool core → FlatThread → FlatThread
+running_on c pool core (PastCall f i op word place frames in_place) t =
+    flat_resume c.flat (record { frame = t.frame; below = t.below }) (record { result = read core.x a0; globals = t.globals })
+running_on c pool core _ t = t
+
+-- ---- what both come to
+
+-- the question of a thread at the ECALL of an operation is that of the flat thread: the same modelled call, or a thread at
+-- the entry of the function that is started, with the same argument, on a chunk for the site's need
+abbrev pub AsksTheSame : Checked → Op → local.Question → Call → Type 0
+AsksTheSame c (Op.Model site d n args) question call = question ≡ local.Calls call
+AsksTheSame c (Op.Spawn site d g x) question call =
+    (argument : ℕ) × (call ≡ spawn_of g argument)
+    × (question ≡ local.Starts (fact_at c.certificate g).entry argument (need_of (kind_of c.certificate (Op.Spawn site d g x))))
+AsksTheSame c _ question call = ⊥
+
+-- the thread rests at an ECALL for a flat thread that waits there, and asks the same, with the same globals
+pub record WaitsAlike (c : Checked) (at : Local) (question : local.Question) (asked : Question) (waiting : FlatWaiting) : Type 0 where
+  pub op : Op
+  pub word : ℕ
+  pub frames : List Frame
+  pub form : HasForm c at
+  pub rests : IsAtCall c at.areas.pool at.core waiting.frame.function waiting.frame.next op word frames
+  pub stands : AreFlatFrames c at.areas.pool frames (waiting.frame ∷ waiting.below)
+  pub globals_are : AreGlobals c.flat asked.globals at.areas.globals
+  pub same : AsksTheSame c op question asked.call
+
+-- the thread stops as the flat thread does, with the same globals
+abbrev pub StopsAlike : Checked → Local → local.End → Finish → Type 0
+StopsAlike c at (Ended areas) finish = (finish.trap ≡ None) × AreGlobals c.flat finish.globals areas.globals
+StopsAlike c at (Trapped kind) finish = (finish.trap ≡ Some kind) × AreGlobals c.flat finish.globals at.areas.globals
+StopsAlike c at NoRoom finish = ⊥
+StopsAlike c at Wrong finish = ⊥
+
+-- ---- from the machine to the flat thread
+
+-- what a step of the machine leads to, the flat thread comes to; it finds no room only where no chunk is free, and is
+-- never wrong
+abbrev pub IsStepAlike : Checked → FlatThread → Local → LocalMove → Type 0
+IsStepAlike c t at (Goes next) = Unit {0}
+IsStepAlike c t at (Asks question still) =
+    (still ≡ at) × ((n : ℕ) × (asked : Question) × (waiting : FlatWaiting) × (moves (flat_machine c.flat) n t ≡ Asks asked waiting) × WaitsAlike c at question asked waiting)
+IsStepAlike c t at (Stops NoRoom) = at.areas.pool.free ≡ []
+IsStepAlike c t at (Stops end) = (n : ℕ) × (finish : Finish) × (moves (flat_machine c.flat) n t ≡ Stops (Finished finish)) × StopsAlike c at end finish
+
+-- a state on the way: it is in place, its next load or store is good, and so is its next step
+pub record IsAlong (c : Checked) (code : List ℕ) (t : FlatThread) (at : Local) : Type 0 where
+  pub form : HasForm c at
+  pub good : IsGoodState c code at
+  pub step : IsStepAlike c t at (local_step code at)
+
+-- ---- from the flat thread to the machine
+
+-- so many silent steps lead the machine from one state to another
+abbrev pub Comes : List ℕ → ℕ → Local → Local → Type 0
+Comes code k l at = moves (local_machine code) k l ≡ Goes at
+
+-- it comes to a LINK that finds no chunk
+abbrev pub FindsNone : List ℕ → Local → Type 0
+FindsNone code l = (k : ℕ) × (at : Local) × Comes code k l at × (local_step code at ≡ Stops NoRoom)
+
+-- what n steps of the flat thread come to, the machine comes to; n silent steps take at least as many of its own
+abbrev pub ReachesAlike : Checked → List ℕ → Local → ℕ → FlatMove → Type 0
+ReachesAlike c code l n (Goes next) = (k : ℕ) × (at : Local) × (n ≤ k) × Comes code k l at × Simulates c at next
+ReachesAlike c code l n (Asks asked waiting) =
+    (k : ℕ) × (at : Local) × (question : local.Question) × Comes code k l at × (local_step code at ≡ Asks question at) × WaitsAlike c at question asked waiting
+ReachesAlike c code l n (Stops (Finished finish)) =
+    (k : ℕ) × (at : Local) × (end : local.End) × Comes code k l at × (local_step code at ≡ Stops end) × StopsAlike c at end finish
+ReachesAlike c code l n (Stops Lost) = ⊥
+
+-- ---- both
+
+pub record RunsAlike (c : Checked) (code : List ℕ) (l : Local) (t : FlatThread) : Type 0 where
+  pub along : (k : ℕ) (at : Local) → Comes code k l at → IsAlong c code t at
+  pub reaches : (n : ℕ) → FindsNone code l ⊎ ReachesAlike c code l n (moves (flat_machine c.flat) n t)
