@@ -7,3 +7,4 @@ mod OneStep
 mod Along
 mod Reaching
 mod Resting
+pub mod Law

@@ -1,0 +1,4 @@
+pub mod LastStep
+pub mod Combined
+pub mod Ecalls
+pub mod Laws
