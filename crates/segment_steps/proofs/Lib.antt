@@ -1,10 +1,10 @@
-mod Needs
+pub mod Needs
 mod Rooms
-mod Moves
+pub mod Moves
 mod FlatMoves
 mod Traps
 mod OneStep
 mod Along
 mod Reaching
-mod Resting
+pub mod Resting
 pub mod Law

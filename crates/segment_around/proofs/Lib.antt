@@ -1,0 +1,4 @@
+pub mod Untouched
+mod FirstWords
+pub mod Passing
+pub mod Starting
