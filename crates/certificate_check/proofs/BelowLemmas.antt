@@ -1,5 +1,5 @@
 -- What is known once the lower rules hold, and where the rules say nothing.
-use Rattle.std.proofs.Common.{◌≡◌, ◌≢◌, false, ℕ, zero, suc, ◌+◌, ◌^◌, ◌<◌, ◌≤◌, List, [], ◌∷◌, length, arith, refl, sym, ap, ◌∙◌, subst, Option, Some, None, inl, inr}
+use Rattle.std.proofs.Common.{◌≡◌, false, ℕ, zero, suc, ◌+◌, ◌^◌, ◌<◌, ◌≤◌, List, [], ◌∷◌, length, arith, refl, sym, ap, ◌∙◌, subst, Some, None, inl, inr}
 use Rattle.std.specs.Prelude.{slice_get, slice_index_or}
 use Rattle.std.proofs.lemmas.Bool.{cases_lt}
 use Rattle.std.proofs.lemmas.List.{get_or_past}
@@ -9,10 +9,8 @@ use Rattle.flat_code.specs.Codes.{FlatCode, function_at, operation_at}
 use Rattle.stack_image.specs.declared.images.Image.{Image}
 use Rattle.stack_certificate.specs.declared.certificates.Certificate.{Certificate}
 use Rattle.stack_certificate.specs.declared.functions.FunctionFact.{FunctionFact}
-use Rattle.stack_certificate.specs.Certificates.{fact_at}
-use Rattle.stack_certificate.specs.Templates.{HasPlaces, IsFor}
-use Rattle.certificate_rules.specs.Rules.{V1, V2, V3, V4, V5, V6, V9, V10, V11}
-use Rattle.certificate_rules.specs.Sites.{NamesSites}
+use Rattle.stack_certificate.specs.Templates.{HasPlaces}
+use Rattle.certificate_rules.specs.Rules.{V1, V2}
 use Rattle.certificate_rules.specs.Validity.{Holds, IsValid, IsFirstFailure}
 use Rattle.certificate_rules.proofs.HoldsLemmas.{holds_v1, holds_outside}
 use Rattle.certificate_check.specs.First.{HoldBelow, IsFirstSpot}

@@ -1,9 +1,9 @@
 -- The words of templates in the code.
-use Rattle.std.proofs.Common.{◌≡◌, ℕ, zero, suc, ◌+◌, ◌*◌, ◌^◌, ◌<◌, ◌≤◌, ◌++◌, lit<, Bool, true, false, List, [], ◌∷◌, length, take, arith, refl, sym, ap, ◌∙◌, subst, Option, Some, None, inl, inr, below_more}
+use Rattle.std.proofs.Common.{◌≡◌, ℕ, zero, suc, ◌+◌, ◌*◌, ◌^◌, ◌<◌, ◌≤◌, ◌++◌, lit<, Bool, true, false, List, [], ◌∷◌, length, take, arith, refl, sym, ap, ◌∙◌, subst, Option, Some, None, inl, inr}
 use Rattle.std.specs.Prelude.{◌↔◌, IsTrue, replicate, slice_get, slice_index}
 use Rattle.std.proofs.lemmas.Bool.{cases_lt}
 use Rattle.std.proofs.lemmas.List.{length-replicate, length-take, length_push, get_or_append_left, get_or_push, get_or_past}
-use Rattle.std.proofs.lemmas.Option.{same_Some, slice_get_within, slice_get_past}
+use Rattle.std.proofs.lemmas.Option.{slice_get_within, slice_get_past}
 use Rattle.rv_code.specs.declared.instructions.Instr.{Instr}
 use Rattle.flat_code.specs.declared.operations.Op.{Op}
 use Rattle.flat_code.specs.Codes.{FlatCode, function_at, operation_at}
@@ -17,7 +17,6 @@ use Rattle.stack_certificate.specs.Templates.{prologue, template, begin, words_b
 use Rattle.stack_certificate.proofs.SizeLemmas.{length-prologue, length-row}
 use Rattle.certificate_rules.specs.Ranges.{Stands}
 use Rattle.certificate_rules.specs.Rules.{V5, V6}
-use Rattle.certificate_check.specs.First.{IsFirst}
 
 pub some_at : {X : Type 0} (xs : List X) (k : ℕ) → k < length xs → (x : X) × (slice_get xs k ≡ Some x)
 some_at [] k lt = absurd (omega arith)

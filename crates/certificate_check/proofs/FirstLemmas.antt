@@ -1,5 +1,5 @@
 -- The first failure of one fact is that of another that holds at the same indices.
-use Rattle.std.proofs.Common.{◌≡◌, ℕ, zero, ◌<◌, arith, refl, Option, Some, None}
+use Rattle.std.proofs.Common.{ℕ, zero, ◌<◌, arith, Option, Some, None}
 use Rattle.certificate_check.specs.declared.failures.Spot.{Spot}
 use Rattle.certificate_check.specs.First.{IsFirst, IsFirstSpot, at_zero}
 

@@ -1,5 +1,5 @@
 -- The first failure of V1.
-use Rattle.std.proofs.Common.{◌≡◌, ℕ, zero, suc, ◌<◌, ◌≤◌, Bool, true, false, length, arith, refl, sym, ap, ◌∙◌, subst, Option, Some, None, inl, inr}
+use Rattle.std.proofs.Common.{◌≡◌, ℕ, ◌<◌, ◌≤◌, Bool, true, false, length, arith, refl, Option, Some, None, inl, inr}
 use Rattle.std.specs.Prelude.{◌↔◌, IsTrue, nat_eq, if◌then◌else◌}
 use Rattle.std.proofs.lemmas.Bool.{cases_lt, eqb-true, eqb-false, false≢true}
 use Rattle.flat_code.specs.Codes.{FlatCode, function_at}

@@ -1,5 +1,5 @@
 -- The first failure of a rule's own definition is that of the rule of its number.
-use Rattle.std.proofs.Common.{◌≡◌, ℕ, refl, sym, subst, Option, Some, None}
+use Rattle.std.proofs.Common.{◌≡◌, ℕ, refl, sym, subst, Option}
 use Rattle.flat_code.specs.Codes.{FlatCode}
 use Rattle.stack_image.specs.declared.images.Image.{Image}
 use Rattle.stack_certificate.specs.declared.certificates.Certificate.{Certificate}

@@ -2,5 +2,5 @@ pub mod First
 pub mod Held
 pub mod Marks
 pub mod LeastSite
-pub mod OneProof
+pub mod Acceptance
 pub mod Accepting

@@ -1,4 +1,4 @@
-use Rattle.std.proofs.Common.{◌≡◌, Option, refl, sym, ap, subst, arith}
+use Rattle.std.proofs.Common.{Option, sym, subst}
 use Rattle.std.proofs.lemmas.Result.{IfOk-weaker}
 use Rattle.flat_code.specs.ProgramView.{program_code}
 use Rattle.certificate_rules.specs.Rules.{V2, V7, V8, V12}

@@ -1,4 +1,4 @@
-use Rattle.std.proofs.Common.{◌≡◌, refl, sym, ap, subst, arith}
+use Rattle.std.proofs.Common.{sym, subst}
 use Rattle.flat_code.specs.ProgramView.{program_code}
 use Rattle.certificate_rules.specs.Rules.{V1}
 use Rattle.certificate_check.specs.First.{IsFirstSpot}

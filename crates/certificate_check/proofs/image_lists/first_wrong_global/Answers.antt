@@ -1,4 +1,4 @@
-use Rattle.std.proofs.Common.{◌≡◌, ◌<◌, ◌≤◌, ◌+◌, ℕ, List, length, map, take, refl, sym, ap, ◌∙◌, subst, arith, Some, None}
+use Rattle.std.proofs.Common.{◌≡◌, ◌<◌, ◌≤◌, ◌+◌, ℕ, List, length, take, sym, ap, ◌∙◌, subst, arith, Some, None}
 use Rattle.std.specs.Prelude.{replicate, slice_get, slice_index_or, sum_by, nat_lt, if◌then◌else◌}
 use Rattle.std.proofs.lemmas.List.{get_or_default, length-replicate, take_all}
 use Rattle.flat_code.specs.ProgramView.{program_code}
@@ -6,7 +6,6 @@ use Rattle.flat_code.specs.declared.programs.FlatGlobal.{FlatGlobal}
 use Rattle.stack_certificate.proofs.AddressLemmas.{sum_room, sum_step}
 use Rattle.certificate_rules.specs.Rules.{V12, starting_words}
 use Rattle.certificate_check.specs.First.{IsFirst}
-use Rattle.certificate_check.specs.Held.{IsFirstOther}
 use Rattle.certificate_check.proofs.FirstLemmas.{first_same}
 use Rattle.certificate_check.proofs.PieceLemmas.{differs_in, agrees_more, differs_behind, sized_whole}
 use Rattle.certificate_check.proofs.image_lists.first_wrong_global.Goals as goal

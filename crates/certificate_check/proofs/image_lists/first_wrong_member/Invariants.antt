@@ -1,4 +1,4 @@
-use Rattle.std.proofs.Common.{◌≡◌, ℕ, ◌<◌, ◌≤◌, length, take, map}
+use Rattle.std.proofs.Common.{◌≡◌, ℕ, ◌<◌, length, take}
 use Rattle.std.specs.Prelude.{slice_get, sum_by}
 use Rattle.flat_code.specs.ProgramView.{program_code}
 use Rattle.certificate_rules.specs.Rules.{member_entries}

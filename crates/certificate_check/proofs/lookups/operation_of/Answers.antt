@@ -1,10 +1,9 @@
-use Rattle.std.proofs.Common.{◌≡◌, length, sym, ap, subst, ◌∙◌, refl}
+use Rattle.std.proofs.Common.{◌≡◌, sym, ap, subst, ◌∙◌}
 use Rattle.std.specs.Prelude.{slice_get, slice_index_or}
 use Rattle.flat_code.specs.Codes.{function_at}
 use Rattle.flat_code.specs.ProgramView.{program_code}
 use Rattle.flat_code.specs.WellFormed.{IsOperation, context_of}
-use Rattle.stack_certificate.specs.Places.{HavePlaces}
-use Rattle.stack_certificate.proofs.PlaceLemmas.{operation_formed, operation_places}
+use Rattle.stack_certificate.proofs.PlaceLemmas.{operation_formed}
 use Rattle.certificate_check.proofs.lookups.operation_of.Goals as goal
 
 pub returns-clause-there : goal.returns-clause-there

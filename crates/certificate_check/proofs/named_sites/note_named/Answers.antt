@@ -1,4 +1,4 @@
-use Rattle.std.proofs.Common.{refl, sym, ◌∙◌}
+use Rattle.std.proofs.Common.{refl}
 use Rattle.std.proofs.lemmas.Bool.{false≢true}
 use Rattle.certificate_check.proofs.NamedLemmas.{not_named, named_right, named_wrong, noted_one}
 use Rattle.certificate_check.proofs.named_sites.note_named.Goals as goal

@@ -1,7 +1,6 @@
-use Rattle.std.proofs.Common.{refl, sym, arith}
+use Rattle.std.proofs.Common.{refl, arith}
 use Rattle.std.proofs.lemmas.Bool.{false≢true}
 use Rattle.std.proofs.lemmas.Option.{slice_get_within}
-use Rattle.certificate_rules.specs.Sites.{certified_site, fact_numbers, is_site}
 use Rattle.certificate_check.proofs.NamedLemmas.{one_unnamed, named_more, noted_more}
 use Rattle.certificate_check.proofs.named_sites.note_sites.Goals as goal
 

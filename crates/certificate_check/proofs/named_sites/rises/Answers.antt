@@ -1,4 +1,4 @@
-use Rattle.std.proofs.Common.{refl, arith}
+use Rattle.std.proofs.Common.{arith}
 use Rattle.std.proofs.lemmas.Bool.{false≢true}
 use Rattle.certificate_check.proofs.RisingLemmas.{not_rising, rising_more}
 use Rattle.certificate_check.proofs.named_sites.rises.Goals as goal

@@ -1,4 +1,4 @@
-use Rattle.std.proofs.Common.{◌≡◌, ◌+◌, ◌≤◌, ◌<◌, ℕ, length, refl, sym, ap, ◌∙◌, arith, below_more, inl, inr}
+use Rattle.std.proofs.Common.{◌≡◌, ◌+◌, ℕ, length, refl, ap, ◌∙◌, arith, below_more, inl, inr}
 use Rattle.std.proofs.lemmas.Bool.{cases_lt, false≢true}
 use Rattle.flat_code.specs.Codes.{function_at}
 use Rattle.flat_code.specs.ProgramView.{program_code}

@@ -1,4 +1,4 @@
-use Rattle.std.proofs.Common.{◌≡◌, ◌+◌, refl, sym, ap, ◌∙◌, arith}
+use Rattle.std.proofs.Common.{◌≡◌, ◌+◌, sym, ap, ◌∙◌, arith}
 use Rattle.flat_code.specs.Codes.{function_at, operation_at}
 use Rattle.flat_code.specs.ProgramView.{program_code}
 use Rattle.stack_certificate.specs.Templates.{kind_of, size_at, words_before}

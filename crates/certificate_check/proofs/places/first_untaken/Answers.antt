@@ -1,4 +1,4 @@
-use Rattle.std.proofs.Common.{◌≡◌, ◌≤◌, ◌<◌, length, List, ℕ, refl, sym, ap, ◌∙◌, subst, arith, below_more, inl, inr}
+use Rattle.std.proofs.Common.{◌≡◌, length, List, ℕ, refl, sym, ap, ◌∙◌, subst, arith, below_more, inl, inr}
 use Rattle.std.specs.Prelude.{slice_index}
 use Rattle.std.proofs.lemmas.Bool.{cases_lt, false≢true}
 use Rattle.certificate_rules.specs.Rules.{IsPlaced, frame_places, frame_words}

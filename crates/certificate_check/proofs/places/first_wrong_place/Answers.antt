@@ -1,4 +1,4 @@
-use Rattle.std.proofs.Common.{refl, sym, ap, ◌∙◌, arith}
+use Rattle.std.proofs.Common.{ap, ◌∙◌}
 use Rattle.certificate_check.proofs.FrameLemmas.{v4_first}
 use Rattle.flat_code.specs.ProgramView.{program_code}
 use Rattle.certificate_check.proofs.places.first_wrong_place.Goals as goal

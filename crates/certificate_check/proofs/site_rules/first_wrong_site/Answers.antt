@@ -1,4 +1,4 @@
-use Rattle.std.proofs.Common.{◌≡◌, ◌≤◌, length, refl, sym, ap, subst, arith, Some, None}
+use Rattle.std.proofs.Common.{◌≤◌, length, ap, subst, arith, Some, None}
 use Rattle.flat_code.specs.Codes.{function_at}
 use Rattle.flat_code.specs.ProgramView.{program_code}
 use Rattle.certificate_check.specs.LeastSite.{IsLeastSite}
