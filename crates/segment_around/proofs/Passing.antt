@@ -71,13 +71,13 @@ front_kept pool core new [] same front = absurd front
 front_kept pool core new (chunk ∷ chain) same front = same ∙ front
 
 -- a thread with a whole frame at a place of the function, behind the ECALL
-record IsBehind (c : Checked) (code : List ℕ) (pool : Pool) (core : Core) (f i word : ℕ) (op : Op) (frame : Frame) (below : List Frame) : Type 0 where
-  operation : ℕ
-  place : Place
-  past : IsPastCall c pool core f i op word place (frame_at frame operation ∷ below)
-  instr : Instr
-  fetch : instruction_at code core.pc ≡ Ok instr
-  other : instr ≡ Instr.Ecall → ⊥
+pub record IsBehind (c : Checked) (code : List ℕ) (pool : Pool) (core : Core) (f i word : ℕ) (op : Op) (frame : Frame) (below : List Frame) : Type 0 where
+  pub operation : ℕ
+  pub place : Place
+  pub past : IsPastCall c pool core f i op word place (frame_at frame operation ∷ below)
+  pub instr : Instr
+  pub fetch : instruction_at code core.pc ≡ Ok instr
+  pub other : instr ≡ Instr.Ecall → ⊥
 
 behind_at : (c : Checked) (code : List ℕ) (pool : Pool) (core : Core) (f i word j v : ℕ) (op : Op) (frame : Frame) (below : List Frame) (result : Option ℕ) (instr : Instr) → IsAtCall c pool core f i op word (frame ∷ below) → row_at c.certificate word (operation_at c.flat f i) ≡ Whole →
     (passed core result).pc ≡ begin c.flat c.certificate f i + 4 * (word + 1) → IsAt c (passed core result).pc (InOperation f j v) → row_at c.certificate v (operation_at c.flat f j) ≡ Whole → instruction_at code (passed core result).pc ≡ Ok instr → (instr ≡ Instr.Ecall → ⊥) →
@@ -108,7 +108,7 @@ behind_at c code pool core f i word j v op frame below result instr at row pc th
 no_sw : (instr : Instr) (r s : ℕ) (k : ℕ) → (let i : Instr = Instr.Sw r s (pos k) in i) ≡ Instr.Ecall → ⊥
 no_sw instr r s k e = cc
 
-behind_by : (c : Checked) (code : List ℕ) (pool : Pool) (core : Core) (f i word : ℕ) (op : Op) (frame : Frame) (below : List Frame) (result d : Option ℕ) → CodeFacts c code → FollowsAsks c.flat → IsAtCall c pool core f i op word (frame ∷ below) → result_place op ≡ d →
+pub behind_by : (c : Checked) (code : List ℕ) (pool : Pool) (core : Core) (f i word : ℕ) (op : Op) (frame : Frame) (below : List Frame) (result d : Option ℕ) → CodeFacts c code → FollowsAsks c.flat → IsAtCall c pool core f i op word (frame ∷ below) → result_place op ≡ d →
     IsBehind c code pool (passed core result) f i word op frame below
 behind_by c code pool core f i word op frame below result (Some d) facts follows at to =
     let there = function_of_op c.flat f i op at.operation in
@@ -177,6 +177,7 @@ behind_frames c code at question asked waiting result (frame ∷ below) op word 
         stands = past_flats c at.areas.pool i is.operation frame below waiting.frame waiting.below refl stands;
         globals_are = globals;
       };
+      past = tt;
       may = tt;
       runs = refl;
     }

@@ -108,6 +108,7 @@ starts c code areas taken need f argument arguments globals calls needs form e t
         stands = (record { arguments = arguments; count = count; pushed_so = refl; registers = registers }, tt);
         globals_are = globals_are;
       };
+      start = tt;
       may = tt;
       runs = refl;
     }
