@@ -1,0 +1,102 @@
+-- The texts that were given choose one value.
+use Rattle.std.proofs.Common.{◌≡◌, ◌∙◌, ℕ, ◌-◌, ◌*◌, ◌%◌, ◌<◌, ◌≤◌, refl, ap, sym, subst, arith, false, true≢false, List, [], ◌∷◌, map, Option, Some, None, IfNone, codes}
+use Rattle.std.specs.Str.{bytes_eq}
+use Rattle.std.proofs.lemmas.Slice.Eq.{bytes_eq-Decides}
+use Rattle.cap_text.proofs.DecimalLaws.{decimal_unique}
+use Rattle.command_words.specs.declared.options.Placement.{Placement}
+use Rattle.command_words.specs.declared.options.Policy.{Policy}
+use Rattle.command_words.specs.Values.{IsChosen, IsNumber, IsPlacement, IsPolicy, AreCaps, AreCapsAbove, cap_text, caps_of, default_max_path}
+use Rattle.command_words.specs.WordList.{Request, Serve, Run, Build, Check, Graph, Demo}
+use Rattle.command_words.specs.Asked.{Texts, IsAsked, HasThree}
+use Rattle.command_words.proofs.CapsSoFar.{Caps, one_cap}
+
+pub if_none : {A : Type 0} {P : Type 0} (r : Option A) → P → IfNone r P
+if_none None holds = holds
+if_none (Some x) holds = tt
+
+pub one_chosen : (given : Option (List ℕ)) (default m n : ℕ) → IsChosen given default m → IsChosen given default n → m ≡ n
+one_chosen None default m n is same = is ∙ sym same
+one_chosen (Some text) default m n is same = decimal_unique m n (sym is ∙ same)
+
+one_list : (below : ℕ) (caps others : Caps) → map cap_text caps ≡ map cap_text others → AreCapsAbove below caps → AreCapsAbove below others → caps ≡ others
+one_list below [] [] same are also = refl
+one_list below [] (other ∷ others) same are also = absurd (cc)
+one_list below (cap ∷ caps) [] same are also = absurd (cc)
+one_list below ((resource, most) ∷ caps) ((other, more) ∷ others) same are also =
+    let first : cap_text (resource, most) ≡ cap_text (other, more) = cc in
+    let rest : map cap_text caps ≡ map cap_text others = cc in
+    let one = one_cap resource most other more are.1 also.1 first in
+    λ i. (one.0 i, one.1 i) ∷ one_list resource caps others rest are.4 (subst (λ r. AreCapsAbove r others) (sym one.0) also.4) i
+
+pub one_caps : (given : Option (List ℕ)) (caps others : List ℕ) → AreCaps given caps → AreCaps given others → caps ≡ others
+one_caps None caps others is same = is ∙ sym same
+one_caps (Some text) caps others is same =
+    is.2 ∙ ap caps_of (one_list 0 is.0 same.0 (sym is.1.joined ∙ same.1.joined) is.1.in_range same.1.in_range) ∙ sym same.2
+
+pub one_placement : (given : Texts) (p q : Placement) → IsPlacement given p → IsPlacement given q → p ≡ q
+one_placement given p q is same =
+    let chunk = one_chosen (given (codes "--chunk")) 4096 p.chunk q.chunk is.chunk.chosen same.chunk.chosen in
+    let max_path = one_chosen (given (codes "--max-path")) (default_max_path p.chunk) p.max_path q.max_path is.max_path.chosen
+    (subst (λ c. IsChosen (given (codes "--max-path")) (default_max_path c) q.max_path) (sym chunk) same.max_path.chosen) in
+    λ i. record { chunk = chunk i; max_path = max_path i }
+
+pub one_policy : (given : Texts) (p q : Policy) → IsPolicy given p → IsPolicy given q → p ≡ q
+one_policy given p q is same =
+    let chunks = one_chosen (given (codes "--chunks")) 1024 p.chunks q.chunks is.chunks.chosen same.chunks.chosen in
+    let fuel = one_chosen (given (codes "--fuel")) 10000000 p.fuel q.fuel is.fuel.chosen same.fuel.chosen in
+    let backlog = one_chosen (given (codes "--backlog")) 64 p.backlog q.backlog is.backlog.chosen same.backlog.chosen in
+    let caps = one_caps (given (codes "--caps")) p.caps q.caps is.caps same.caps in
+    let high = one_chosen (given (codes "--high")) 900 p.high q.high is.high.chosen same.high.chosen in
+    let low = one_chosen (given (codes "--low")) 700 p.low q.low is.low.chosen same.low.chosen in
+    λ i. record { chunks = chunks i; fuel = fuel i; backlog = backlog i; caps = caps i; high = high i; low = low i }
+
+-- a chunk is chosen that is no multiple of 16
+pub no_whole : (given : Texts) (chunk : ℕ) → IsNumber (given (codes "--chunk")) 4096 64 65536 chunk → (chunk % 16 ≡ 0 → ⊥) → (p : Placement) → IsPlacement given p → ⊥
+no_whole given chunk chosen other p is =
+    let same = one_chosen (given (codes "--chunk")) 4096 p.chunk chunk is.chunk.chosen chosen.chosen in
+    other (subst (λ (c : ℕ). c % 16 ≡ 0) same is.whole)
+
+-- a chunk is chosen, and no path in its range
+pub no_path : (given : Texts) (chunk : ℕ) → IsNumber (given (codes "--chunk")) 4096 64 65536 chunk
+    → ((n : ℕ) → IsNumber (given (codes "--max-path")) (default_max_path chunk) 16 (chunk - 16) n → ⊥) → (p : Placement) → IsPlacement given p → ⊥
+no_path given chunk chosen none p is =
+    let same = one_chosen (given (codes "--chunk")) 4096 p.chunk chunk is.chunk.chosen chosen.chosen in
+    none p.max_path (subst (λ (c : ℕ). IsNumber (given (codes "--max-path")) (default_max_path c) 16 (c - 16) p.max_path) same is.max_path)
+
+-- a high mark is chosen, and no low one below it
+pub no_low : (given : Texts) (high : ℕ) → IsNumber (given (codes "--high")) 900 1 1000 high
+    → ((n : ℕ) → IsNumber (given (codes "--low")) 700 0 (high - 1) n → ⊥) → (p : Policy) → IsPolicy given p → ⊥
+no_low given high chosen none p is =
+    let same = one_chosen (given (codes "--high")) 900 p.high high is.high.chosen chosen.chosen in
+    none p.low (subst (λ (c : ℕ). IsNumber (given (codes "--low")) 700 0 (c - 1) p.low) same is.low)
+
+-- ---- the command's name
+
+pub other_name : (given : Texts) (a b : List ℕ) → given (codes "command") ≡ Some a → given (codes "command") ≡ Some b → bytes_eq a b ≡ false → ⊥
+other_name given a b is also differ =
+    let both : Some a ≡ Some b = sym is ∙ also in
+    let same : a ≡ b = cc in
+    true≢false (sym ((bytes_eq-Decides a b).1 same) ∙ differ)
+
+-- a command of three names, where there aren't three
+pub no_three : (given : Texts) (name : List ℕ) → given (codes "command") ≡ Some name → bytes_eq name (codes "serve") ≡ false → bytes_eq name (codes "graph") ≡ false
+    → bytes_eq name (codes "demo") ≡ false → ((n first second third : List ℕ) → HasThree given n first second third → ⊥) → (request : Request) → IsAsked given request → ⊥
+no_three given name is serve graph demo none (Serve source placement policy) asked = other_name given name (codes "serve") is asked.0.0 serve
+no_three given name is serve graph demo none (Run source image certificate policy) asked = none (codes "run") source image certificate asked.0
+no_three given name is serve graph demo none (Build source image certificate placement) asked = none (codes "build") source image certificate asked.0
+no_three given name is serve graph demo none (Check source image certificate) asked = none (codes "check") source image certificate asked.0
+no_three given name is serve graph demo none (Graph source placement) asked = other_name given name (codes "graph") is asked.0.0 graph
+no_three given name is serve graph demo none (Demo number) asked = other_name given name (codes "demo") is asked.0.0 demo
+
+-- the pool would be too large
+pub no_pool : (given : Texts) (placement : Placement) (policy : Policy) → given (codes "command") ≡ Some (codes "serve") → IsPlacement given placement → IsPolicy given policy
+    → 67108864 < placement.chunk * policy.chunks → (request : Request) → IsAsked given request → ⊥
+no_pool given placement policy is placed ruled large (Serve source p q) asked =
+    let small : placement.chunk * policy.chunks ≤ 67108864 = subst (λ (x : Placement). x.chunk * policy.chunks ≤ 67108864) (one_placement given p placement asked.1 placed)
+    (subst (λ (x : Policy). p.chunk * x.chunks ≤ 67108864) (one_policy given q policy asked.2 ruled) asked.3) in
+    absurd (omega arith)
+no_pool given placement policy is placed ruled large (Run source image certificate q) asked = other_name given (codes "serve") (codes "run") is asked.0.0 refl
+no_pool given placement policy is placed ruled large (Build source image certificate p) asked = other_name given (codes "serve") (codes "build") is asked.0.0 refl
+no_pool given placement policy is placed ruled large (Check source image certificate) asked = other_name given (codes "serve") (codes "check") is asked.0.0 refl
+no_pool given placement policy is placed ruled large (Graph source p) asked = other_name given (codes "serve") (codes "graph") is asked.0.0 refl
+no_pool given placement policy is placed ruled large (Demo number) asked = other_name given (codes "serve") (codes "demo") is asked.0.0 refl

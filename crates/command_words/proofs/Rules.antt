@@ -1,0 +1,134 @@
+-- The rules that the parser goes by: twelve arguments, each with one text as its value.
+use Rattle.std.proofs.Common.{◌≡◌, ℕ, refl, sym, subst, inl, inr, codes, true, false, List, [], ◌∷◌, Option, Some, None}
+use Rattle.std.specs.Str.{bytes_eq}
+use Rattle.clap.specs.Walk.{Rule, Text, arg_by_id, arg_by_index, arg_by_long, next_position}
+use Rattle.clap.specs.Simple.{App, Shape, built}
+use Rattle.clap.specs.Faults.{is_simple_and_free}
+use Rattle.clap.specs.Lexer.{long_of}
+use Rattle.clap.specs.declared.builder.action.ArgAction.TheVariants.{Set}
+use Rattle.clap.specs.declared.builder.value_parser.ValueParser.TheVariants.{String}
+use Rattle.clap.proofs.OnLiterals.{clap_on_literals}
+use Rattle.command_words.specs.Said.{IsOneOf}
+use Rattle.command_words.specs.Parse.{words_app, all_options}
+
+-- a rule that takes one text
+abbrev pub text_rule : Text → Option Text → Option ℕ → Rule
+text_rule id long index = record {
+  id = id;
+  long = long;
+  aliases = [];
+  short = None;
+  short_aliases = [];
+  index = index;
+  action = Some Set;
+  range = Some (record { start_inclusive = 1; end_inclusive = 1 });
+  value_names = 0;
+  defaults = [];
+  missing = [];
+  trailing_var_arg = false;
+  parser = Some String;
+  ignore_case = false;
+  required = false;
+  is_simple = true;
+  is_free = true;
+}
+
+abbrev pub option_rule : Text → Text → Rule
+option_rule name long = text_rule name (Some long) None
+
+abbrev pub place_rule : Text → ℕ → Rule
+place_rule name index = text_rule name None (Some index)
+
+-- the names of the positional words
+abbrev pub places : List Text
+places = codes "command" ∷ codes "first" ∷ codes "second" ∷ codes "third" ∷ []
+
+abbrev pub rules : List Rule
+rules = place_rule (codes "command") 1 ∷ place_rule (codes "first") 2 ∷ place_rule (codes "second") 3 ∷ place_rule (codes "third") 4
+    ∷ option_rule (codes "--chunk") (codes "chunk") ∷ option_rule (codes "--max-path") (codes "max-path")
+    ∷ option_rule (codes "--chunks") (codes "chunks") ∷ option_rule (codes "--fuel") (codes "fuel") ∷ option_rule (codes "--backlog") (codes "backlog")
+    ∷ option_rule (codes "--caps") (codes "caps") ∷ option_rule (codes "--high") (codes "high") ∷ option_rule (codes "--low") (codes "low") ∷ []
+
+-- the command as it is built
+abbrev pub top : Shape
+top = record {
+  name = codes "capriccio";
+  aliases = [];
+  rules = rules;
+  is_plain = true;
+  is_leaf = true;
+  no_binary_name = true;
+  disable_help_flag = true;
+  disable_help_subcommand = true;
+  disable_version_flag = false;
+  propagate_version = false;
+  has_version = false;
+  has_long_version = false;
+  args_override_self = false;
+  arg_required_else_help = false;
+  subcommand_required = false;
+  subcommand_negates_reqs = false;
+  is_built = true;
+}
+
+pub top_is : ◌≡◌ {A = App} (built words_app) (record { top = top; subs = [] })
+unfolding clap_on_literals
+top_is = refl
+
+pub is_simple : is_simple_and_free words_app ≡ true
+unfolding clap_on_literals
+is_simple = refl
+
+-- what the rules know of an option's name
+pub record IsOption (name : Text) : Type 0 where
+  pub long : Text
+  pub is_long : long_of name ≡ Some (long, None)
+  pub no_end : bytes_eq name (45 ∷ 45 ∷ []) ≡ false
+  pub by_long : arg_by_long rules long ≡ Some (option_rule name long)
+  pub by_id : arg_by_id rules name ≡ Some (option_rule name long)
+  pub rest : Text
+  pub begins : name ≡ 45 ∷ rest
+
+option_of : (name rest long : Text) → name ≡ 45 ∷ rest → long_of name ≡ Some (long, None) → bytes_eq name (45 ∷ 45 ∷ []) ≡ false
+    → arg_by_long rules long ≡ Some (option_rule name long) → arg_by_id rules name ≡ Some (option_rule name long) → IsOption name
+option_of name rest long begins is_long no_end by_long by_id =
+    record { long = long; is_long = is_long; no_end = no_end; by_long = by_long; by_id = by_id; rest = rest; begins = begins }
+
+pub is_option : (name : Text) → IsOneOf all_options name → IsOption name
+unfolding clap_on_literals
+is_option name (inl e) = subst IsOption (sym e) (option_of (codes "--chunk") (codes "-chunk") (codes "chunk") refl refl refl refl refl)
+is_option name (inr (inl e)) = subst IsOption (sym e) (option_of (codes "--max-path") (codes "-max-path") (codes "max-path") refl refl refl refl refl)
+is_option name (inr (inr (inl e))) = subst IsOption (sym e) (option_of (codes "--chunks") (codes "-chunks") (codes "chunks") refl refl refl refl refl)
+is_option name (inr (inr (inr (inl e)))) = subst IsOption (sym e) (option_of (codes "--fuel") (codes "-fuel") (codes "fuel") refl refl refl refl refl)
+is_option name (inr (inr (inr (inr (inl e))))) = subst IsOption (sym e) (option_of (codes "--backlog") (codes "-backlog") (codes "backlog") refl refl refl refl refl)
+is_option name (inr (inr (inr (inr (inr (inl e)))))) = subst IsOption (sym e) (option_of (codes "--caps") (codes "-caps") (codes "caps") refl refl refl refl refl)
+is_option name (inr (inr (inr (inr (inr (inr (inl e))))))) = subst IsOption (sym e) (option_of (codes "--high") (codes "-high") (codes "high") refl refl refl refl refl)
+is_option name (inr (inr (inr (inr (inr (inr (inr (inl e)))))))) = subst IsOption (sym e) (option_of (codes "--low") (codes "-low") (codes "low") refl refl refl refl refl)
+is_option name (inr (inr (inr (inr (inr (inr (inr (inr none)))))))) = absurd none
+
+-- what the rules know of the name of a positional word, which stands at this place and before the next
+pub record IsPlace (name : Text) (place next : ℕ) : Type 0 where
+  pub by_index : arg_by_index rules place ≡ Some (place_rule name place)
+  pub by_id : arg_by_id rules name ≡ Some (place_rule name place)
+  pub on : next_position (place_rule name place) place ≡ next
+
+-- the names of the positional words from this place on
+abbrev pub ArePlaces : List Text → ℕ → Type 0
+ArePlaces [] place = arg_by_index rules place ≡ None
+ArePlaces (name ∷ names) place = (next : ℕ) × IsPlace name place next × ArePlaces names next
+
+pub are_places : ArePlaces places 1
+unfolding clap_on_literals
+are_places = (
+  2,
+  record { by_index = refl; by_id = refl; on = refl },
+  (
+    3,
+    record { by_index = refl; by_id = refl; on = refl },
+    (
+      4,
+      record { by_index = refl; by_id = refl; on = refl },
+      (5, record { by_index = refl; by_id = refl; on = refl }, refl),
+    ),
+  ),
+)

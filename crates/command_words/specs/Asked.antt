@@ -1,0 +1,36 @@
+-- The command that texts by name ask for: those of the options, and of the positional words `command`, `first`,
+-- `second` and `third`.
+use Rattle.std.specs.Prelude.{ℕ, ◌≡◌, ◌*◌, ◌≤◌, List, codes, Option, Some, None}
+use Rattle.std.specs.List.{AllByRecursion}
+use Rattle.cap_text.specs.Decimals.{canonical_decimal}
+use Rattle.command_words.specs.Values.{IsPlacement, IsPolicy}
+use Rattle.command_words.specs.WordList.{Request, Serve, Run, Build, Check, Graph, Demo, placement_options, policy_options}
+
+abbrev pub Texts : Type 0
+Texts = List ℕ → Option (List ℕ)
+
+abbrev pub LacksAll : Texts → List (List ℕ) → Type 0
+LacksAll given options = AllByRecursion (λ option. given option ≡ None) options
+
+-- one word follows the command's name
+abbrev pub HasOne : Texts → List ℕ → List ℕ → Type 0
+HasOne given name word = (given (codes "command") ≡ Some name) × (given (codes "first") ≡ Some word) × (given (codes "second") ≡ None)
+
+-- three words follow the command's name
+abbrev pub HasThree : Texts → List ℕ → List ℕ → List ℕ → List ℕ → Type 0
+HasThree given name first second third = (given (codes "command") ≡ Some name) × (given (codes "first") ≡ Some first)
+    × (given (codes "second") ≡ Some second) × (given (codes "third") ≡ Some third)
+
+abbrev pub IsAsked : Texts → Request → Type 0
+IsAsked given (Serve source placement policy) = HasOne given (codes "serve") source
+    × IsPlacement given placement × IsPolicy given policy × (placement.chunk * policy.chunks ≤ 67108864)
+IsAsked given (Run source image certificate policy) = HasThree given (codes "run") source image certificate
+    × LacksAll given placement_options × IsPolicy given policy
+IsAsked given (Build source image certificate placement) = HasThree given (codes "build") source image certificate
+    × IsPlacement given placement × LacksAll given policy_options
+IsAsked given (Check source image certificate) = HasThree given (codes "check") source image certificate
+    × LacksAll given placement_options × LacksAll given policy_options
+IsAsked given (Graph source placement) = HasOne given (codes "graph") source
+    × IsPlacement given placement × LacksAll given policy_options
+IsAsked given (Demo number) = HasOne given (codes "demo") (canonical_decimal number)
+    × (1 ≤ number) × (number ≤ 1000) × LacksAll given placement_options × LacksAll given policy_options

@@ -1,0 +1,5 @@
+pub mod Said
+pub mod Values
+pub mod WordList
+pub mod Parse
+pub mod Asked

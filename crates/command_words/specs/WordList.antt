@@ -1,0 +1,57 @@
+-- What is a list of words for the program, and for which command.
+use Rattle.std.specs.Prelude.{ℕ, ◌≡◌, ◌*◌, ◌≤◌, List, [], ◌∷◌, ◌++◌, codes}
+use Rattle.std.specs.List.{flat_map, AllByRecursion}
+use Rattle.cap_text.specs.Decimals.{canonical_decimal}
+use Rattle.command_words.specs.Said.{Said, words_of, IsPlainSaid, positionals_of, options_of, value_of, IsOneOf, AreOnce}
+use Rattle.command_words.specs.Values.{IsPlacement, IsPolicy}
+use Rattle.command_words.specs.declared.commands.Command.{Command}
+use Rattle.command_words.specs.declared.commands.Command.TheVariants as command
+use Rattle.command_words.specs.declared.options.Placement.{Placement}
+use Rattle.command_words.specs.declared.options.Policy.{Policy}
+
+-- a command with its files by name and its options
+pub data Request : Type 0 where
+  Serve : (source : List ℕ) → Placement → Policy → Request
+  Run : (source image certificate : List ℕ) → Policy → Request
+  Build : (source image certificate : List ℕ) → Placement → Request
+  Check : (source image certificate : List ℕ) → Request
+  Graph : (source : List ℕ) → Placement → Request
+  Demo : ℕ → Request
+
+-- the same, of the value that is handed out
+abbrev pub request_of : Command → Request
+request_of (command.Serve source placement policy) = Serve source.now placement policy
+request_of (command.Run source image certificate policy) = Run source.now image.now certificate.now policy
+request_of (command.Build source image certificate placement) = Build source.now image.now certificate.now placement
+request_of (command.Check source image certificate) = Check source.now image.now certificate.now
+request_of (command.Graph source placement) = Graph source.now placement
+request_of (command.Demo number) = Demo number
+
+abbrev pub placement_options : List (List ℕ)
+placement_options = codes "--chunk" ∷ codes "--max-path" ∷ []
+
+abbrev pub policy_options : List (List ℕ)
+policy_options = codes "--chunks" ∷ codes "--fuel" ∷ codes "--backlog" ∷ codes "--caps" ∷ codes "--high" ∷ codes "--low" ∷ []
+
+-- the words are the command's name and, in any order, just these positional words and some of these options, each at
+-- most once and with its value behind it
+pub record Says (words : List (List ℕ)) (name : List ℕ) (positionals options : List (List ℕ)) (said : List Said) : Type 0 where
+  pub in_words : words ≡ name ∷ flat_map words_of said
+  pub plain : AllByRecursion IsPlainSaid said
+  pub positional : positionals_of said ≡ positionals
+  pub known : AllByRecursion (IsOneOf options) (options_of said)
+  pub once : AreOnce (options_of said)
+
+-- the words ask for the command
+abbrev pub IsWordList : List (List ℕ) → Request → Type 0
+IsWordList words (Serve source placement policy) = (said : List Said) × Says words (codes "serve") (source ∷ []) (placement_options ++ policy_options) said
+    × IsPlacement (value_of said) placement × IsPolicy (value_of said) policy × (placement.chunk * policy.chunks ≤ 67108864)
+IsWordList words (Run source image certificate policy) = (said : List Said) × Says words (codes "run") (source ∷ image ∷ certificate ∷ []) policy_options said
+    × IsPolicy (value_of said) policy
+IsWordList words (Build source image certificate placement) = (said : List Said) × Says words (codes "build") (source ∷ image ∷ certificate ∷ []) placement_options said
+    × IsPlacement (value_of said) placement
+IsWordList words (Check source image certificate) = (said : List Said) × Says words (codes "check") (source ∷ image ∷ certificate ∷ []) [] said
+IsWordList words (Graph source placement) = (said : List Said) × Says words (codes "graph") (source ∷ []) placement_options said
+    × IsPlacement (value_of said) placement
+IsWordList words (Demo number) = (said : List Said) × Says words (codes "demo") (canonical_decimal number ∷ []) [] said
+    × (1 ≤ number) × (number ≤ 1000)

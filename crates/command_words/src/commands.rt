@@ -1,0 +1,54 @@
+// The commands of the program.
+use crate::options::{Placement, Policy};
+use thiserror::Error;
+
+/// A command with its files by name and its options.
+#[derive(Clone, Copy, Debug, PartialEq, Eq)]
+pub enum Command<'a> {
+    /// Builds, checks and runs a source on the trace. A chunk times the number of chunks is at most 67,108,864 bytes.
+    Serve {
+        source: &'a str,
+        placement: Placement,
+        policy: Policy,
+    },
+    /// Checks a source with its image and certificate and runs the image on the trace.
+    Run {
+        source: &'a str,
+        image: &'a str,
+        certificate: &'a str,
+        policy: Policy,
+    },
+    /// Builds a source and stores its image and its certificate.
+    Build {
+        source: &'a str,
+        image: &'a str,
+        certificate: &'a str,
+        placement: Placement,
+    },
+    /// Checks a source with its image and certificate.
+    Check {
+        source: &'a str,
+        image: &'a str,
+        certificate: &'a str,
+    },
+    /// Writes the analysis of a source.
+    Graph {
+        source: &'a str,
+        placement: Placement,
+    },
+    /// Runs the workload of this number, from 1 to 1,000.
+    Demo {
+        number: u32,
+    },
+}
+
+/// Why no command is read.
+#[derive(Clone, Copy, Debug, PartialEq, Eq, Error)]
+pub enum WordsError {
+    /// The words are no word list.
+    #[error("the words are no command")]
+    NotWords,
+    /// There was no memory.
+    #[error("out of memory")]
+    Memory,
+}

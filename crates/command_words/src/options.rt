@@ -1,0 +1,27 @@
+// The options of the commands.
+
+/// The sizes by which a program's frames are placed, in bytes.
+#[derive(Clone, Copy, Debug, PartialEq, Eq)]
+pub struct Placement {
+    /// The size of a chunk: a multiple of 16 from 64 to 65,536.
+    pub chunk: u32,
+    /// How long a path between two checkpoints may be: from 16 to `chunk` - 16.
+    pub max_path: u32,
+}
+
+/// The options of a run.
+#[derive(Clone, Copy, Debug, PartialEq, Eq)]
+pub struct Policy {
+    /// The number of chunks: from 1 to 65,536.
+    pub chunks: u32,
+    /// The number of instructions after which the run stops: at most 1,000,000,000.
+    pub fuel: u64,
+    /// How many arrivals wait at most: from 1 to 4,096.
+    pub backlog: u32,
+    /// The cap of each resource by number: from 1 to 1,000,000, and 0 where it has none. Resource 0 has none here.
+    pub caps: [u32; 8],
+    /// The pressure from which on arrivals have to wait: from 1 to 1000.
+    pub high: u32,
+    /// The pressure from which on down they need not: below `high`.
+    pub low: u32,
+}

@@ -1,0 +1,211 @@
+// A command out of the texts that were parsed.
+ghost use Rattle.std.specs.Prelude.{ℕ, List, ◌≡◌, ◌≤◌, ◌*◌, ◌↔◌, IsTrue, IfSome, IfNone, Some, None, is_none, codes, option_map};
+ghost use Rattle.clap.specs.Words.{first_value, found_of};
+ghost use Rattle.command_words.specs.declared.options.Placement.{Placement};
+ghost use Rattle.command_words.specs.declared.options.Policy.{Policy};
+ghost use Rattle.command_words.specs.Values.{IsPlacement, IsPolicy};
+ghost use Rattle.command_words.specs.WordList.{Request, Serve, Run, Build, Check, Graph, Demo, request_of, placement_options, policy_options};
+ghost use Rattle.command_words.specs.Asked.{IsAsked, LacksAll, HasOne, HasThree};
+
+use crate::commands::Command;
+use crate::numbers::{caps, number};
+use crate::options::{Placement, Policy};
+use clap::ArgMatches;
+
+/// The greatest size of the pool, in bytes.
+const MOST_BYTES: u64 = 67_108_864;
+
+/// The command that the parsed words ask for.
+pub(crate) fn command_of<'a>(matches: &ArgMatches<'a>) -> Option<Command<'a>>
+    ensures found { IfSome result (λ command. IsAsked (λ name. first_value (found_of matches.now) name) (request_of command)) }
+    ensures none { IfNone result ((request : Request) → IsAsked (λ name. first_value (found_of matches.now) name) request → ⊥) }
+{
+    match matches.get_str("command")? {
+        "serve" => serve(matches),
+        "run" => run(matches),
+        "build" => build(matches),
+        "check" => check(matches),
+        "graph" => graph(matches),
+        "demo" => demo(matches),
+        _ => None,
+    }
+}
+
+/// The command `serve`, where the words are one of it.
+fn serve<'a>(matches: &ArgMatches<'a>) -> Option<Command<'a>>
+    requires { first_value (found_of matches.now) (codes "command") ≡ Some (codes "serve") }
+    ensures found { IfSome result (λ command. IsAsked (λ name. first_value (found_of matches.now) name) (request_of command)) }
+    ensures none { IfNone result ((request : Request) → IsAsked (λ name. first_value (found_of matches.now) name) request → ⊥) }
+{
+    let source = one_name(matches)?;
+    let placement = placement(matches)?;
+    let policy = policy(matches)?;
+    if u64::from(placement.chunk) * u64::from(policy.chunks) > MOST_BYTES {
+        return None;
+    }
+    Some(Command::Serve {
+        source,
+        placement,
+        policy,
+    })
+}
+
+/// The command `run`, where the words are one of it.
+fn run<'a>(matches: &ArgMatches<'a>) -> Option<Command<'a>>
+    requires { first_value (found_of matches.now) (codes "command") ≡ Some (codes "run") }
+    ensures found { IfSome result (λ command. IsAsked (λ name. first_value (found_of matches.now) name) (request_of command)) }
+    ensures none { IfNone result ((request : Request) → IsAsked (λ name. first_value (found_of matches.now) name) request → ⊥) }
+{
+    let (source, image, certificate) = three_names(matches)?;
+    let policy = policy(matches)?;
+    without_placement(matches).then_some(Command::Run {
+        source,
+        image,
+        certificate,
+        policy,
+    })
+}
+
+/// The command `build`, where the words are one of it.
+fn build<'a>(matches: &ArgMatches<'a>) -> Option<Command<'a>>
+    requires { first_value (found_of matches.now) (codes "command") ≡ Some (codes "build") }
+    ensures found { IfSome result (λ command. IsAsked (λ name. first_value (found_of matches.now) name) (request_of command)) }
+    ensures none { IfNone result ((request : Request) → IsAsked (λ name. first_value (found_of matches.now) name) request → ⊥) }
+{
+    let (source, image, certificate) = three_names(matches)?;
+    let placement = placement(matches)?;
+    without_policy(matches).then_some(Command::Build {
+        source,
+        image,
+        certificate,
+        placement,
+    })
+}
+
+/// The command `check`, where the words are one of it.
+fn check<'a>(matches: &ArgMatches<'a>) -> Option<Command<'a>>
+    requires { first_value (found_of matches.now) (codes "command") ≡ Some (codes "check") }
+    ensures found { IfSome result (λ command. IsAsked (λ name. first_value (found_of matches.now) name) (request_of command)) }
+    ensures none { IfNone result ((request : Request) → IsAsked (λ name. first_value (found_of matches.now) name) request → ⊥) }
+{
+    let (source, image, certificate) = three_names(matches)?;
+    (without_placement(matches) && without_policy(matches)).then_some(Command::Check {
+        source,
+        image,
+        certificate,
+    })
+}
+
+/// The command `graph`, where the words are one of it.
+fn graph<'a>(matches: &ArgMatches<'a>) -> Option<Command<'a>>
+    requires { first_value (found_of matches.now) (codes "command") ≡ Some (codes "graph") }
+    ensures found { IfSome result (λ command. IsAsked (λ name. first_value (found_of matches.now) name) (request_of command)) }
+    ensures none { IfNone result ((request : Request) → IsAsked (λ name. first_value (found_of matches.now) name) request → ⊥) }
+{
+    let source = one_name(matches)?;
+    let placement = placement(matches)?;
+    without_policy(matches).then_some(Command::Graph { source, placement })
+}
+
+/// The command `demo`, where the words are one of it.
+fn demo<'a>(matches: &ArgMatches<'a>) -> Option<Command<'a>>
+    requires { first_value (found_of matches.now) (codes "command") ≡ Some (codes "demo") }
+    ensures found { IfSome result (λ command. IsAsked (λ name. first_value (found_of matches.now) name) (request_of command)) }
+    ensures none { IfNone result ((request : Request) → IsAsked (λ name. first_value (found_of matches.now) name) request → ⊥) }
+{
+    let text = one_name(matches)?;
+    let number = number(Some(text), 1, 1, 1000)? as u32;
+    (without_placement(matches) && without_policy(matches)).then_some(Command::Demo { number })
+}
+
+/// The one positional word behind the command.
+fn one_name<'a>(matches: &ArgMatches<'a>) -> Option<&'a str>
+    ensures found { IfSome result (λ word. (first_value (found_of matches.now) (codes "first") ≡ Some word.now) × (first_value (found_of matches.now) (codes "second") ≡ None)) }
+    ensures none { IfNone result ((name word : List ℕ) → HasOne (λ name. first_value (found_of matches.now) name) name word → ⊥) }
+{
+    match (matches.get_str("first"), matches.get_str("second")) {
+        (Some(source), None) => Some(source),
+        _ => None,
+    }
+}
+
+/// The three positional words behind the command.
+fn three_names<'a>(matches: &ArgMatches<'a>) -> Option<(&'a str, &'a str, &'a str)>
+    ensures found { IfSome result (λ words. (first_value (found_of matches.now) (codes "first") ≡ Some words.0.now)
+        × (first_value (found_of matches.now) (codes "second") ≡ Some words.1.now) × (first_value (found_of matches.now) (codes "third") ≡ Some words.2.now)) }
+    ensures none { IfNone result ((name first second third : List ℕ) → HasThree (λ name. first_value (found_of matches.now) name) name first second third → ⊥) }
+{
+    let source = matches.get_str("first")?;
+    let image = matches.get_str("second")?;
+    let certificate = matches.get_str("third")?;
+    Some((source, image, certificate))
+}
+
+/// Whether no option of placement is given.
+fn without_placement(matches: &ArgMatches<'_>) -> bool
+    ensures { IsTrue result ↔ LacksAll (λ name. first_value (found_of matches.now) name) placement_options }
+{
+    is_absent(matches, "--chunk") && is_absent(matches, "--max-path")
+}
+
+/// Whether no option of a run is given.
+fn without_policy(matches: &ArgMatches<'_>) -> bool
+    ensures { IsTrue result ↔ LacksAll (λ name. first_value (found_of matches.now) name) policy_options }
+{
+    is_absent(matches, "--chunks")
+        && is_absent(matches, "--fuel")
+        && is_absent(matches, "--backlog")
+        && is_absent(matches, "--caps")
+        && is_absent(matches, "--high")
+        && is_absent(matches, "--low")
+}
+
+/// Whether an option is not given.
+fn is_absent(matches: &ArgMatches<'_>, option: &str) -> bool
+    ensures { IsTrue result ↔ (first_value (found_of matches.now) option.now ≡ None) }
+{
+    matches.get_str(option).is_none()
+}
+
+/// The options of placement.
+fn placement(matches: &ArgMatches<'_>) -> Option<Placement>
+    ensures found { IfSome result (λ placement. IsPlacement (λ name. first_value (found_of matches.now) name) placement) }
+    ensures none { IfNone result ((placement : Placement) → IsPlacement (λ name. first_value (found_of matches.now) name) placement → ⊥) }
+{
+    let chunk = number(matches.get_str("--chunk"), 4096, 64, 65_536)? as u32;
+    if chunk % 16 != 0 {
+        return None;
+    }
+    let half = (chunk - 16) / 2 / 16 * 16;
+    let max_path = number(
+        matches.get_str("--max-path"),
+        u64::from(half),
+        16,
+        u64::from(chunk - 16),
+    )?;
+    Some(Placement {
+        chunk,
+        max_path: max_path as u32,
+    })
+}
+
+/// The options of a run.
+fn policy(matches: &ArgMatches<'_>) -> Option<Policy>
+    ensures found { IfSome result (λ policy. IsPolicy (λ name. first_value (found_of matches.now) name) policy) }
+    ensures none { IfNone result ((policy : Policy) → IsPolicy (λ name. first_value (found_of matches.now) name) policy → ⊥) }
+{
+    let chunks = number(matches.get_str("--chunks"), 1024, 1, 65_536)? as u32;
+    let fuel = number(matches.get_str("--fuel"), 10_000_000, 0, 1_000_000_000)?;
+    let backlog = number(matches.get_str("--backlog"), 64, 1, 4096)? as u32;
+    let caps = caps(matches.get_str("--caps"))?;
+    let high = number(matches.get_str("--high"), 900, 1, 1000)?;
+    let low = number(matches.get_str("--low"), 700, 0, high - 1)?;
+    Some(Policy {
+        chunks,
+        fuel,
+        backlog,
+        caps,
+        high: high as u32,
+        low: low as u32,
+    })
+}

@@ -1,0 +1,69 @@
+// The words that are refused before they are parsed.
+ghost use Rattle.std.specs.Prelude.{◌↔◌, IsTrue, map};
+ghost use Rattle.std.specs.List.{AllByRecursion};
+ghost use Rattle.std.specs.String.{string_bytes};
+ghost use Rattle.command_words.specs.Said.{IsPlain, IsOneOf};
+ghost use Rattle.command_words.specs.Parse.{IsWord, IsReadable, command_names, all_options};
+
+/// Whether the first word is a command's name and each other word is a value or positional word or an option's name.
+pub(crate) fn is_readable(words: &[String]) -> bool
+    ensures { IsTrue result ↔ IsReadable (map (λ word. string_bytes word) words.now) }
+{
+    match words {
+        [] => false,
+        [first, rest @ ..] => is_command(first.as_str()) && are_readable(rest),
+    }
+}
+
+/// Whether each word is a value or positional word or an option's name.
+fn are_readable(words: &[String]) -> bool
+    ensures { IsTrue result ↔ AllByRecursion IsWord (map (λ word. string_bytes word) words.now) }
+{
+    for word in words {
+        if !is_word(word.as_str()) {
+            return false;
+        }
+    }
+    true
+}
+
+/// Whether the word is a value or positional word or an option's name.
+fn is_word(word: &str) -> bool
+    ensures { IsTrue result ↔ IsWord word.now }
+{
+    is_plain(word) || is_option(word)
+}
+
+/// Whether the word is a command's name.
+fn is_command(word: &str) -> bool
+    ensures { IsTrue result ↔ IsOneOf command_names word.now }
+{
+    matches!(word, "serve" | "run" | "build" | "check" | "graph" | "demo")
+}
+
+/// Whether the word is an option's name.
+fn is_option(word: &str) -> bool
+    ensures { IsTrue result ↔ IsOneOf all_options word.now }
+{
+    matches!(
+        word,
+        "--chunk"
+            | "--max-path"
+            | "--chunks"
+            | "--fuel"
+            | "--backlog"
+            | "--caps"
+            | "--high"
+            | "--low"
+    )
+}
+
+/// Whether the word may be a value or a positional word: it is not empty and does not begin with `-`.
+fn is_plain(word: &str) -> bool
+    ensures { IsTrue result ↔ IsPlain word.now }
+{
+    match word.as_bytes() {
+        [] => false,
+        [first, ..] => *first != b'-',
+    }
+}

@@ -1,0 +1,27 @@
+// A list of words into a command.
+ghost use Rattle.std.specs.Prelude.{ℕ, List, ◌≡◌, map, IfOk, Err};
+ghost use Rattle.std.specs.String.{string_bytes};
+ghost use Rattle.command_words.specs.WordList.{Request, request_of, IsWordList};
+
+use crate::commands::{Command, WordsError};
+use crate::parser::parse;
+use crate::reading::command_of;
+use crate::refusals::is_readable;
+use std::alloc::Global;
+
+/// The command that the words after the program's name ask for. `NotWords` comes exactly where they are no word list.
+pub fn read_words<'a>(alloc: Global, words: &'a Vec<String>) -> Result<Command<'a>, WordsError>
+    ensures read { IfOk result (λ command. IsWordList (map (λ word. string_bytes word) words.now.items) (request_of command)) }
+    ensures refused { result ≡ Err WordsError.NotWords → (request : Request) → IsWordList (map (λ word. string_bytes word) words.now.items) request → ⊥ }
+{
+    if !is_readable(words.as_slice()) {
+        return Err(WordsError::NotWords);
+    }
+    match parse(alloc, words) {
+        Ok(matches) => match command_of(&matches) {
+            Some(command) => Ok(command),
+            None => Err(WordsError::NotWords),
+        },
+        Err(error) => Err(error),
+    }
+}
