@@ -1,4 +1,4 @@
-ghost use Rattle.std.specs.Prelude.{◌≡◌, ◌⊎◌, Some, IfOk, IfErr};
+ghost use Rattle.std.specs.Prelude.{◌≡◌, ◌⊎◌, Some, None, IfOk, IfErr, MatchResult};
 ghost use Rattle.c_tree.specs.ProgramView.{program_tree};
 ghost use Rattle.certificate_check.specs.Accepting.{accepted_tree};
 ghost use Rattle.certificate_rules.specs.Validity.{IsValid};
@@ -36,6 +36,9 @@ pub fn lay_out(alloc: Global, program: &Program, options: Options) -> Result<Bui
     requires { AreInRange options }
     ensures refused { IfErr result (λ error. (error ≡ Memory)
         ⊎ ((frame_refusal (lowered (program_tree program.now)) options.max_path ≡ Some error) ⊎ IsTooLarge (lowered (program_tree program.now)) options error)) }
+    // Frames come first: no frame is too large where there is a pair, or where the code is too large.
+    ensures frames { MatchResult result (λ _. frame_refusal (lowered (program_tree program.now)) options.max_path ≡ None)
+        (λ error. IsTooLarge (lowered (program_tree program.now)) options error → frame_refusal (lowered (program_tree program.now)) options.max_path ≡ None) }
     ensures flat { IfOk result (λ build. program_code build.flat ≡ lowered (program_tree program.now)) }
     ensures laid_out { IfOk result (λ build. IsLaidOut (lowered (program_tree program.now)) options build.image build.certificate) }
     ensures valid { IfOk result (λ build. IsValid (lowered (program_tree program.now)) build.image build.certificate) }
@@ -56,6 +59,8 @@ pub fn build(alloc: Global, program: Program, options: Options) -> Result<Accept
     requires { AreInRange options }
     ensures refused { IfErr result (λ error. (error ≡ Memory)
         ⊎ ((frame_refusal (lowered (program_tree program)) options.max_path ≡ Some error) ⊎ IsTooLarge (lowered (program_tree program)) options error)) }
+    ensures frames { MatchResult result (λ _. frame_refusal (lowered (program_tree program)) options.max_path ≡ None)
+        (λ error. IsTooLarge (lowered (program_tree program)) options error → frame_refusal (lowered (program_tree program)) options.max_path ≡ None) }
     ensures program { IfOk result (λ accepted. accepted_tree accepted ≡ program_tree program) }
     ensures laid_out { IfOk result (λ accepted. IsLaidOut (lowered (program_tree program)) options accepted.image accepted.certificate) }
 {

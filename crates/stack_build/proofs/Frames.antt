@@ -1,0 +1,53 @@
+-- A plan that code may rely on is of a program whose frames all fit.
+use Rattle.std.proofs.Common.{◌≡◌, ℕ, zero, suc, ◌+◌, ◌<◌, ◌≤◌, false, List, [], ◌∷◌, length, map, refl, ap, arith}
+use Rattle.std.specs.Prelude.{None, option_map, slice_index, slice_index_or}
+use Rattle.std.proofs.lemmas.Bool.Decides.{nat_tests}
+use Rattle.flat_code.specs.declared.functions.FlatFunction.{FlatFunction}
+use Rattle.flat_code.specs.Codes.{FlatCode}
+use Rattle.flat_code.specs.Weight.{weight_of}
+use Rattle.checkpoint_place.specs.declared.plans.Plan.{Plan}
+use Rattle.checkpoint_place.specs.declared.refusals.PlaceError.{PlaceError}
+use Rattle.checkpoint_place.specs.declared.refusals.PlaceError.TheVariants as place
+use Rattle.checkpoint_place.specs.Refusal.{is_too_large, refusal_from}
+use Rattle.codegen_link.specs.declared.options.Options.{Options}
+use Rattle.stack_plan.specs.Plans.{IsEnough, weights_of}
+use Rattle.stack_build.specs.Builds.{frame_refusal, IsTooLarge}
+use Rattle.stack_build.specs.Refusals.{of_place}
+use Rattle.stack_build.specs.declared.refusals.BuildError.TheVariants.{Memory}
+
+fit-tests : (max_path w : ℕ) → w ≤ max_path → w ≤ 2032 → is_too_large max_path w ≡ false
+fit-tests max_path w h k = grind (arith, nat_tests)
+
+pub none-refused : (max_path base : ℕ) (ws : List ℕ) → ((k : ℕ) → k < length ws → (slice_index ws k ≤ max_path) × (slice_index ws k ≤ 2032)) → refusal_from max_path base ws ≡ None
+none-refused max_path base [] h = refl
+none-refused max_path base (w ∷ ws) h =
+    let here = h 0 (omega arith) in
+    let e = fit-tests max_path w here.0 here.1 in
+    rw e (none-refused max_path (base + 1) ws (λ k lt. h (suc k) (omega arith)))
+
+weight-at : (fs : List FlatFunction) (f : ℕ) → f < length fs → slice_index (map (λ g. weight_of g.sizes) fs) f ≡ weight_of (slice_index_or fs f (record { params = 0; gives = false; sizes = []; ops = [] })).sizes
+weight-at [] f h = absurd (omega arith)
+weight-at (g ∷ gs) zero h = refl
+weight-at (g ∷ gs) (suc f) h = weight-at gs f (omega arith)
+
+pub weights-count : (fs : List FlatFunction) → length (map (λ g. weight_of g.sizes) fs) ≡ length fs
+weights-count [] = refl
+weights-count (f ∷ fs) = omega (arith, weights-count fs)
+
+pub none-too-large : (code : FlatCode) (max_path : ℕ) (plan : Plan) → IsEnough code max_path plan → refusal_from max_path 0 (weights_of code) ≡ None
+none-too-large code max_path plan h =
+    none-refused max_path 0 (weights_of code)
+    (λ k lt. let there : k < length code.functions = omega (arith, weights-count code.functions) in
+    let is = weight-at code.functions k there in
+    (omega (arith, h.bound k there, h.most k there), omega (arith, h.frame k there)))
+
+pub frames-fit : (code : FlatCode) (max_path : ℕ) (plan : Plan) → IsEnough code max_path plan → frame_refusal code max_path ≡ None
+frames-fit code max_path plan h = ap (option_map of_place) (none-too-large code max_path plan h)
+
+-- neither want of memory nor a placement's refusal is that of too large a code
+pub memory-not-code : (code : FlatCode) (options : Options) → IsTooLarge code options Memory → ⊥
+memory-not-code code options h = let e = h.3 in cc
+
+pub place-not-code : (code : FlatCode) (options : Options) (error : PlaceError) → IsTooLarge code options (of_place error) → ⊥
+place-not-code code options (place.FrameTooLarge f bytes) h = let e = h.3 in cc
+place-not-code code options place.Memory h = let e = h.3 in cc
