@@ -1,0 +1,11 @@
+pub mod TreeLaws
+pub mod GrowLaws
+pub mod AnyLaws
+pub mod KindLaws
+pub mod GrownLaws
+pub mod StartLaws
+pub mod WakeLaws
+pub mod MovingLaws
+pub mod AdvanceLaws
+pub mod NoWakeLaws
+pub mod ReadyLaws

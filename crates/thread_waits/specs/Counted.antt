@@ -1,0 +1,89 @@
+-- What is counted of those who wait.
+use Rattle.std.specs.Prelude.{◌≡◌, ℕ, ◌+◌, ◌-◌, ◌<◌, ◌≤◌, ◌^◌, Bool, true, false, List, [], length, All, Option, Some, None, if◌then◌else◌, nat_eq, nat_le, slice_index, slice_index_or, count_by}
+use Rattle.cap_word.specs.declared.calls.Block.{Block}
+use Rattle.c_mean.specs.ModelledCalls.{ticks_of}
+use Rattle.thread_waits.specs.Waiting.{Waiting, is_at_accept, later_wake, IsWaitInRangeIf, latest}
+use Rattle.thread_waits.specs.declared.waits.Wait.{Wait}
+use Rattle.thread_waits.specs.declared.waits.Waits.TheInside.{Inside}
+
+abbrev pub waiting : Inside → Waiting
+waiting w = record { places = w.places.items; clock = w.clock }
+
+-- ready whatever the queues and uses are
+abbrev pub is_block_ready_anyway : ℕ → ℕ → Block → Bool
+is_block_ready_anyway clock since Block.Accept = false
+is_block_ready_anyway clock since (Block.Wait channel) = false
+is_block_ready_anyway clock since (Block.Sleep ticks) = nat_le (since + ticks_of ticks) clock
+is_block_ready_anyway clock since Block.Yield = true
+is_block_ready_anyway clock since (Block.Take resource amount) = false
+
+abbrev pub is_ready_anyway : ℕ → Option Wait → Bool
+is_ready_anyway clock None = false
+is_ready_anyway clock (Some Wait.Fresh) = true
+is_ready_anyway clock (Some (Wait.At block since)) = is_block_ready_anyway clock since block
+
+abbrev pub is_block_at_channel : ℕ → Block → Bool
+is_block_at_channel channel Block.Accept = false
+is_block_at_channel channel (Block.Wait other) = nat_eq other channel
+is_block_at_channel channel (Block.Sleep ticks) = false
+is_block_at_channel channel Block.Yield = false
+is_block_at_channel channel (Block.Take resource amount) = false
+
+abbrev pub is_at_channel : ℕ → Option Wait → Bool
+is_at_channel channel None = false
+is_at_channel channel (Some Wait.Fresh) = false
+is_at_channel channel (Some (Wait.At block since)) = is_block_at_channel channel block
+
+-- the number in a tree at a place where there is none
+abbrev pub no_number : ℕ
+no_number = 2 ^ 64 - 1
+
+abbrev pub number_or : Option ℕ → ℕ
+number_or None = no_number
+number_or (Some number) = number
+
+-- the amount of a resource that is waited for
+abbrev pub block_amount : ℕ → Block → Option ℕ
+block_amount r Block.Accept = None
+block_amount r (Block.Wait other) = None
+block_amount r (Block.Sleep ticks) = None
+block_amount r Block.Yield = None
+block_amount r (Block.Take resource amount) = if nat_eq resource r then Some amount else None
+
+abbrev pub amount_of : ℕ → Option Wait → Option ℕ
+amount_of r None = None
+amount_of r (Some Wait.Fresh) = None
+amount_of r (Some (Wait.At block since)) = block_amount r block
+
+-- a tree has at each place the number of who waits there
+pub record IsTreeOf (number : Option Wait → Option ℕ) (places : List (Option Wait)) (leaves : List ℕ) : Type 0 where
+  pub places_fit : length places ≤ length leaves
+  pub leaf : (k : ℕ) → slice_index_or leaves k no_number ≡ number_or (number (slice_index_or places k None))
+
+pub record IsCounted (w : Inside) : Type 0 where
+  pub in_range : All IsWaitInRangeIf w.places.items
+  pub clock : w.clock ≤ latest
+  pub ready_anyway : w.ready_anyway ≡ count_by (is_ready_anyway w.clock) w.places.items
+  pub at_accept : w.at_accept ≡ count_by is_at_accept w.places.items
+  pub channel_count : length w.at_channels ≡ 64
+  pub at_channels : (channel : ℕ) → channel < 64 → slice_index w.at_channels channel ≡ count_by (is_at_channel channel) w.places.items
+  pub sleepers : IsTreeOf (later_wake w.clock) w.places.items w.sleepers
+  pub taker_count : length w.takers.items ≡ 8
+  pub takers : (r : ℕ) → r < 8 → IsTreeOf (amount_of r) w.places.items (slice_index_or w.takers.items r [])
+
+-- ---- parts
+
+-- the number is this one
+abbrev pub is_at : Option ℕ → ℕ → Bool
+is_at None k = false
+is_at (Some other) k = nat_eq other k
+
+-- the amount, where it is of that resource
+abbrev pub amount_at : Option (ℕ × ℕ) → ℕ → Option ℕ
+amount_at None r = None
+amount_at (Some taken) r = if nat_eq taken.0 r then Some taken.1 else None
+
+-- more places, and what was at each
+pub record IsGrown (none : ℕ) (old new : List ℕ) : Type 0 where
+  pub longer : length old ≤ length new
+  pub same : (k : ℕ) → slice_index_or new k none ≡ slice_index_or old k none

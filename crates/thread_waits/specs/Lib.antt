@@ -1,0 +1,7 @@
+pub mod Least
+pub mod Minima
+pub mod Trees
+pub mod Waiting
+pub mod Counted
+pub mod Moving
+pub mod Telling

@@ -1,0 +1,93 @@
+-- Who waits for what, by place, and which of those who wait are ready.
+use Rattle.std.specs.Prelude.{◌≡◌, ℕ, ◌+◌, ◌<◌, ◌≤◌, ◌^◌, ◌&&◌, Bool, true, false, not, List, map, All, Contains, Option, Some, None, if◌then◌else◌, nat_lt, slice_index_or}
+use Rattle.std.specs.List.{list_any}
+use Rattle.cap_word.specs.declared.calls.Block.{Block}
+use Rattle.c_mean.specs.ModelledCalls.{Exchange, is_ready, wakes_at}
+use Rattle.thread_waits.specs.declared.waits.Wait.{Wait}
+
+-- what is waited for at each place, nothing at a place where nobody waits, and the clock
+pub record Waiting : Type 0 where
+  pub places : List (Option Wait)
+  pub clock : ℕ
+
+-- what is waited for at a place
+abbrev pub wait_at : Waiting → ℕ → Option Wait
+wait_at w place = slice_index_or w.places place None
+
+-- ---- readiness
+
+-- whether who waits so is ready, where the caps, the queues and uses and the clock are these
+abbrev pub is_ready_for : List ℕ → Exchange → ℕ → Wait → Bool
+is_ready_for caps x clock Wait.Fresh = true
+is_ready_for caps x clock (Wait.At block since) = is_ready caps x clock since block
+
+abbrev pub is_at_accept_block : Block → Bool
+is_at_accept_block Block.Accept = true
+is_at_accept_block (Block.Wait channel) = false
+is_at_accept_block (Block.Sleep ticks) = false
+is_at_accept_block Block.Yield = false
+is_at_accept_block (Block.Take resource amount) = false
+
+abbrev pub is_at_accept_for : Wait → Bool
+is_at_accept_for Wait.Fresh = false
+is_at_accept_for (Wait.At block since) = is_at_accept_block block
+
+-- nobody is ready where nobody waits
+abbrev pub is_ready_in : List ℕ → Exchange → ℕ → Option Wait → Bool
+is_ready_in caps x clock None = false
+is_ready_in caps x clock (Some wait) = is_ready_for caps x clock wait
+
+abbrev pub is_at_accept : Option Wait → Bool
+is_at_accept None = false
+is_at_accept (Some wait) = is_at_accept_for wait
+
+-- whether somebody is ready, and whether somebody is that isn't at `accept`
+abbrev pub any_ready_in : List ℕ → Exchange → Waiting → Bool
+any_ready_in caps x w = list_any (is_ready_in caps x w.clock) w.places
+
+abbrev pub any_elsewhere_in : List ℕ → Exchange → Waiting → Bool
+any_elsewhere_in caps x w = list_any (λ wait. is_ready_in caps x w.clock wait && not (is_at_accept wait)) w.places
+
+-- ---- sleepers
+
+abbrev pub wake_for : Wait → Option ℕ
+wake_for Wait.Fresh = None
+wake_for (Wait.At block since) = wakes_at since block
+
+-- the time, if it is still to come
+abbrev pub if_later : ℕ → Option ℕ → Option ℕ
+if_later clock None = None
+if_later clock (Some time) = if nat_lt clock time then Some time else None
+
+-- when who sleeps there wakes, if the time is still to come
+abbrev pub later_wake : ℕ → Option Wait → Option ℕ
+later_wake clock None = None
+later_wake clock (Some wait) = if_later clock (wake_for wait)
+
+-- the earliest time at which somebody wakes that sleeps and isn't ready, if there is one
+abbrev pub IsWake : Waiting → Option ℕ → Type 0
+IsWake w None = All (λ wait. later_wake w.clock wait ≡ None) w.places
+IsWake w (Some time) =
+    Contains (map (later_wake w.clock) w.places) (Some time)
+    × ((other : ℕ) → Contains (map (later_wake w.clock) w.places) (Some other) → time ≤ other)
+
+-- ---- who may wait
+
+-- a channel below 64, a resource from 1 to 7, and a clock that may be
+abbrev pub IsBlockInRange : Block → Type 0
+IsBlockInRange Block.Accept = Unit {0}
+IsBlockInRange (Block.Wait channel) = channel < 64
+IsBlockInRange (Block.Sleep ticks) = Unit {0}
+IsBlockInRange Block.Yield = Unit {0}
+IsBlockInRange (Block.Take resource amount) = (1 ≤ resource) × (resource < 8)
+
+abbrev pub latest : ℕ
+latest = 2 ^ 63 + 2 ^ 32
+
+abbrev pub IsWaitInRange : Wait → Type 0
+IsWaitInRange Wait.Fresh = Unit {0}
+IsWaitInRange (Wait.At block since) = IsBlockInRange block × (since ≤ latest)
+
+abbrev pub IsWaitInRangeIf : Option Wait → Type 0
+IsWaitInRangeIf None = Unit {0}
+IsWaitInRangeIf (Some wait) = IsWaitInRange wait

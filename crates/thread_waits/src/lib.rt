@@ -1,0 +1,16 @@
+// Who waits for what: the threads that wait to be chosen, by place, with what each waits for and the clock.
+//
+// In: who begins to wait, who goes on, the clock. Out: whether somebody is ready, whether somebody elsewhere than at
+// `accept` is, and when the earliest sleeper wakes. None of these looks at each of those who wait: how many are ready
+// whatever happens, at `accept` and at each channel is counted, and a tree of minima has the times of the sleepers and the
+// amounts that wait for each resource. No call but `new` and `make_place` takes memory.
+#![tactic(auto)]
+
+mod kinds;
+mod min_tree;
+mod parts;
+mod telling;
+mod waits;
+
+pub use min_tree::MinTree;
+pub use waits::{Wait, Waits};

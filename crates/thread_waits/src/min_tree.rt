@@ -1,0 +1,133 @@
+ghost use Rattle.std.specs.Prelude.{◌≡◌, ◌+◌, ◌/◌, ◌-◌, ◌*◌, ◌<◌, ◌≤◌, ◌^◌, List, ◌++◌, length, replicate, All, slice_set, slice_index, IfOk, OnOk, OnErr};
+ghost use Rattle.thread_waits.specs.Least.{IsLeast};
+ghost use Rattle.thread_waits.specs.Minima.{AreMinima, AreMinimaBut, leaves_in};
+
+use std::alloc::{AllocError, Global};
+use std::marker::Model;
+
+/// Numbers by place, and the least of them at hand: the leaves of a binary tree whose every inner node is the lesser of its
+/// two children. Contracts see it as the list of its numbers.
+#[derive(Drop)]
+pub struct MinTree {
+    nodes: Vec<u64>,
+}
+
+impl Model for MinTree {
+    ghost use Rattle.std.specs.Prelude.{List, ℕ};
+
+    ghost Value = { List ℕ };
+
+    ghost use Rattle.thread_waits.specs.Trees.{leaves_of, IsTree};
+
+    ghost view = { leaves_of };
+
+    ghost invariant = { IsTree };
+}
+
+impl MinTree {
+    /// The number at a place that has none.
+    pub const NONE: u64 = u64::MAX;
+
+    /// A tree with so many places, and no number at any.
+    pub fn new(alloc: Global, count: usize) -> Result<MinTree, AllocError>
+        requires some { 1 ≤ count }
+        requires fits { count < 2 ^ 40 }
+        ensures { IfOk result (λ tree. tree ≡ replicate count (2 ^ 64 - 1)) }
+    {
+        let nodes = vec![in alloc; MinTree::NONE; 2 * count]?;
+        Ok(MinTree { nodes })
+    }
+
+    /// How many places there are.
+    pub fn len(&self) -> usize
+        ensures count { result ≡ length self.now }
+        ensures some { 1 ≤ result }
+        ensures small { result < 2 ^ 62 }
+    {
+        self.nodes.len() / 2
+    }
+
+    /// The number at a place.
+    pub fn get(&self, place: usize) -> u64
+        requires { place < length self.now }
+        ensures { result ≡ slice_index self.now place }
+    {
+        self.nodes[self.nodes.len() / 2 + place]
+    }
+
+    /// Sets the number at a place. It takes as many steps as the tree is high.
+    pub fn set(&mut self, place: usize, number: u64)
+        requires { place < length self.old }
+        ensures { self.new ≡ slice_set self.old place number }
+    {
+        let leaf = self.nodes.len() / 2 + place;
+        self.nodes[leaf] = number;
+        renew_above(&mut self.nodes, leaf);
+    }
+
+    /// The least number.
+    pub fn least(&self) -> u64
+        ensures { IsLeast self.now result }
+    {
+        let nodes = self.nodes.as_slice();
+        nodes[1]
+    }
+
+    /// A place of the least number.
+    pub fn place_of_least(&self) -> usize
+        ensures there { result < length self.now }
+        ensures lowest { All (λ number. slice_index self.now result ≤ number) self.now }
+    {
+        let nodes = self.nodes.as_slice();
+        leaf_of_least(nodes) - nodes.len() / 2
+    }
+
+    /// Makes so many places of it, the new ones without numbers.
+    pub fn grow(&mut self, alloc: Global, count: usize) -> Result<(), AllocError>
+        requires more { length self.old ≤ count }
+        requires fits { count < 2 ^ 40 }
+        ensures ok { OnOk result (self.new ≡ self.old ++ replicate (count - length self.old) (2 ^ 64 - 1)) }
+        ensures err { OnErr result (self.new ≡ self.old) }
+    {
+        let places = self.len();
+        let mut grown = MinTree::new(alloc, count)?;
+        for place in 0..places {
+            grown.set(place, self.get(place));
+        }
+        *self = grown;
+        Ok(())
+    }
+}
+
+// Makes each inner node above this one the lesser of its two children.
+fn renew_above(nodes: &mut [u64], changed: usize)
+    requires there { changed < length nodes.old }
+    requires inner { 1 ≤ changed }
+    requires others { AreMinimaBut nodes.old (changed / 2) }
+    ensures minima { AreMinima nodes.new }
+    ensures leaves { leaves_in nodes.new ≡ leaves_in nodes.old }
+{
+    let mut node = changed;
+    while node > 1 {
+        node /= 2;
+        nodes[node] = nodes[2 * node].min(nodes[2 * node + 1]);
+    }
+}
+
+// A leaf with the number of the root.
+fn leaf_of_least(nodes: &[u64]) -> usize
+    requires { AreMinima nodes.now }
+    ensures behind { length nodes.now / 2 ≤ result }
+    ensures there { result < length nodes.now }
+    ensures number { slice_index nodes.now result ≡ slice_index nodes.now 1 }
+{
+    let mut node = 1;
+    while node < nodes.len() / 2 {
+        node = if nodes[2 * node] == nodes[node] {
+            2 * node
+        } else {
+            2 * node + 1
+        };
+    }
+    node
+}
