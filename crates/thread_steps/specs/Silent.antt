@@ -1,0 +1,22 @@
+-- Silent steps of the world, and those that good steps of its running thread make.
+use Rattle.std.specs.Prelude.{◌≡◌, ℕ, zero, suc, ◌+◌}
+use Rattle.machine_world.specs.Local.{Local}
+use Rattle.machine_world.specs.Threads.{Thread, World, Setting, replaced, Goes, step}
+
+-- so many steps, which tell nothing, lead from a world to another
+abbrev pub GoesOn : Setting → ℕ → World → World → Type 0
+GoesOn s zero w after = after ≡ w
+GoesOn s (suc n) w after = (next : World) × (step s w ≡ Goes next) × GoesOn s n next after
+
+-- a thread over the areas of a world
+abbrev pub local_in : World → Thread → Local
+local_in w thread = record { areas = w.areas; core = thread.core }
+
+-- the world after so many silent steps of a thread, which led it there
+abbrev pub after_silent : World → Thread → Local → ℕ → World
+after_silent w thread at n = record w {
+  threads = replaced (record thread { core = at.core }) w.threads;
+  areas = at.areas;
+  clock = w.clock + n;
+  cost = w.cost + n;
+}
