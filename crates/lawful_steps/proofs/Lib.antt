@@ -1,0 +1,15 @@
+pub mod Counts
+pub mod Own
+pub mod Lists
+pub mod Kept
+pub mod Same
+pub mod Any
+pub mod Queues
+pub mod Choice
+pub mod Clocks
+pub mod Wakes
+pub mod Within
+pub mod Picked
+pub mod Between
+pub mod Entries
+pub mod Told

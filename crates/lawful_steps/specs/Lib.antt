@@ -1,0 +1,6 @@
+pub mod Waiting
+pub mod Tests
+pub mod Beside
+pub mod Clocks
+pub mod Within
+pub mod Entries
