@@ -8,6 +8,7 @@ pub mod Up
 pub mod Whole
 pub mod TextSites
 pub mod Standing
+pub mod Alone
 pub mod Laws
 pub mod Going
 pub mod SiteKeys

@@ -56,7 +56,7 @@ ecall_site (Op.StoreArray d x y) word e = absurd (let n : no_word ≡ Some word 
 ecall_site (Op.Jump to) word e = absurd (let n : no_word ≡ Some word = e in cc)
 ecall_site (Op.JumpZero x to) word e = absurd (let n : no_word ≡ Some word = e in cc)
 
-ecall_inside : (sizes : List ℕ) (certificate : Certificate) (op : Op) (word : ℕ) → ecall_word op ≡ Some word → word + 1 ≤ size sizes (kind_of certificate op) op
+pub ecall_inside : (sizes : List ℕ) (certificate : Certificate) (op : Op) (word : ℕ) → ecall_word op ≡ Some word → word + 1 ≤ size sizes (kind_of certificate op) op
 ecall_inside sizes certificate (Op.Model site d n args) word e = let same : length args + 1 ≡ word = (let known : some_word (length args + 1) ≡ Some word = e in cc) in omega (arith, same)
 ecall_inside sizes certificate (Op.Spawn site d g x) word e = let same : 6 ≡ word = (let known : some_word 6 ≡ Some word = e in cc) in omega (arith, same)
 ecall_inside sizes certificate (Op.Call site d g args) word e = absurd (let n : no_word ≡ Some word = e in cc)

@@ -86,7 +86,7 @@ place_index c pool frame temporary ToCaller = tt
 
 -- ---- arguments
 
-argument_word : (arguments : List ℕ) (rest : List (List ℕ)) (x : ℕ) → x < length arguments → word_at (scalars arguments ++ rest) x 0 ≡ slice_index arguments x
+pub argument_word : (arguments : List ℕ) (rest : List (List ℕ)) (x : ℕ) → x < length arguments → word_at (scalars arguments ++ rest) x 0 ≡ slice_index arguments x
 argument_word [] rest x lt = absurd (omega arith)
 argument_word (v ∷ arguments) rest zero lt = refl
 argument_word (v ∷ arguments) rest (suc x) lt = argument_word arguments rest x (omega arith)

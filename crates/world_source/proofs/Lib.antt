@@ -1,0 +1,14 @@
+pub mod Threads
+pub mod Modelled
+pub mod Outputs
+pub mod Passing
+pub mod Forms
+pub mod Staying
+pub mod Steps
+pub mod Fresh
+pub mod Spawns
+pub mod WorldSteps
+pub mod Picks
+pub mod Sound
+pub mod Between
+pub mod Laws
