@@ -1,0 +1,94 @@
+-- What holds between and within segments of the world of a valid pair: it is well formed, and its threads rest, or the running
+-- one runs as some source thread.
+use Rattle.std.proofs.Common.{◌≡◌, ℕ, ◌/◌, ◌≤◌, List, [], Some, refl, subst, arith}
+use Rattle.c_lower.specs.ProgramCode.{lowered}
+use Rattle.c_mean.specs.World as source
+use Rattle.c_tree.specs.WellScoped.{IsWellScoped}
+use Rattle.certificate_rules.specs.Validity.{IsValid}
+use Rattle.chunk_pool.specs.Pool.{start_pool}
+use Rattle.lawful_log.specs.Setup.{Setup, setting_of, start_machine}
+use Rattle.lawful_log.specs.Good.{checked_of}
+use Rattle.lowered_facts.proofs.Formed.{formed}
+use Rattle.machine_world.specs.Runs.{Action, Deliver, Advance, Pick, after_action}
+use Rattle.machine_world.specs.Threads.{World, Move, Goes, Puts, Spawns, Blocks, Ends, step}
+use Rattle.machine_world.specs.WellFormed.{AreWellFormed, IsWellFormed, IsWellFormedIf, KeepsWellFormed, DeliversWords, most_fuel}
+use Rattle.machine_world.proofs.FormWorlds.{KeepsWellFormed-step, IsWellFormedIf-action, IsWellFormedIf-start}
+use Rattle.segment_call_facts.proofs.ValidCalls.{CallFacts-valid}
+use Rattle.stack_certificate.specs.Certificates.{fact_at}
+use Rattle.good_logs.proofs.Stretching.{AreKept}
+use Rattle.world_source.specs.Reached.{IsReached, StepReaches}
+use Rattle.world_source.specs.UnderWay.{IsSettled, StandsSettled}
+use Rattle.world_source.proofs.Between.{delivered_law, advanced_law, starts_law}
+use Rattle.world_source.proofs.Laws as laws
+use Rattle.world_source.proofs.Sound.{settled_sound, under_way_sound}
+
+module _ (g : Setup) (scoped : IsWellScoped g.program) (valid : IsValid (lowered g.program) g.image g.certificate) where
+  -- between segments
+  pub record Rests (w : World) : Type 0 where
+    pub form : IsWellFormed (checked_of g) (setting_of g) w
+    pub settled : IsSettled (checked_of g) w
+
+  -- within one
+  pub record Runs (w : World) : Type 0 where
+    pub form : IsWellFormed (checked_of g) (setting_of g) w
+    pub start : source.World
+    pub number : ℕ
+    pub puts : List ℕ
+    pub reached : IsReached (checked_of g) g.program (setting_of g) start number puts w
+
+  -- a world at rest stands for some source world
+  record Somewhere (w : World) : Type 0 where
+    other : source.World
+    stands : StandsSettled (checked_of g) g.program w other
+
+  somewhere : (w : World) → Rests w → Somewhere w
+  somewhere w is =
+      let some = laws.somewhere g.program g.image g.certificate (setting_of g) w scoped valid is.form is.settled in
+      record { other = some.0; stands = record { stands = some.1; settled = is.settled } }
+
+  formed_after : (w after : World) (action : Action) → DeliversWords action → IsWellFormed (checked_of g) (setting_of g) w → after_action (setting_of g) w action ≡ Some after → IsWellFormed (checked_of g) (setting_of g) after
+  formed_after w after action words form e = subst (IsWellFormedIf (checked_of g) (setting_of g)) e (IsWellFormedIf-action (checked_of g) (setting_of g) w action words form)
+
+  formed_step : (w : World) (move : Move) → IsWellFormed (checked_of g) (setting_of g) w → step (setting_of g) w ≡ move → KeepsWellFormed (checked_of g) (setting_of g) move
+  formed_step w move form e = subst (KeepsWellFormed (checked_of g) (setting_of g)) e (KeepsWellFormed-step (checked_of g) (setting_of g) w form)
+
+  reaches : (w : World) (move : Move) (is : Runs w) → step (setting_of g) w ≡ move → StepReaches (checked_of g) g.program (setting_of g) is.start is.number is.puts move
+  reaches w move is e =
+      subst (StepReaches (checked_of g) g.program (setting_of g) is.start is.number is.puts) e
+      (laws.steps g.program g.image g.certificate (setting_of g) w is.start is.number is.puts scoped valid refl is.form is.reached)
+
+  pub kept : AreKept (checked_of g) (setting_of g) Rests Runs
+  kept = record {
+    begins = λ w after number is e.
+        let some = somewhere w is in
+        record {
+          form = formed_after w after (Pick number) tt is.form e;
+          start = some.other;
+          number = number;
+          puts = [];
+          reached = laws.picks g.program g.image g.certificate (setting_of g) w after some.other number scoped valid refl is.form some.stands e;
+        };
+    goes = λ w after is e. record { form = formed_step w (Goes after) is.form e; start = is.start; number = is.number; puts = is.puts; reached = reaches w (Goes after) is e };
+    puts = λ w after value is e. record { form = formed_step w (Puts value after) is.form e; start = is.start; number = is.number; puts = _; reached = reaches w (Puts value after) is e };
+    spawns = λ w after number is e. record { form = formed_step w (Spawns number after) is.form e; start = is.start; number = is.number; puts = is.puts; reached = reaches w (Spawns number after) is e };
+    blocks = λ w after is e. record { form = formed_step w (Blocks after) is.form e; settled = (reaches w (Blocks after) is e).2.settled };
+    ends = λ w after is e. record { form = formed_step w (Ends after) is.form e; settled = (reaches w (Ends after) is e).2.settled };
+    sound = λ w is. under_way_sound (checked_of g) g.program (setting_of g) w is.reached.segment is.form is.reached.under_way;
+    rests = λ w is. settled_sound (checked_of g) (setting_of g) w is.form is.settled;
+    advances = λ w after to is e.
+        let some = somewhere w is in
+        record { form = formed_after w after (Advance to) tt is.form e; settled = (advanced_law (checked_of g) g.program (setting_of g) w after some.other to some.stands e).settled };
+    delivers = λ w after delivery words is e.
+        let some = somewhere w is in
+        record { form = formed_after w after (Deliver delivery) words is.form e; settled = (delivered_law (checked_of g) g.program (setting_of g) w after some.other delivery some.stands e).settled };
+  }
+
+  pub starts : (start : World) → AreWellFormed (checked_of g) (record { pool = start_pool g.policy.chunks (g.certificate.chunk / 4); globals = g.image.globals; tables = g.image.tables }) → g.policy.fuel ≤ most_fuel → start_machine g ≡ Some start → Rests start
+  starts start areas fuel e =
+      let code = formed g.program g.image g.certificate scoped valid in
+      let room = ((CallFacts-valid (lowered g.program) g.image g.certificate code valid).entries g.program.main code.main_defined).room in
+      record {
+        form = subst (IsWellFormedIf (checked_of g) (setting_of g)) e
+            (IsWellFormedIf-start (checked_of g) (setting_of g) g.policy.chunks (g.certificate.chunk / 4) g.image.globals g.image.tables (fact_at g.certificate g.program.main).entry (fact_at g.certificate g.program.main).bound areas fuel (omega (arith, room)));
+        settled = (starts_law g.program g.image g.certificate start g.policy.chunks (g.certificate.chunk / 4) scoped valid areas e).settled;
+      }

@@ -1,0 +1,5 @@
+pub mod Good
+mod Words
+mod Stretching
+mod Going
+mod Kept
