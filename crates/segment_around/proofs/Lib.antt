@@ -1,4 +1,4 @@
 pub mod Untouched
-mod FirstWords
+pub mod FirstWords
 pub mod Passing
 pub mod Starting

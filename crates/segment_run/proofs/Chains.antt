@@ -1,0 +1,93 @@
+-- The chain that the headers of chunks name, and what keeps it.
+use Rattle.std.proofs.Common.{◌≡◌, ℕ, zero, suc, ◌+◌, ◌-◌, ◌*◌, ◌/◌, ◌%◌, ◌^◌, ◌<◌, ◌≤◌, List, [], ◌∷◌, length, Option, Some, None, refl, ap, ◌∙◌, arith, cond}
+use Rattle.std.specs.Prelude.{Bool, nat_eq}
+use Rattle.std.proofs.lemmas.Bool.{eq-eqb}
+use Rattle.std.proofs.lemmas.Nat.{div-mul-add}
+use Rattle.chunk_pool.specs.Pool.{Pool, first_place, payload_place_of, IsPool}
+use Rattle.rv_machine.specs.Bytes.{Stored, Nothing, Byte, Half, Word, with_half, with_word, with_stored}
+use Rattle.rv_machine.specs.Rows as rows
+use Rattle.rv_machine.specs.Words.{TellsWords}
+use Rattle.machine_world.specs.Areas.{Areas, Spot, InGlobals, InTables, InPayload, spot_of, with_byte_on, with_byte}
+use Rattle.machine_world.specs.Held.{copies}
+use Rattle.machine_world.specs.InPlace.{HeadersName}
+use Rattle.machine_world.specs.Local.{saved_tp}
+use Rattle.machine_world.proofs.AreaLaws.{IsSpot, IsSpot-spot_of, IsPool-with_byte}
+use Rattle.machine_world.proofs.HeldLaws.{copies-cons}
+use Rattle.segment_laws.proofs.Stacks.{word_of-other}
+use Rattle.segment_run.specs.Contexts.{chunk_below, chain_from}
+
+-- ---- what headers name
+
+pub chunk_below-of : (p : Pool) (chunk next : ℕ) → 16 ≤ p.words → saved_tp p chunk ≡ payload_place_of p next → chunk_below p chunk ≡ next
+chunk_below-of p chunk next header named =
+    let size = 4 * p.words in
+    let inside : saved_tp p chunk - first_place ≡ next * size + 16 = omega (arith, named) in
+    ap (λ (n : ℕ). n / size) inside ∙ div-mul-add next size 16 (omega arith)
+
+-- a chain whose headers name it is the one that is read from them
+pub chain_from-named : (p : Pool) (chunk : ℕ) (chain : List ℕ) → 16 ≤ p.words → HeadersName p (chunk ∷ chain) → chain_from p chunk (suc (length chain)) ≡ chunk ∷ chain
+chain_from-named p chunk [] header names = refl
+chain_from-named p chunk (next ∷ chain) header names =
+    ap (λ (rest : List ℕ). chunk ∷ rest)
+    (ap (λ (k : ℕ). chain_from p k (suc (length chain))) (chunk_below-of p chunk next header names.0)
+    ∙ chain_from-named p next chain header names.1)
+
+pub length-chain_from : (p : Pool) (chunk n : ℕ) → length (chain_from p chunk n) ≡ n
+length-chain_from p chunk zero = refl
+length-chain_from p chunk (suc n) = ap suc (length-chain_from p (chunk_below p chunk) n)
+
+-- ---- what keeps it
+
+-- pools of chunks of one size, with the same saved tp in each chunk of a chain, have the same chain
+pub chain_from-kept : (p q : Pool) (chunk n : ℕ) → q.words ≡ p.words → ((k : ℕ) → 1 ≤ copies k (chain_from p chunk n) → saved_tp q k ≡ saved_tp p k) →
+    chain_from q chunk n ≡ chain_from p chunk n
+chain_from-kept p q chunk zero same saved = refl
+chain_from-kept p q chunk (suc n) same saved =
+    let rest = chain_from p (chunk_below p chunk) n in
+    let one : ◌≡◌ {A = ℕ} (cond (nat_eq chunk chunk) 1 0) 1 = ap (λ (b : Bool). cond b 1 0) (eq-eqb chunk chunk refl) in
+    let first : saved_tp q chunk ≡ saved_tp p chunk = saved chunk (omega (arith, copies-cons chunk chunk rest, one)) in
+    let below : chunk_below q chunk ≡ chunk_below p chunk = (λ i. (first i - first_place) / (4 * same i)) in
+    ap (λ (chain : List ℕ). chunk ∷ chain)
+    (ap (λ (k : ℕ). chain_from q k n) below
+    ∙ chain_from-kept p q (chunk_below p chunk) n same (λ k there. saved k (omega (arith, copies-cons k chunk rest, there))))
+
+-- ---- a store changes no header
+
+saved_tp-with_byte_on : (areas : Areas) (address b chunk : ℕ) (spot : Option Spot) → IsSpot areas address spot → saved_tp (with_byte_on areas spot b).pool chunk ≡ saved_tp areas.pool chunk
+saved_tp-with_byte_on areas address b chunk None is = refl
+saved_tp-with_byte_on areas address b chunk (Some (InGlobals offset)) is = refl
+saved_tp-with_byte_on areas address b chunk (Some (InTables offset)) is = refl
+saved_tp-with_byte_on areas address b chunk (Some (InPayload there offset)) is =
+    word_of-other areas.pool there (offset / 4) _ chunk 0 (λ same first. omega (arith, is.1, first))
+
+saved_tp-with_byte : (areas : Areas) (a b chunk : ℕ) → IsPool areas.pool → saved_tp (with_byte areas a b).pool chunk ≡ saved_tp areas.pool chunk
+saved_tp-with_byte areas a b chunk sound = saved_tp-with_byte_on areas a b chunk (spot_of areas a) (IsSpot-spot_of areas a sound)
+
+IsPool-with_half : (areas : Areas) (a h : ℕ) → IsPool areas.pool → h < 2 ^ 16 → IsPool (with_half with_byte areas a h).pool
+unfolding with_half
+IsPool-with_half areas a h sound fits =
+    IsPool-with_byte (with_byte areas a (h % 2 ^ 8)) (a + 1) (h / 2 ^ 8) (IsPool-with_byte areas a (h % 2 ^ 8) sound (omega arith)) (omega arith)
+
+saved_tp-with_half : (areas : Areas) (a h chunk : ℕ) → IsPool areas.pool → h < 2 ^ 16 → saved_tp (with_half with_byte areas a h).pool chunk ≡ saved_tp areas.pool chunk
+unfolding with_half
+saved_tp-with_half areas a h chunk sound fits =
+    saved_tp-with_byte (with_byte areas a (h % 2 ^ 8)) (a + 1) (h / 2 ^ 8) chunk (IsPool-with_byte areas a (h % 2 ^ 8) sound (omega arith))
+    ∙ saved_tp-with_byte areas a (h % 2 ^ 8) chunk sound
+
+saved_tp-with_word : (areas : Areas) (a w chunk : ℕ) → IsPool areas.pool → w < 2 ^ 32 → saved_tp (with_word with_byte areas a w).pool chunk ≡ saved_tp areas.pool chunk
+unfolding with_word
+saved_tp-with_word areas a w chunk sound fits =
+    saved_tp-with_half (with_half with_byte areas a (w % 2 ^ 16)) (a + 2) (w / 2 ^ 16) chunk (IsPool-with_half areas a (w % 2 ^ 16) sound (omega arith)) (omega arith)
+    ∙ saved_tp-with_half areas a (w % 2 ^ 16) chunk sound (omega arith)
+
+pub saved_tp-stored : (areas : Areas) (pc chunk : ℕ) (x : List ℕ) (stored : Stored) → IsPool areas.pool → TellsWords (rows.Goes pc x stored) → saved_tp (with_stored with_byte stored areas).pool chunk ≡ saved_tp areas.pool chunk
+saved_tp-stored areas pc chunk x Nothing sound told = refl
+saved_tp-stored areas pc chunk x (Byte a b) sound told = saved_tp-with_byte areas a b chunk sound
+saved_tp-stored areas pc chunk x (Half a h) sound told = saved_tp-with_half areas a h chunk sound told.1
+saved_tp-stored areas pc chunk x (Word a w) sound told = saved_tp-with_word areas a w chunk sound told.1
+
+-- a store leaves the chain
+pub chain_from-stored : (areas : Areas) (pc chunk n : ℕ) (x : List ℕ) (stored : Stored) → IsPool areas.pool → TellsWords (rows.Goes pc x stored) →
+    (with_stored with_byte stored areas).pool.words ≡ areas.pool.words → chain_from (with_stored with_byte stored areas).pool chunk n ≡ chain_from areas.pool chunk n
+chain_from-stored areas pc chunk n x stored sound told same =
+    chain_from-kept areas.pool (with_stored with_byte stored areas).pool chunk n same (λ k there. saved_tp-stored areas pc k x stored sound told)

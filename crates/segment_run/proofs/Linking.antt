@@ -1,0 +1,193 @@
+-- LINK, UNLINK and END as the code does them.
+use Rattle.std.proofs.Common.{◌≡◌, ◌≢◌, ℕ, zero, suc, ◌+◌, ◌-◌, ◌<◌, ◌≤◌, Bool, List, [], ◌∷◌, set, drop, Option, Some, None, refl, sym, ap, subst, ◌∙◌, arith, cond}
+use Rattle.std.specs.Prelude.{slice_get, nat_eq}
+use Rattle.std.proofs.lemmas.Bool.{cond_both, eq-eqb}
+use Rattle.cap_word.specs.Word as word
+use Rattle.cap_word.specs.Runs.{Goes, Stops}
+use Rattle.chunk_pool.specs.Pool.{Pool, Taken, taken_of, taken_for, fits, after_take, after_give, word_of, place_of, bytes_of, end_of, payload_place_of, chunk_at, IsPool, IsHeld}
+use Rattle.chunk_pool.proofs.AddressLaws.{chunk_at-some}
+use Rattle.chunk_pool.proofs.PoolLaws.{KeepsOthers-after_give}
+use Rattle.rv_machine.specs.Registers.{read}
+use Rattle.machine_world.specs.Areas.{Areas}
+use Rattle.machine_world.specs.Held.{copies}
+use Rattle.machine_world.specs.InPlace.{HeadersName, TpIsFront}
+use Rattle.machine_world.specs.Local.{Local, Ended, Wrong, tp, t1, with_header, saved_tp, saved_sp, linked, linked_on, unlinked, unlinked_on, begins_at, chunk_with_payload, ended}
+use Rattle.machine_world.proofs.LinkLaws.{saved_tp-with_header}
+use Rattle.segment_laws.specs.Ways.{Owns}
+use Rattle.segment_laws.proofs.Stacks.{word_of-other}
+use Rattle.segment_run.specs.Contexts.{chunk_below, chain_from}
+use Rattle.segment_run.specs.Turns.{thread_of}
+use Rattle.segment_run.specs.declared.running.Thread.{Thread}
+use Rattle.segment_run.proofs.Chains.{chunk_below-of, chain_from-kept, length-chain_from}
+use Rattle.segment_run.proofs.Owning.{copies-here, IsHeld-owned, few_chunks}
+
+-- ---- the front chunk
+
+pub record HasFront (p : Pool) (thread : Thread) : Type 0 where
+  pub below : ℕ
+  pub depth : thread.depth ≡ suc below
+  pub tp_is : read thread.regs.x tp ≡ payload_place_of p thread.chunk
+
+pub front_of : (areas : Areas) (thread : Thread) (depth : ℕ) → thread.depth ≡ depth → TpIsFront areas.pool (thread_of areas thread).core (thread_of areas thread).core.chain → HasFront areas.pool thread
+front_of areas thread zero is front = absurd (subst (λ (n : ℕ). TpIsFront areas.pool (thread_of areas thread).core (chain_from areas.pool thread.chunk n)) is front)
+front_of areas thread (suc n) is front = record {
+  below = n;
+  depth = is;
+  tp_is = subst (λ (k : ℕ). TpIsFront areas.pool (thread_of areas thread).core (chain_from areas.pool thread.chunk k)) is front;
+}
+
+chain_is : (p : Pool) (thread : Thread) (below : ℕ) → thread.depth ≡ suc below → chain_from p thread.chunk thread.depth ≡ thread.chunk ∷ chain_from p (chunk_below p thread.chunk) below
+chain_is p thread below depth = ap (chain_from p thread.chunk) depth
+
+pub front_held : (areas : Areas) (thread : Thread) (below : ℕ) → Owns (thread_of areas thread) → thread.depth ≡ suc below → IsHeld areas.pool thread.chunk
+front_held areas thread below owns depth =
+    let chain = chain_is areas.pool thread below depth in
+    let here = ap (copies thread.chunk) chain ∙ copies-here thread.chunk (chain_from areas.pool (chunk_below areas.pool thread.chunk) below) in
+    IsHeld-owned (thread_of areas thread) thread.chunk owns (omega (arith, here))
+
+pub depth_below : (areas : Areas) (thread : Thread) → Owns (thread_of areas thread) → thread.depth ≤ areas.pool.count
+depth_below areas thread owns = omega (arith, few_chunks (thread_of areas thread) owns, length-chain_from areas.pool thread.chunk thread.depth)
+
+-- ---- LINK
+
+taken_first : (p : Pool) (need id : ℕ) (free : List ℕ) → slice_get free 0 ≡ Some id → (taken_of p need free ≡ None → free ≡ []) →
+    taken_of p need free ≡ Some (record { chunk = id; pool = record p { free = drop 1 free } })
+taken_first p need id [] first room = absurd (cc)
+taken_first p need id (k ∷ ids) first room =
+    let same : k ≡ id = cc in
+    let taken : ℕ → Taken = λ n. record { chunk = n; pool = record p { free = ids } } in
+    (cond_both (fits p need k) (Some (taken k)) None (λ found. (found ≡ None → k ∷ ids ≡ []) → found ≡ Some (taken k))
+    (λ _ _. refl)
+    (λ _ unless. absurd (let empty : k ∷ ids ≡ [] = unless refl in cc))) room
+    ∙ ap (λ (n : ℕ). Some (taken n)) same
+
+-- the thread after a LINK of that chunk
+abbrev pub linked_thread : Thread → Pool → ℕ → Thread
+linked_thread thread p id = record {
+  regs = record { pc = word.add thread.regs.pc 4; x = set (set thread.regs.x 4 (payload_place_of p id)) 2 (end_of p id) };
+  chunk = id;
+  depth = thread.depth + 1;
+}
+
+abbrev pub linked_areas : Areas → Thread → ℕ → Areas
+linked_areas areas thread id = record areas { pool = with_header (after_take areas.pool) id (read thread.regs.x tp) (read thread.regs.x 2) }
+
+pub link_goes : (areas : Areas) (thread : Thread) (id : ℕ) → IsPool (after_take areas.pool) → IsHeld (after_take areas.pool) id → Owns (thread_of areas thread) → HasFront areas.pool thread →
+    slice_get areas.pool.free 0 ≡ Some id → (taken_for areas.pool (read thread.regs.x t1) ≡ None → areas.pool.free ≡ []) →
+    linked (thread_of areas thread) ≡ Goes (thread_of (linked_areas areas thread id) (linked_thread thread areas.pool id))
+link_goes areas thread id sound held owns front first room =
+    let l = thread_of areas thread in
+    let p = areas.pool in
+    let q = (linked_areas areas thread id).pool in
+    let taken = taken_first p (read thread.regs.x t1) id p.free first room in
+    let named : saved_tp q id ≡ payload_place_of q thread.chunk = saved_tp-with_header (after_take p) id _ _ sound held.0 ∙ front.tp_is in
+    let below : chunk_below q id ≡ thread.chunk = chunk_below-of q id thread.chunk sound.header_fits named in
+    let kept : chain_from q thread.chunk thread.depth ≡ chain_from p thread.chunk thread.depth =
+    chain_from-kept p q thread.chunk thread.depth refl (λ k there. saved_away k (λ same. not_free k there same)) in
+    let chain : chain_from q id (thread.depth + 1) ≡ id ∷ chain_from p thread.chunk thread.depth =
+    (let next : thread.depth + 1 ≡ suc thread.depth = omega arith in ap (chain_from q id) next)
+    ∙ ap (λ (c : ℕ). id ∷ chain_from q c thread.depth) below ∙ ap (λ (cs : List ℕ). id ∷ cs) kept in
+    ap (linked_on l) taken
+    ∙ ap (λ (cs : List ℕ). Goes (record {
+      areas = linked_areas areas thread id;
+      core = record { pc = word.add thread.regs.pc 4; x = (linked_thread thread p id).regs.x; chain = cs };
+    })) (sym chain)
+  where
+    saved_away : (k : ℕ) → k ≢ id → saved_tp (linked_areas areas thread id).pool k ≡ saved_tp areas.pool k
+    saved_away k apart =
+        word_of-other (Rattle.chunk_pool.specs.Pool.with_word (after_take areas.pool) id 0 (read thread.regs.x tp)) id 1 _ k 0 (λ same other. apart same)
+        ∙ word_of-other (after_take areas.pool) id 0 _ k 0 (λ same other. apart same)
+
+    not_free : (k : ℕ) → 1 ≤ copies k (chain_from areas.pool thread.chunk thread.depth) → k ≡ id → ⊥
+    not_free k there same = (IsHeld-owned (thread_of areas thread) k owns there).1 (free_first areas.pool.free k (first ∙ ap Some (sym same)))
+      where
+        free_first : (ids : List ℕ) (n : ℕ) → slice_get ids 0 ≡ Some n → Rattle.std.specs.List.Contains ids n
+        free_first [] n e = absurd (cc)
+        free_first (x ∷ ids) n e = (0, omega arith, (let same : x ≡ n = cc in same))
+
+-- ---- UNLINK
+
+payload_found : (p : Pool) (c : ℕ) → IsPool p → c < p.count → chunk_at p (payload_place_of p c) ≡ Some c
+payload_found p c sound within = chunk_at-some p c (payload_place_of p c) (within, omega arith, omega (arith, sound.header_fits))
+
+front_found : (p : Pool) (c : ℕ) → IsPool p → c < p.count → chunk_with_payload p (payload_place_of p c) ≡ Some c
+front_found p c sound within =
+    let place = payload_place_of p c in
+    ap (begins_at p place) (payload_found p c sound within) ∙ ap (λ (b : Bool). cond b (Some c) None) (eq-eqb place place refl)
+
+abbrev pub unlinked_thread : Thread → Pool → ℕ → Thread
+unlinked_thread thread p below = record {
+  regs = record { pc = word.add thread.regs.pc 4; x = set (set thread.regs.x 4 (word_of p thread.chunk 0)) 2 (word_of p thread.chunk 1) };
+  chunk = below;
+  depth = thread.depth - 1;
+}
+
+abbrev pub given_areas : Areas → ℕ → Areas
+given_areas areas chunk = record areas { pool = after_give areas.pool chunk }
+
+-- the chunk that the code goes on with is the next one of the chain, if there is one
+abbrev pub IsNext : Pool → ℕ → ℕ → Option ℕ → ℕ → Type 0
+IsNext p chunk saved None below = below ≡ chunk
+IsNext p chunk saved (Some next) below = below ≡ next
+
+pub unlink_goes : (areas : Areas) (thread : Thread) (below : ℕ) → IsPool areas.pool → Owns (thread_of areas thread) → (front : HasFront areas.pool thread) →
+    (1 ≤ front.below → below ≡ chunk_below areas.pool thread.chunk) →
+    unlinked (thread_of areas thread) ≡ Goes (thread_of (given_areas areas thread.chunk) (unlinked_thread thread areas.pool below))
+unlink_goes areas thread below sound owns front next =
+    let l = thread_of areas thread in
+    let p = areas.pool in
+    let c = thread.chunk in
+    let q = after_give p c in
+    let rest = chain_from p (chunk_below p c) front.below in
+    let held = front_held areas thread front.below owns front.depth in
+    let found : chunk_with_payload p (read thread.regs.x tp) ≡ Some c = ap (chunk_with_payload p) front.tp_is ∙ front_found p c sound held.0 in
+    let gone : List ℕ → Local = λ cs. record {
+      areas = given_areas areas c;
+      core = record { pc = word.add thread.regs.pc 4; x = (unlinked_thread thread p below).regs.x; chain = cs };
+    } in
+    let kept : chain_from q (chunk_below p c) front.below ≡ rest = chain_from-kept p q (chunk_below p c) front.below refl (λ k there. saved_away k (λ same. twice k there same)) in
+    let last : chain_from q below (thread.depth - 1) ≡ rest =
+    (let less : thread.depth - 1 ≡ front.below = omega (arith, front.depth) in ap (chain_from q below) less) ∙ next_chain front.below refl ∙ kept in
+    ap (unlinked_on l) found
+    ∙ ap (λ (cs : List ℕ). Rattle.machine_world.specs.Local.unlinked_front l c cs) (chain_is p thread front.below front.depth)
+    ∙ ap (λ (b : Bool). cond b (Goes (gone rest)) (Stops Wrong)) (eq-eqb c c refl)
+    ∙ ap (λ (cs : List ℕ). Goes (gone cs)) (sym last)
+  where
+    saved_away : (k : ℕ) → k ≢ thread.chunk → saved_tp (after_give areas.pool thread.chunk) k ≡ saved_tp areas.pool k
+    saved_away k apart = ap (λ (words : List ℕ). Rattle.std.specs.Prelude.slice_index words 0) (KeepsOthers-after_give areas.pool thread.chunk k apart)
+
+    twice : (k : ℕ) → 1 ≤ copies k (chain_from areas.pool (chunk_below areas.pool thread.chunk) front.below) → k ≡ thread.chunk → ⊥
+    twice k there same =
+        let c = thread.chunk in
+        let rest = chain_from areas.pool (chunk_below areas.pool c) front.below in
+        let here = ap (copies c) (chain_is areas.pool thread front.below front.depth) ∙ copies-here c rest in
+        let other : 1 ≤ copies c rest = subst (λ (n : ℕ). 1 ≤ copies n rest) same there in
+        let most = owns.once c in
+        let one = Rattle.segment_run.proofs.Owning.at_most_one c areas.pool.count in
+        omega (arith, here, other, most, one)
+
+    next_chain : (n : ℕ) → front.below ≡ n → chain_from (after_give areas.pool thread.chunk) below front.below ≡ chain_from (after_give areas.pool thread.chunk) (chunk_below areas.pool thread.chunk) front.below
+    next_chain zero is = ap (chain_from (after_give areas.pool thread.chunk) below) is ∙ sym (ap (chain_from (after_give areas.pool thread.chunk) (chunk_below areas.pool thread.chunk)) is)
+    next_chain (suc n) is = ap (λ (c : ℕ). chain_from (after_give areas.pool thread.chunk) c front.below) (next (omega (arith, is)))
+
+-- the next chunk is found by the saved tp
+pub next_found : (areas : Areas) (thread : Thread) → IsPool areas.pool → Owns (thread_of areas thread) → (front : HasFront areas.pool thread) → HeadersName areas.pool (thread_of areas thread).core.chain → 1 ≤ front.below →
+    chunk_at (after_give areas.pool thread.chunk) (saved_tp areas.pool thread.chunk) ≡ Some (chunk_below areas.pool thread.chunk)
+next_found areas thread sound owns front names more = through front.below refl where
+  through : (n : ℕ) → front.below ≡ n → chunk_at (after_give areas.pool thread.chunk) (saved_tp areas.pool thread.chunk) ≡ Some (chunk_below areas.pool thread.chunk)
+  through zero is = absurd (omega (arith, is, more))
+  through (suc n) is =
+      let p = areas.pool in
+      let c = thread.chunk in
+      let next = chunk_below p c in
+      let chain : chain_from p c thread.depth ≡ c ∷ next ∷ chain_from p (chunk_below p next) n = chain_is p thread front.below front.depth ∙ ap (λ (k : ℕ). c ∷ chain_from p next k) is in
+      let named : saved_tp p c ≡ payload_place_of p next = (subst (HeadersName p) chain names).0 in
+      let here = ap (copies next) chain in
+      let behind = Rattle.machine_world.proofs.HeldLaws.copies-cons next c (next ∷ chain_from p (chunk_below p next) n) in
+      let held = IsHeld-owned (thread_of areas thread) next owns (omega (arith, here, behind, copies-here next (chain_from p (chunk_below p next) n))) in
+      ap (chunk_at (after_give p c)) named ∙ payload_found p next sound held.0
+
+-- ---- END
+
+pub ended_is : (areas : Areas) (thread : Thread) → thread.depth ≡ 1 → ended (thread_of areas thread) (thread_of areas thread).core.chain ≡ Stops (Ended (given_areas areas thread.chunk))
+ended_is areas thread last = ap (λ (n : ℕ). ended (thread_of areas thread) (chain_from areas.pool thread.chunk n)) last

@@ -1,0 +1,72 @@
+-- The map of the areas, address by address, as the code tests it.
+use Rattle.std.proofs.Common.{◌≡◌, ℕ, ◌+◌, ◌-◌, ◌*◌, ◌/◌, ◌<◌, ◌≤◌, true, false, List, length, Some, None, ap, ◌∙◌, arith}
+use Rattle.std.specs.Prelude.{nat_le, nat_lt}
+use Rattle.std.proofs.lemmas.Bool.{cond-true, cond-false, lt-ltb, le-ltb, le-leb, lt-leb, and_from, and_left, and_right}
+use Rattle.chunk_pool.specs.Pool.{Pool, place_of, payload_place_of, chunk_at, first_place}
+use Rattle.machine_world.specs.Areas.{Areas, InGlobals, InTables, InPayload, globals_place, tables_place, is_within, payload_spot, spot_of}
+
+outside : (place : ℕ) (words : List ℕ) (address : ℕ) → place + 4 * length words ≤ address → is_within place words address ≡ false
+outside place words address past = and_right (nat_le place address) (nat_lt address (place + 4 * length words)) (le-ltb address (place + 4 * length words) past)
+
+before : (place : ℕ) (words : List ℕ) (address : ℕ) → address < place → is_within place words address ≡ false
+before place words address low = and_left (nat_le place address) (nat_lt address (place + 4 * length words)) (lt-leb place address low)
+
+inside : (place : ℕ) (words : List ℕ) (address : ℕ) → place ≤ address → address < place + 4 * length words → is_within place words address ≡ true
+inside place words address low high = and_from (nat_le place address) (nat_lt address (place + 4 * length words)) (le-leb place address low) (lt-ltb address (place + 4 * length words) high)
+
+-- few words of globals and of tables
+pub record AreFew (areas : Areas) : Type 0 where
+  pub globals : length areas.globals ≤ 65536
+  pub tables : length areas.tables ≤ 65536
+
+spot_of-chunks : (areas : Areas) (address : ℕ) → is_within globals_place areas.globals address ≡ false → is_within tables_place areas.tables address ≡ false →
+    spot_of areas address ≡ payload_spot areas.pool address (chunk_at areas.pool address)
+unfolding spot_of
+spot_of-chunks areas address no_global no_table =
+    cond-false (is_within globals_place areas.globals address) _ _ no_global
+    ∙ cond-false (is_within tables_place areas.tables address) (Some (InTables (address - tables_place))) _ no_table
+
+chunk_at-low : (p : Pool) (address : ℕ) → address < first_place → chunk_at p address ≡ None
+chunk_at-low p address low =
+    cond-false _ (Some ((address - first_place) / (4 * p.words))) None
+    (and_left (nat_le first_place address) (nat_lt address (first_place + p.count * (4 * p.words))) (lt-leb first_place address low))
+
+-- from the first chunk on
+pub spot_of-high : (areas : Areas) (address : ℕ) → AreFew areas → first_place ≤ address → spot_of areas address ≡ payload_spot areas.pool address (chunk_at areas.pool address)
+spot_of-high areas address few high =
+    spot_of-chunks areas address (outside globals_place areas.globals address (omega (arith, few.globals))) (outside tables_place areas.tables address (omega (arith, few.tables)))
+
+pub payload_spot-in : (p : Pool) (address chunk : ℕ) → payload_place_of p chunk ≤ address → payload_spot p address (Some chunk) ≡ Some (InPayload chunk (address - place_of p chunk))
+payload_spot-in p address chunk low = cond-true (nat_le (payload_place_of p chunk) address) _ None (le-leb (payload_place_of p chunk) address low)
+
+pub payload_spot-header : (p : Pool) (address chunk : ℕ) → address < payload_place_of p chunk → payload_spot p address (Some chunk) ≡ None
+payload_spot-header p address chunk low = cond-false (nat_le (payload_place_of p chunk) address) (Some (InPayload chunk (address - place_of p chunk))) None (lt-leb (payload_place_of p chunk) address low)
+
+-- below the first chunk
+nothing_low : (areas : Areas) (address : ℕ) → address < first_place → payload_spot areas.pool address (chunk_at areas.pool address) ≡ None
+nothing_low areas address low = ap (payload_spot areas.pool address) (chunk_at-low areas.pool address low)
+
+pub spot_of-in_tables : (areas : Areas) (address : ℕ) → AreFew areas → tables_place ≤ address → address < tables_place + 4 * length areas.tables → spot_of areas address ≡ Some (InTables (address - tables_place))
+unfolding spot_of
+spot_of-in_tables areas address few low high =
+    cond-false (is_within globals_place areas.globals address) _ _ (outside globals_place areas.globals address (omega (arith, few.globals)))
+    ∙ cond-true (is_within tables_place areas.tables address) _ _ (inside tables_place areas.tables address low high)
+
+pub spot_of-past_tables : (areas : Areas) (address : ℕ) → AreFew areas → tables_place + 4 * length areas.tables ≤ address → address < first_place → spot_of areas address ≡ None
+spot_of-past_tables areas address few past low =
+    spot_of-chunks areas address (outside globals_place areas.globals address (omega (arith, few.globals))) (outside tables_place areas.tables address past)
+    ∙ nothing_low areas address low
+
+pub spot_of-in_globals : (areas : Areas) (address : ℕ) → globals_place ≤ address → address < globals_place + 4 * length areas.globals → spot_of areas address ≡ Some (InGlobals (address - globals_place))
+unfolding spot_of
+spot_of-in_globals areas address low high = cond-true (is_within globals_place areas.globals address) _ _ (inside globals_place areas.globals address low high)
+
+pub spot_of-past_globals : (areas : Areas) (address : ℕ) → globals_place + 4 * length areas.globals ≤ address → address < tables_place → spot_of areas address ≡ None
+spot_of-past_globals areas address past low =
+    spot_of-chunks areas address (outside globals_place areas.globals address past) (before tables_place areas.tables address low)
+    ∙ nothing_low areas address (omega arith)
+
+pub spot_of-below : (areas : Areas) (address : ℕ) → address < globals_place → spot_of areas address ≡ None
+spot_of-below areas address low =
+    spot_of-chunks areas address (before globals_place areas.globals address low) (before tables_place areas.tables address (omega arith))
+    ∙ nothing_low areas address (omega arith)

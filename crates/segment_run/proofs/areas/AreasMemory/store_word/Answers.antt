@@ -1,0 +1,47 @@
+use Rattle.std.proofs.Common.{ap, sym, ◌∙◌}
+use Rattle.machine_world.specs.Areas.{Areas, byte_at, is_writable, is_writable_on}
+use Rattle.std.specs.Prelude.{option_map}
+use Rattle.segment_laws.proofs.Spots.{Fit}
+use Rattle.segment_run.specs.Spots.{world_spot}
+use Rattle.segment_run.proofs.SpotWords.{unwritable-word, writable-on, stored-on, written-word}
+use Rattle.segment_run.proofs.areas.AreasMemory.store_word.Goals as goal
+
+pub returns-in-Some-clause-answer : goal.returns-in-Some-clause-answer
+returns-in-Some-clause-answer c =
+    let kept = c.spot.ensures.kept in
+    let fit : Fit c.args.self.now = record { pool = kept.pool; globals = kept.globals; tables = kept.tables; global_words = kept.global_words } in
+    let may = sym c.is_writable.ensures ∙ c.if-is_writable.true in
+    sym (writable-on c.args.self.now c.args.address c.in-Some.spot fit c.requires c.in-Some.ensures.on may)
+
+pub returns-in-Some-clause-whole : goal.returns-in-Some-clause-whole
+returns-in-Some-clause-whole c =
+    let kept = c.spot.ensures.kept in
+    let fit : Fit c.args.self.now = record { pool = kept.pool; globals = kept.globals; tables = kept.tables; global_words = kept.global_words } in
+    let may = sym c.is_writable.ensures ∙ c.if-is_writable.true in
+    c.write_on.ensures ∙ stored-on c.args.self.now c.args.address c.args.word c.in-Some.spot fit c.requires c.in-Some.ensures.on may c.ranges.word.fits
+
+pub returns-in-Some-clause-bytes : goal.returns-in-Some-clause-bytes
+returns-in-Some-clause-bytes c =
+    let kept = c.spot.ensures.kept in
+    let fit : Fit c.args.self.now = record { pool = kept.pool; globals = kept.globals; tables = kept.tables; global_words = kept.global_words } in
+    let may = sym c.is_writable.ensures ∙ c.if-is_writable.true in
+    let whole = c.write_on.ensures ∙ stored-on c.args.self.now c.args.address c.args.word c.in-Some.spot fit c.requires c.in-Some.ensures.on may c.ranges.word.fits in
+    let written = written-word c.args.self.now c.args.address c.args.word kept.pool (writable-on c.args.self.now c.args.address c.in-Some.spot fit c.requires c.in-Some.ensures.on may) c.ranges.word.fits in
+    λ at. ap (λ (areas : Areas). byte_at areas at) whole ∙ written.bytes_are at
+
+pub returns-in-Some-clause-writable : goal.returns-in-Some-clause-writable
+returns-in-Some-clause-writable c =
+    let kept = c.spot.ensures.kept in
+    let fit : Fit c.args.self.now = record { pool = kept.pool; globals = kept.globals; tables = kept.tables; global_words = kept.global_words } in
+    let may = sym c.is_writable.ensures ∙ c.if-is_writable.true in
+    let whole = c.write_on.ensures ∙ stored-on c.args.self.now c.args.address c.args.word c.in-Some.spot fit c.requires c.in-Some.ensures.on may c.ranges.word.fits in
+    let written = written-word c.args.self.now c.args.address c.args.word kept.pool (writable-on c.args.self.now c.args.address c.in-Some.spot fit c.requires c.in-Some.ensures.on may) c.ranges.word.fits in
+    λ at. ap (λ (areas : Areas). is_writable areas at) whole ∙ written.writable at
+
+pub returns-in_default-clause-answer : goal.returns-in_default-clause-answer
+returns-in_default-clause-answer c =
+    unwritable-word c.args.self.now c.args.address (ap is_writable_on (sym c.in-Some.ensures.spot) ∙ sym c.is_writable.ensures ∙ c.if-is_writable.false)
+
+pub returns-in_default-2-clause-answer : goal.returns-in_default-2-clause-answer
+returns-in_default-2-clause-answer c =
+    unwritable-word c.args.self.now c.args.address (ap is_writable_on (sym c.spot.ensures.spot ∙ ap (option_map world_spot) c.in_default.is))

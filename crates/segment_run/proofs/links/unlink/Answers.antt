@@ -1,0 +1,56 @@
+use Rattle.std.proofs.Common.{◌≡◌, ◌-◌, ◌≤◌, refl, sym, ap, subst, ◌∙◌, set}
+use Rattle.cap_word.specs.Runs.{Goes}
+use Rattle.chunk_pool.specs.Pool.{after_give, chunk_at}
+use Rattle.machine_world.specs.Areas.{Areas}
+use Rattle.machine_world.specs.InPlace.{HeadersName, TpIsFront}
+use Rattle.machine_world.specs.Local.{unlinked}
+use Rattle.segment_laws.specs.Ways.{Owns}
+use Rattle.segment_run.specs.Contexts.{chunk_below}
+use Rattle.segment_run.specs.Kept.{areas_of}
+use Rattle.segment_run.specs.Turns.{thread_of}
+use Rattle.segment_run.proofs.Linking.{HasFront, front_of, front_held, unlink_goes, next_found}
+use Rattle.segment_run.proofs.links.unlink.Goals as goal
+
+pub read-tp-requires-clause-id_in_range : goal.read-tp-requires-clause-id_in_range
+read-tp-requires-clause-id_in_range c =
+    let old = areas_of c.areas.inside in
+    let thread = c.args.thread.now in
+    let owns = subst (λ (a : Areas). Owns (thread_of a thread)) (sym c.areas.view_is) c.requires.owns in
+    let front = front_of old thread thread.depth refl (subst (λ (a : Areas). TpIsFront a.pool (thread_of a thread).core (thread_of a thread).core.chain) (sym c.areas.view_is) c.requires.front) in
+    (front_held old thread front.below owns front.depth).0
+
+pub read-sp-requires-clause-id_in_range : goal.read-sp-requires-clause-id_in_range
+read-sp-requires-clause-id_in_range c =
+    let old = areas_of c.areas.inside in
+    let thread = c.args.thread.now in
+    let owns = subst (λ (a : Areas). Owns (thread_of a thread)) (sym c.areas.view_is) c.requires.owns in
+    let front = front_of old thread thread.depth refl (subst (λ (a : Areas). TpIsFront a.pool (thread_of a thread).core (thread_of a thread).core.chain) (sym c.areas.view_is) c.requires.front) in
+    (front_held old thread front.below owns front.depth).0
+
+pub give-requires : goal.give-requires
+give-requires c =
+    let old = areas_of c.areas.inside in
+    let thread = c.args.thread.now in
+    let owns = subst (λ (a : Areas). Owns (thread_of a thread)) (sym c.areas.view_is) c.requires.owns in
+    let front = front_of old thread thread.depth refl (subst (λ (a : Areas). TpIsFront a.pool (thread_of a thread).core (thread_of a thread).core.chain) (sym c.areas.view_is) c.requires.front) in
+    front_held old thread front.below owns front.depth
+
+pub returns : goal.returns
+returns c =
+    let old = areas_of c.areas.inside in
+    let thread = c.args.thread.now in
+    let p = old.pool in
+    let owns = subst (λ (a : Areas). Owns (thread_of a thread)) (sym c.areas.view_is) c.requires.owns in
+    let front : HasFront p thread = front_of old thread thread.depth refl (subst (λ (a : Areas). TpIsFront a.pool (thread_of a thread).core (thread_of a thread).core.chain) (sym c.areas.view_is) c.requires.front) in
+    let names = subst (λ (a : Areas). HeadersName a.pool (thread_of a thread).core.chain) (sym c.areas.view_is) c.requires.headers in
+    let pools : c.give.new.self ≡ after_give p thread.chunk = c.give.ensures.after in
+    let next : 1 ≤ front.below → c.chunk_or-thread.result ≡ chunk_below p thread.chunk = λ more.
+    c.chunk_or-thread.ensures (chunk_below p thread.chunk)
+    ((λ i. chunk_at (pools i) (c.read-tp.ensures.value i)) ∙ next_found old thread c.areas.invariant.pool owns front names more) in
+    ap (λ (a : Areas). unlinked (thread_of a thread)) (sym c.areas.view_is)
+    ∙ unlink_goes old thread c.chunk_or-thread.result c.areas.invariant.pool owns front next
+    ∙ (λ i. Goes (thread_of (record old { pool = sym pools i }) (record {
+      regs = record { pc = sym c.add-thread.ensures i; x = set (set thread.regs.x 4 (sym c.read-tp.ensures.value i)) 2 (sym c.read-sp.ensures.value i) };
+      chunk = c.chunk_or-thread.result;
+      depth = thread.depth - 1;
+    })))

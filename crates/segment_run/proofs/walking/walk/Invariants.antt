@@ -1,0 +1,7 @@
+use Rattle.std.proofs.Common.{◌≡◌, length}
+use Rattle.segment_run.specs.Contexts.{checked_of, core_of}
+use Rattle.segment_run.specs.Walking.{AreWalked}
+use Rattle.segment_run.proofs.walking.walk.Given as goal
+
+abbrev pub invariant-loop-count : goal.invariant-loop-count
+invariant-loop-count l = (length l.sites ≡ 8) × AreWalked (checked_of l.accepted) l.pool (core_of l.pool l.context) l.frame l.sites l.count

@@ -1,0 +1,11 @@
+pub mod Kept
+pub mod Spots
+pub mod Contexts
+pub mod Safe
+pub mod Segments
+pub mod Passing
+pub mod Starting
+pub mod Turns
+pub mod Lookups
+pub mod Sources
+pub mod Walking

@@ -1,0 +1,43 @@
+-- What never comes of a thread of an accepted program, and where it asks.
+use Rattle.std.specs.Prelude.{◌≡◌, ℕ, ◌<◌, List, [], length, Option}
+use Rattle.cap_word.specs.Runs.{Goes, Asks, Stops, moves}
+use Rattle.flat_code.specs.declared.operations.Op.{Op}
+use Rattle.stack_certificate.specs.Certificates.{fact_at, need_of}
+use Rattle.stack_certificate.specs.Templates.{kind_of}
+use Rattle.machine_world.specs.InPlace.{Frame}
+use Rattle.machine_world.specs.Local.{Local, LocalMove, Question, Calls, Starts, Ended, Trapped, NoRoom, Wrong, local_step, local_machine}
+use Rattle.machine_world.specs.Places.{Checked}
+use Rattle.machine_world.specs.Rests.{IsAtCall}
+use Rattle.segment_laws.specs.Ways.{IsGoodState}
+
+-- the thread rests at the ECALL of an operation
+pub record RestsAtCall (c : Checked) (l : Local) (op : Op) : Type 0 where
+  pub function : ℕ
+  pub operation : ℕ
+  pub word : ℕ
+  pub frames : List Frame
+  pub at : IsAtCall c l.areas.pool l.core function operation op word frames
+
+-- it asks where an operation asks: a modelled call, or a spawn of a function, whose entry and need it tells
+abbrev pub AsksAt : Checked → Local → Question → Type 0
+AsksAt c l (Calls call) = (site n : ℕ) × (d : Option ℕ) × (args : List ℕ) × RestsAtCall c l (Op.Model site d n args)
+AsksAt c l (Starts entry argument need) =
+    (site f x : ℕ) × (d : Option ℕ) × (f < length c.flat.functions) × RestsAtCall c l (Op.Spawn site d f x)
+    × (entry ≡ (fact_at c.certificate f).entry) × (need ≡ need_of (kind_of c.certificate (Op.Spawn site d f x)))
+
+-- what holds of its step: it isn't wrong, it asks as said, and it finds no room only where no chunk is free
+abbrev pub IsSafeMove : Checked → Local → LocalMove → Type 0
+IsSafeMove c l (Goes after) = Unit {0}
+IsSafeMove c l (Asks question waiting) = AsksAt c l question
+IsSafeMove c l (Stops (Ended areas)) = Unit {0}
+IsSafeMove c l (Stops (Trapped kind)) = Unit {0}
+IsSafeMove c l (Stops NoRoom) = l.areas.pool.free ≡ []
+IsSafeMove c l (Stops Wrong) = ⊥
+
+pub record IsSafe (c : Checked) (code : List ℕ) (l : Local) : Type 0 where
+  pub good : IsGoodState c code l
+  pub move : IsSafeMove c l (local_step code l)
+
+-- so it is wherever silent steps lead
+pub record StaysSafe (c : Checked) (code : List ℕ) (l : Local) : Type 0 where
+  pub safe : (n : ℕ) (after : Local) → moves (local_machine code) n l ≡ Goes after → IsSafe c code after

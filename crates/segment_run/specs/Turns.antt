@@ -1,0 +1,52 @@
+-- What the code tells of one instruction of a thread.
+use Rattle.std.specs.Prelude.{◌≡◌, ℕ, List, [], ◌∷◌, Bool, true, false, Option}
+use Rattle.cap_word.specs.Calls.{Call, Blocking, Immediate, call_of}
+use Rattle.cap_word.specs.Runs as runs
+use Rattle.cap_word.specs.Runs.{Stops}
+use Rattle.chunk_pool.specs.Pool.{chunk_of}
+use Rattle.machine_world.specs.Areas.{Areas}
+use Rattle.machine_world.specs.Held.{copies_in, size_of}
+use Rattle.machine_world.specs.WellFormed.{AreWellFormed}
+use Rattle.machine_world.specs.Local.{Local, Calls, Ended, Trapped, NoRoom, first_of, linked, local_step}
+use Rattle.machine_world.specs.Places.{Checked}
+use Rattle.segment_run.specs.Contexts.{chain_from}
+use Rattle.segment_run.specs.Segments.{IsAtModel, IsAtAsk}
+use Rattle.segment_run.specs.declared.running.Thread.{Thread}
+use Rattle.segment_run.specs.declared.running.Turn.{Turn}
+use Rattle.segment_run.specs.declared.running.Turn.TheVariants.{Goes, Blocks, Asks, Ends, Traps, NoRoom as NoChunkFree}
+
+abbrev pub thread_of : Areas → Thread → Local
+thread_of areas thread = record {
+  areas = areas;
+  core = record { pc = thread.regs.pc; x = thread.regs.x; chain = chain_from areas.pool thread.chunk thread.depth };
+}
+
+-- the call of the thread package of a number, with what stands in a0 and a1
+abbrev pub call_with : ℕ → ℕ → ℕ → Option Call
+call_with number a b = first_of (call_of number []) (first_of (call_of number (a ∷ [])) (call_of number (a ∷ b ∷ [])))
+
+abbrev pub turn_of : Call → Turn
+turn_of (Blocking block) = Blocks block
+turn_of (Immediate ask) = Asks ask
+
+-- what an instruction came to is the step of the machine world
+abbrev pub IsTurn : Checked → List ℕ → Local → Turn → Local → Type 0
+IsTurn c code before Goes after = local_step code before ≡ runs.Goes after
+IsTurn c code before (Blocks block) after = IsAtModel c code before (Calls (Blocking block)) × (after ≡ before)
+IsTurn c code before (Asks ask) after = IsAtAsk c code before ask × (after ≡ before)
+IsTurn c code before Ends after = (local_step code before ≡ Stops (Ended after.areas)) × (after.core.chain ≡ [])
+IsTurn c code before (Traps kind) after = (local_step code before ≡ Stops (Trapped kind)) × (after ≡ before)
+IsTurn c code before NoChunkFree after = (local_step code before ≡ Stops NoRoom) × (before.areas.pool.free ≡ []) × (after ≡ before)
+
+-- a LINK, where a chunk is free and where none is
+abbrev pub IsLink : Bool → Local → Local → Type 0
+IsLink true before after = linked before ≡ runs.Goes after
+IsLink false before after = (linked before ≡ Stops NoRoom) × (before.areas.pool.free ≡ []) × (after ≡ before)
+
+-- what a thread keeps along its steps, to its end: the form of the areas, its chunks and the free ones together, and the
+-- words of all others
+pub record KeepsCounts (c : Checked) (before after : Local) : Type 0 where
+  pub areas : AreWellFormed c after.areas
+  pub size : size_of after.areas.pool ≡ size_of before.areas.pool
+  pub copies : (chunk : ℕ) → copies_in chunk after ≡ copies_in chunk before
+  pub others : (chunk : ℕ) → copies_in chunk before ≡ 0 → chunk_of after.areas.pool chunk ≡ chunk_of before.areas.pool chunk

@@ -1,0 +1,245 @@
+ghost use Rattle.std.specs.Prelude.{◌≡◌, ◌≤◌, ◌<◌, ◌%◌, length, IfOk, IfSome, Some};
+ghost use Rattle.machine_world.specs.Areas.{byte_at, is_writable, is_writable_on, spot_of, with_byte};
+ghost use Rattle.machine_world.specs.WellFormed.{AreWords};
+ghost use Rattle.rv_machine.specs.WordBytes.{word_with};
+
+use chunk_pool::ChunkPool;
+use rv_machine::Memory;
+use stack_image::Image;
+use std::alloc::{AllocError, Global};
+use std::marker::Model;
+
+// The addresses of the first global word, of the first table word and of the first chunk.
+const GLOBALS: u32 = 0x1000_0000;
+
+const TABLES: u32 = 0x2000_0000;
+
+const CHUNKS: u32 = 0x8000_0000;
+
+// The bytes of a chunk's header.
+const HEADER: u32 = 16;
+
+/// The memory of the threads: the pool of chunks, the global words and the table words, of each at most 65,536.
+///
+/// As memory by bytes, the globals stand from 0x10000000 and the tables from 0x20000000; a chunk's payload stands behind
+/// its header. Tables can't be written. Every other byte, and so every header, is neither readable nor writable.
+#[derive(Drop)]
+pub struct Areas {
+    pub(crate) pool: ChunkPool,
+    pub(crate) globals: Vec<u32>,
+    pub(crate) tables: Vec<u32>,
+}
+
+impl Model for Areas {
+    ghost use Rattle.machine_world.specs.Areas as world;
+    ghost use Rattle.segment_run.specs.Kept.{areas_of, AreKept};
+
+    ghost Value = { world.Areas };
+
+    ghost view = { areas_of };
+
+    ghost invariant = { λ a. AreKept (areas_of a) };
+}
+
+impl Areas {
+    ghost use Rattle.segment_run.specs.Kept.{AreKept};
+
+    /// The areas of that pool and of copies of an image's global and table words. A want of memory drops the pool.
+    pub fn new(alloc: Global, image: &Image, pool: ChunkPool) -> Result<Areas, AllocError>
+        requires globals { length image.now.globals ≤ 65536 }
+        requires tables { length image.now.tables ≤ 65536 }
+        ensures { IfOk result (λ areas. areas ≡ record { pool = pool; globals = image.now.globals; tables = image.now.tables }) }
+    {
+        let globals = copied(alloc, image.globals.as_slice())?;
+        let tables = copied(alloc, image.tables.as_slice())?;
+        Ok(Areas {
+            pool,
+            globals,
+            tables,
+        })
+    }
+
+    /// The pool of chunks.
+    pub fn pool(&self) -> &ChunkPool
+        ensures { result.now ≡ self.now.pool }
+    {
+        &self.pool
+    }
+
+    // What all areas keep.
+    pub(crate) fn are_kept(&self)
+        ensures { AreKept self.now }
+    {
+        let _words = self.globals.len();
+    }
+}
+
+// A copy of these words.
+fn copied(alloc: Global, words: &[u32]) -> Result<Vec<u32>, AllocError>
+    ensures items { IfOk result (λ copy. copy.items ≡ words.now) }
+    ensures words { IfOk result (λ copy. AreWords copy.items) }
+{
+    let mut copy = Vec::with_capacity(alloc, words.len())?;
+    for word in words {
+        copy.push(*word)?;
+    }
+    Ok(copy)
+}
+
+// Where a byte of the map lies: so many bytes from the start of the globals, of the tables, or of a chunk.
+#[derive(Clone, Copy)]
+enum Spot {
+    InGlobals { offset: u32 },
+    InTables { offset: u32 },
+    InPayload { chunk: u32, offset: u32 },
+}
+
+impl Spot {
+    ghost use Rattle.segment_run.specs.Spots.{world_spot};
+
+    // Whether a byte there may be written.
+    fn is_writable(self) -> bool
+        ensures { result ≡ is_writable_on (Some (world_spot self)) }
+    {
+        match self {
+            Spot::InTables { .. } => false,
+            Spot::InGlobals { .. } | Spot::InPayload { .. } => true,
+        }
+    }
+}
+
+impl Areas {
+    ghost use Rattle.std.specs.Prelude.{option_map};
+    ghost use Rattle.segment_run.specs.Kept.{AreKept};
+    ghost use Rattle.segment_run.specs.Spots.{world_spot, IsOn, IsSpotOf, word_on, with_word_on};
+
+    // The spot of an address, if it is on the map.
+    fn spot(&self, address: u32) -> Option<Spot>
+        ensures spot { option_map world_spot result ≡ spot_of self.now address }
+        ensures on { IfSome result (IsOn self.now address) }
+        ensures kept { AreKept self.now }
+    {
+        if address >= CHUNKS {
+            self.payload_spot(address)
+        } else if address >= TABLES {
+            let offset = address - TABLES;
+            if ((offset / 4) as usize) < self.tables.len() {
+                Some(Spot::InTables { offset })
+            } else {
+                None
+            }
+        } else if address >= GLOBALS {
+            let offset = address - GLOBALS;
+            if ((offset / 4) as usize) < self.globals.len() {
+                Some(Spot::InGlobals { offset })
+            } else {
+                None
+            }
+        } else {
+            None
+        }
+    }
+
+    // The spot of an address from the first chunk on.
+    fn payload_spot(&self, address: u32) -> Option<Spot>
+        requires { 0x8000_0000 ≤ address }
+        ensures spot { option_map world_spot result ≡ spot_of self.now address }
+        ensures on { IfSome result (IsOn self.now address) }
+    {
+        match self.pool.chunk_at(address) {
+            None => None,
+            Some(chunk) => {
+                let offset = address - self.pool.place_of(chunk);
+                if offset < HEADER {
+                    None
+                } else {
+                    Some(Spot::InPayload { chunk, offset })
+                }
+            }
+        }
+    }
+
+    // The word at a spot.
+    fn word_on(&self, spot: Spot) -> u32
+        requires { IsSpotOf self.now spot }
+        ensures { result ≡ word_on self.now spot }
+    {
+        match spot {
+            Spot::InGlobals { offset } => self.globals[(offset / 4) as usize],
+            Spot::InTables { offset } => self.tables[(offset / 4) as usize],
+            Spot::InPayload { chunk, offset } => self.pool.read(chunk, offset / 4),
+        }
+    }
+
+    // Writes the word at a spot.
+    fn write_on(&mut self, spot: Spot, value: u32)
+        requires { IsSpotOf self.old spot }
+        ensures { self.new ≡ with_word_on self.old spot value }
+    {
+        match spot {
+            Spot::InGlobals { offset } => self.globals[(offset / 4) as usize] = value,
+            Spot::InTables { offset } => self.tables[(offset / 4) as usize] = value,
+            Spot::InPayload { chunk, offset } => self.pool.write(chunk, offset / 4, value),
+        }
+    }
+}
+
+// The word with that byte in the place k of its four bytes.
+fn put_byte(word: u32, k: u32, byte: u8) -> u32
+    requires { k < 4 }
+    ensures { result ≡ word_with word k byte }
+{
+    let scale = 1u32 << (8 * k);
+    let old = word / scale % 256;
+    word - old * scale + u32::from(byte) * scale
+}
+
+impl Memory for Areas {
+    ghost byte_at = { byte_at };
+
+    ghost is_writable = { is_writable };
+
+    ghost with_byte = { with_byte };
+
+    fn load(&self, address: u32) -> Option<u8> {
+        match self.spot(address) {
+            Some(spot) => Some((self.word_on(spot) >> (8 * (address % 4)) & 0xff) as u8),
+            None => None,
+        }
+    }
+
+    fn can_store(&self, address: u32) -> bool {
+        match self.spot(address) {
+            Some(spot) => spot.is_writable(),
+            None => false,
+        }
+    }
+
+    fn store(&mut self, address: u32, byte: u8) -> bool {
+        match self.spot(address) {
+            Some(spot) if spot.is_writable() => {
+                let word = put_byte(self.word_on(spot), address % 4, byte);
+                self.write_on(spot, word);
+                true
+            }
+            _ => false,
+        }
+    }
+
+    fn load_word(&self, address: u32) -> Option<u32> {
+        match self.spot(address) {
+            Some(spot) => Some(self.word_on(spot)),
+            None => None,
+        }
+    }
+
+    fn store_word(&mut self, address: u32, word: u32) -> bool {
+        match self.spot(address) {
+            Some(spot) if spot.is_writable() => {
+                self.write_on(spot, word);
+                true
+            }
+            _ => false,
+        }
+    }
+}

@@ -1,0 +1,141 @@
+ghost use Rattle.std.specs.Prelude.{◌≡◌, ◌≤◌, ◌^◌, ◌⊎◌, length, option_map};
+ghost use Rattle.machine_world.specs.Local.{system_call, local_step, trapped, Trapped};
+ghost use Rattle.cap_word.specs.Runs.{Stops};
+ghost use Rattle.certificate_rules.specs.Validity.{IsValid};
+ghost use Rattle.segment_laws.specs.Ways.{HasForm};
+ghost use Rattle.segment_run.specs.Contexts.{checked_of, code_of};
+ghost use Rattle.segment_run.specs.Safe.{IsSafe};
+ghost use Rattle.segment_run.specs.Turns.{thread_of, turn_of, call_with, IsTurn};
+
+use crate::areas::Areas;
+use crate::links::{end, link, unlink};
+use crate::lookups::function_with_entry;
+use cap_word::{Ask, Block, TrapKind};
+use certificate_check::Accepted;
+use rv_machine::{Regs, StepResult, step};
+
+// A thread that runs: its registers, the innermost of its chunks and how many it holds.
+#[derive(Clone, Copy)]
+pub(crate) struct Thread {
+    pub(crate) regs: Regs,
+    pub(crate) chunk: u32,
+    pub(crate) depth: u32,
+}
+
+// What one instruction of a thread comes to.
+#[derive(Clone, Copy)]
+pub(crate) enum Turn {
+    Goes,
+    Blocks { block: Block },
+    Asks { ask: Ask },
+    Ends,
+    Traps { kind: TrapKind },
+    NoRoom,
+}
+
+// One instruction of a thread that never comes to a fault.
+pub(crate) fn do_instruction(accepted: &Accepted, areas: &mut Areas, thread: &mut Thread) -> Turn
+    requires valid { IsValid (checked_of accepted.now).flat accepted.now.image accepted.now.certificate }
+    requires few { length accepted.now.certificate.functions ≤ 2 ^ 32 }
+    requires form { HasForm (checked_of accepted.now) (thread_of areas.old thread.old) }
+    requires safe { IsSafe (checked_of accepted.now) (code_of accepted.now) (thread_of areas.old thread.old) }
+    ensures { IsTurn (checked_of accepted.now) (code_of accepted.now) (thread_of areas.old thread.old) result (thread_of areas.new thread.new) }
+{
+    match step(accepted.image(), areas, &mut thread.regs) {
+        StepResult::Went => Turn::Goes,
+        StepResult::Call { number } => call(accepted, areas, thread, number),
+        StepResult::Fault { .. } => unreachable!(),
+    }
+}
+
+// The call of a number, at an ECALL.
+fn call(accepted: &Accepted, areas: &mut Areas, thread: &mut Thread, number: u32) -> Turn
+    requires valid { IsValid (checked_of accepted.now).flat accepted.now.image accepted.now.certificate }
+    requires few { length accepted.now.certificate.functions ≤ 2 ^ 32 }
+    requires form { HasForm (checked_of accepted.now) (thread_of areas.old thread.old) }
+    requires safe { IsSafe (checked_of accepted.now) (code_of accepted.now) (thread_of areas.old thread.old) }
+    requires calls { local_step (code_of accepted.now) (thread_of areas.old thread.old) ≡ system_call (thread_of areas.old thread.old) number }
+    ensures { IsTurn (checked_of accepted.now) (code_of accepted.now) (thread_of areas.old thread.old) result (thread_of areas.new thread.new) }
+{
+    match number {
+        1 => {
+            if link(areas, thread) {
+                Turn::Goes
+            } else {
+                Turn::NoRoom
+            }
+        }
+        2 => {
+            unlink(areas, thread);
+            Turn::Goes
+        }
+        4 => Turn::Asks {
+            ask: Ask::Spawn {
+                function: function_with_entry(accepted, thread.regs.x[10]),
+                argument: thread.regs.x[11],
+            },
+        },
+        30 => {
+            end(areas, thread);
+            Turn::Ends
+        }
+        31 => Turn::Traps {
+            kind: trap_kind(thread.regs.x[10]),
+        },
+        _ => match package_call(number, thread.regs.x[10], thread.regs.x[11]) {
+            Some(turn) => turn,
+            None => unreachable!(),
+        },
+    }
+}
+
+// A call of the thread package but SPAWN, by its number, with what stands in a0 and a1.
+fn package_call(number: u32, a: u32, b: u32) -> Option<Turn>
+    ensures { result ≡ option_map turn_of (call_with number a b) }
+{
+    match number {
+        3 => Some(Turn::Asks {
+            ask: Ask::Put { value: a },
+        }),
+        5 => Some(Turn::Asks {
+            ask: Ask::Give {
+                resource: a,
+                amount: b,
+            },
+        }),
+        6 => Some(Turn::Asks {
+            ask: Ask::SelfNumber,
+        }),
+        16 => Some(Turn::Blocks {
+            block: Block::Accept,
+        }),
+        17 => Some(Turn::Blocks {
+            block: Block::Wait { channel: a },
+        }),
+        18 => Some(Turn::Blocks {
+            block: Block::Sleep { ticks: a },
+        }),
+        19 => Some(Turn::Blocks {
+            block: Block::Yield,
+        }),
+        20 => Some(Turn::Blocks {
+            block: Block::Take {
+                resource: a,
+                amount: b,
+            },
+        }),
+        _ => None,
+    }
+}
+
+// The kind of a trap by its number.
+fn trap_kind(number: u32) -> TrapKind
+    requires { (number ≡ 1) ⊎ (number ≡ 2) }
+    ensures { trapped number ≡ Stops (Trapped result) }
+{
+    if number == 1 {
+        TrapKind::Index
+    } else {
+        TrapKind::Table
+    }
+}

@@ -1,0 +1,119 @@
+ghost use Rattle.std.specs.Prelude.{◌≡◌, ℕ, ◌^◌, ◌≤◌, List, length};
+ghost use Rattle.certificate_check.specs.Accepting.{accepted_tree};
+ghost use Rattle.certificate_rules.specs.Validity.{IsValid};
+ghost use Rattle.flat_code.specs.WellFormed.{IsWellFormed};
+ghost use Rattle.machine_world.specs.StandsFor.{SourceThread, StandsForThread, going_on};
+ghost use Rattle.rv_machine.specs.Registers.{read};
+ghost use Rattle.segment_run.specs.Contexts.{checked_of, code_of, local_of, AreOf, IsReady};
+ghost use Rattle.segment_laws.specs.Ways.{HasForm};
+ghost use Rattle.segment_run.specs.Safe.{StaysSafe};
+ghost use Rattle.segment_run.specs.Segments.{IsSegment, KeepsChunks};
+ghost use Rattle.segment_run.specs.Turns.{thread_of, KeepsCounts};
+ghost use Rattle.segment_run.specs.Sources.{IsSourceAnswer};
+
+use crate::areas::Areas;
+use crate::contexts::{Context, Fuel, are_registers};
+use crate::running::{Thread, Turn, do_instruction};
+use cap_word::{Ask, Block, TrapKind};
+use certificate_check::Accepted;
+use rv_machine::Regs;
+
+/// How far a segment came.
+#[derive(Clone, Copy, Debug, PartialEq, Eq)]
+pub enum Segment {
+    /// The thread stands at the ECALL of a call that blocks.
+    Blocks { block: Block },
+    /// It stands at the ECALL of a call that is answered at once.
+    Asks { ask: Ask },
+    /// It has ended, and its last chunk is given back.
+    Ends,
+    /// It stands at a trap of the source: an index of an array or of a table that is out of range.
+    Traps { kind: TrapKind },
+    /// It needs a chunk and none is free.
+    NoChunk,
+    /// An instruction is still to do, and no fuel is left.
+    OutOfFuel,
+}
+
+/// Runs a thread that rests and doesn't stand at an ECALL, until it stands at one of a call of the thread package, has
+/// ended, or can't go on.
+pub fn run_segment(
+    accepted: &Accepted,
+    areas: &mut Areas,
+    context: &mut Context,
+    fuel: &mut Fuel,
+) -> Segment
+    requires areas { AreOf accepted.now areas.old }
+    requires ready { IsReady (checked_of accepted.now) (code_of accepted.now) (local_of areas.old context.old) }
+
+    // The thread makes the machine's steps, from good state to good state, up to the answer, and the fuel falls by those
+    // that retire.
+    ensures machine { IsSegment (checked_of accepted.now) (code_of accepted.now) result (local_of areas.old context.old) fuel.old.left (local_of areas.new context.new) fuel.new.left }
+    ensures chunks { KeepsChunks (local_of areas.old context.old) (local_of areas.new context.new) }
+    ensures areas { AreOf accepted.now areas.new }
+
+    // For every source thread and globals that it stood for, the answer is that thread's next call or stop.
+    ensures source { (thread : SourceThread) (globals : List (List ℕ)) →
+        StandsForThread (checked_of accepted.now) (accepted_tree accepted.now) (local_of areas.old context.old) thread globals →
+        IsSourceAnswer (checked_of accepted.now) (accepted_tree accepted.now) (going_on thread (read context.old.x 10) globals) result (local_of areas.new context.new) }
+{
+    areas.are_kept();
+    are_sound(accepted);
+    are_registers(context);
+    let mut thread = Thread {
+        regs: Regs {
+            pc: context.pc,
+            x: context.x,
+        },
+        chunk: context.chunk,
+        depth: context.depth,
+    };
+    let segment = run_thread(accepted, areas, &mut thread, fuel);
+    *context = Context {
+        pc: thread.regs.pc,
+        x: thread.regs.x,
+        chunk: thread.chunk,
+        depth: thread.depth,
+    };
+    segment
+}
+
+// What holds of each accepted program.
+pub(crate) fn are_sound(accepted: &Accepted)
+    ensures valid { IsValid (checked_of accepted.now).flat accepted.now.image accepted.now.certificate }
+    ensures formed { IsWellFormed (checked_of accepted.now).flat }
+    ensures few { length accepted.now.certificate.functions ≤ 2 ^ 32 }
+{
+    let _image = accepted.image();
+}
+
+// The same, of a thread whose registers stand together.
+fn run_thread(
+    accepted: &Accepted,
+    areas: &mut Areas,
+    thread: &mut Thread,
+    fuel: &mut Fuel,
+) -> Segment
+    requires valid { IsValid (checked_of accepted.now).flat accepted.now.image accepted.now.certificate }
+    requires formed { IsWellFormed (checked_of accepted.now).flat }
+    requires few { length accepted.now.certificate.functions ≤ 2 ^ 32 }
+    requires form { HasForm (checked_of accepted.now) (thread_of areas.old thread.old) }
+    requires safe { StaysSafe (checked_of accepted.now) (code_of accepted.now) (thread_of areas.old thread.old) }
+    ensures machine { IsSegment (checked_of accepted.now) (code_of accepted.now) result (thread_of areas.old thread.old) fuel.old.left (thread_of areas.new thread.new) fuel.new.left }
+    ensures counts { KeepsCounts (checked_of accepted.now) (thread_of areas.old thread.old) (thread_of areas.new thread.new) }
+{
+    while fuel.left > 0 {
+        match do_instruction(accepted, areas, thread) {
+            Turn::Goes => fuel.left -= 1,
+            Turn::Ends => {
+                fuel.left -= 1;
+                return Segment::Ends;
+            }
+            Turn::Blocks { block } => return Segment::Blocks { block },
+            Turn::Asks { ask } => return Segment::Asks { ask },
+            Turn::Traps { kind } => return Segment::Traps { kind },
+            Turn::NoRoom => return Segment::NoChunk,
+        }
+    }
+    Segment::OutOfFuel
+}

@@ -1,0 +1,15 @@
+ghost use Rattle.std.specs.Prelude.{◌≡◌, ◌%◌, ◌≤◌, length};
+
+use certificate_check::Accepted;
+
+/// The laws of the sizes of an accepted program's areas: so many words of globals and of tables as `Areas` takes, and chunks
+/// as a pool may have. It does nothing.
+pub fn sizes_law(accepted: &Accepted)
+    ensures globals { length accepted.now.image.globals ≤ 65536 }
+    ensures tables { length accepted.now.image.tables ≤ 65536 }
+    ensures aligned { accepted.now.certificate.chunk % 16 ≡ 0 }
+    ensures least { 64 ≤ accepted.now.certificate.chunk }
+    ensures most { accepted.now.certificate.chunk ≤ 65536 }
+{
+    let _image = accepted.image();
+}

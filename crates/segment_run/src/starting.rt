@@ -1,0 +1,63 @@
+ghost use Rattle.std.specs.Prelude.{◌≡◌, ℕ, ◌<◌, ◌≤◌, ◌↔◌, List, [], length, IsNone, IfSome};
+ghost use Rattle.c_mean.specs.Frames.{pushed, function_at};
+ghost use Rattle.certificate_check.specs.Accepting.{accepted_tree};
+ghost use Rattle.chunk_pool.specs.Pool.{taken_for, payload_bytes_of};
+ghost use Rattle.machine_world.specs.Globals.{AreGlobals};
+ghost use Rattle.machine_world.specs.StandsFor.{Starts, StandsForThread};
+ghost use Rattle.stack_certificate.specs.Certificates.{fact_at};
+ghost use Rattle.segment_run.specs.Contexts.{checked_of, code_of, local_of, AreOf, IsReady};
+ghost use Rattle.segment_run.specs.Starting.{IsStarted, first_arguments};
+
+use crate::areas::Areas;
+use crate::contexts::Context;
+use crate::lookups::fact_of;
+use certificate_check::Accepted;
+
+// The address to which the last frame of a thread returns.
+const END_STUB: u32 = 0x1000;
+
+// The bytes of a chunk's header.
+const HEADER: u32 = 16;
+
+/// A new thread at the start of a function, with an argument in a0, on the first free chunk; None exactly where no chunk is
+/// free, and then nothing changes.
+pub fn start(
+    accepted: &Accepted,
+    areas: &mut Areas,
+    function: u32,
+    argument: u32,
+) -> Option<Context>
+    requires areas { AreOf accepted.now areas.old }
+    requires function { function < length accepted.now.certificate.functions }
+    ensures none { IsNone result ↔ (areas.old.pool.free ≡ []) }
+
+    // It is the machine's start of a thread, on a chunk for any need that a chunk's payload has.
+    ensures machine { (need : ℕ) → need ≤ payload_bytes_of areas.old.pool 0 →
+        IsStarted (taken_for areas.old.pool need) (fact_at accepted.now.certificate function).entry argument result areas.old areas.new }
+    ensures areas { AreOf accepted.now areas.new }
+    ensures ready { IfSome result (λ context. IsReady (checked_of accepted.now) (code_of accepted.now) (local_of areas.new context)) }
+
+    // It stands for the new source thread, at its function's start.
+    ensures source { IfSome result (λ context. (globals : List (List ℕ)) → AreGlobals (checked_of accepted.now).flat globals areas.new.globals →
+        StandsForThread (checked_of accepted.now) (accepted_tree accepted.now) (local_of areas.new context)
+        (Starts (pushed (accepted_tree accepted.now) function (first_arguments (function_at (accepted_tree accepted.now) function).params argument)) []) globals) }
+{
+    // What the image's call tells: the pair is valid.
+    let _image = accepted.image();
+    let entry = fact_of(accepted.certificate(), function).entry;
+    let chunk = areas.pool.take()?;
+    areas.pool.write(chunk, 0, 0);
+    areas.pool.write(chunk, 1, 0);
+    let place = areas.pool.place_of(chunk);
+    let mut x = [0; 32];
+    x[1] = END_STUB;
+    x[2] = place + areas.pool.bytes_of(chunk);
+    x[4] = place + HEADER;
+    x[10] = argument;
+    Some(Context {
+        pc: entry,
+        x,
+        chunk,
+        depth: 1,
+    })
+}
