@@ -1,0 +1,4 @@
+pub mod TellingLaws
+pub mod AllLaws
+pub mod OutsideLaws
+pub mod MakingLaws

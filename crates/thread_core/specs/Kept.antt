@@ -1,0 +1,60 @@
+-- What every world keeps: its records, counts and waits agree, and the machine world is well formed. Between segments each
+-- thread rests as it does there, and within one a segment of the source is under way beside its own.
+use Rattle.std.specs.Prelude.{◌≡◌, ℕ, ◌+◌, ◌-◌, ◌<◌, ◌≤◌, ◌^◌, length, Option, Some, None, IsSome}
+use Rattle.slab.specs.Slab.{get}
+use Rattle.cap_word.specs.declared.threads.ThreadId.{ThreadId}
+use Rattle.certificate_check.specs.Acceptance.{Acceptance}
+use Rattle.certificate_check.specs.Accepting.{accepted_tree}
+use Rattle.machine_world.specs.WellFormed.{IsWellFormed}
+use Rattle.segment_run.specs.Contexts.{checked_of, AreOf}
+use Rattle.thread_waits.specs.Waiting.{wait_at}
+use Rattle.threads_by_number.specs.Found.{IsNumbered}
+use Rattle.world_runs.specs.Running.{IsRunning}
+use Rattle.world_source.specs.UnderWay.{IsSettled}
+use Rattle.thread_core.specs.Waiting.{IsUntrapped}
+use Rattle.thread_core.specs.States.{number_of, threads_of, setting_of, machine_of}
+use Rattle.thread_core.specs.declared.records.Record.{Record}
+use Rattle.thread_core.specs.declared.state.State.{State}
+use Rattle.thread_core.specs.declared.world.World.TheInside.{Inside}
+
+-- the segment under way is that of the thread whose record stands at a place
+abbrev pub RunsAt : Option ThreadId → ℕ → Type 0
+RunsAt None place = ⊥
+RunsAt (Some thread) place = thread.slot ≡ place
+
+-- nobody waits where there is no record, nor the thread that runs, and every other thread waits
+pub record AreAligned (st : State) : Type 0 where
+  pub vacant : (place : ℕ) → get st.records place ≡ None → wait_at st.waits place ≡ None
+  pub runs : (place : ℕ) → RunsAt st.running place → wait_at st.waits place ≡ None
+  pub waits : (place : ℕ) (r : Record) → get st.records place ≡ Some r → ¬ RunsAt st.running place → IsSome (wait_at st.waits place)
+  pub there : (place : ℕ) (r : Record) → get st.records place ≡ Some r → place < length st.waits.places
+  pub named : (place : ℕ) (r : Record) → get st.records place ≡ Some r → place < 2 ^ 32
+  pub untrapped : (place : ℕ) → IsUntrapped st.exchange (wait_at st.waits place)
+
+-- the thread that runs has a record at its place
+abbrev pub IsRunningThere : State → Option ThreadId → Type 0
+IsRunningThere st None = Unit {0}
+IsRunningThere st (Some thread) = (r : Record) × (get st.records thread.slot ≡ Some r) × (r.number ≡ thread.number)
+
+pub record IsKept (accepted : Acceptance) (most : ℕ) (st : State) : Type 0 where
+  pub areas : AreOf accepted st.areas
+  pub numbered : IsNumbered number_of st.records.slots st.next
+  pub aligned : AreAligned st
+  pub live : st.live ≡ length (threads_of st)
+  pub fuel : st.fuel.left ≤ most
+  pub begun : st.begun ≤ most - st.fuel.left
+  pub clock : st.waits.clock ≤ 2 ^ 63 + (most - st.fuel.left)
+  pub formed : IsWellFormed (checked_of accepted) (setting_of accepted most st) (machine_of most st)
+  pub running : IsRunningThere st st.running
+
+-- how far the run has come
+abbrev pub HasCome : Acceptance → ℕ → State → Option ThreadId → Type 0
+HasCome accepted most st None = IsSettled (checked_of accepted) (machine_of most st)
+HasCome accepted most st (Some thread) = IsRunning (checked_of accepted) (accepted_tree accepted) (setting_of accepted most st) (machine_of most st)
+
+pub record IsKeptIn (w : Inside) : Type 0 where
+  pub chunks : w.chunks ≡ w.state.areas.pool.count
+  pub state : IsKept w.accepted w.most w.state
+  pub come : HasCome w.accepted w.most w.state w.state.running
+  -- a run that has stopped had a segment under way
+  pub stopped : IsSome w.state.stopped → IsSome w.state.running

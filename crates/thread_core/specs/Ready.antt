@@ -1,0 +1,66 @@
+-- Which threads of a world are ready to be chosen: those that haven't run yet, and those that are blocked and may go on. The
+-- thread whose segment is under way is not.
+use Rattle.std.specs.Prelude.{◌≡◌, ℕ, ◌≤◌, ◌&&◌, Bool, false, not, map, All, Contains, Option, Some, None, if◌then◌else◌, nat_eq, slice_index_or}
+use Rattle.std.specs.List.{list_any}
+use Rattle.cap_word.specs.declared.threads.ThreadId.{ThreadId}
+use Rattle.c_mean.specs.ModelledCalls.{wakes_at}
+use Rattle.machine_world.specs.Runs.{may_run}
+use Rattle.machine_world.specs.Threads.{Blocked, Thread, World, Setting, thread_of}
+use Rattle.thread_waits.specs.Waiting.{is_at_accept_block, if_later}
+use Rattle.thread_core.specs.Worlds.{Held}
+
+-- the segment under way is that of this thread
+abbrev pub runs_now : Option ℕ → ℕ → Bool
+runs_now None number = false
+runs_now (Some running) number = nat_eq running number
+
+abbrev pub is_ready_thread : Setting → World → Thread → Bool
+is_ready_thread s w thread = if runs_now w.running thread.number then false else may_run s w thread.blocked
+
+abbrev pub is_at_accept_blocked : Option Blocked → Bool
+is_at_accept_blocked None = false
+is_at_accept_blocked (Some blocked) = is_at_accept_block blocked.block
+
+abbrev pub is_at_accept_thread : Thread → Bool
+is_at_accept_thread thread = is_at_accept_blocked thread.blocked
+
+-- ---- one thread, by its place and number
+
+abbrev pub passes : (Thread → Bool) → Option Thread → Bool
+passes test None = false
+passes test (Some thread) = test thread
+
+abbrev pub is_same_number : Option ℕ → ℕ → Bool
+is_same_number None number = false
+is_same_number (Some other) number = nat_eq other number
+
+-- the thread lives and passes the test
+abbrev pub passes_at : (Thread → Bool) → Held → ThreadId → Bool
+passes_at test held thread =
+    if is_same_number (slice_index_or held.places thread.slot None) thread.number then passes test (thread_of held.machine thread.number) else false
+
+abbrev pub is_ready_in : Held → ThreadId → Bool
+is_ready_in held thread = passes_at (is_ready_thread held.setting held.machine) held thread
+
+abbrev pub is_at_accept_in : Held → ThreadId → Bool
+is_at_accept_in held thread = passes_at is_at_accept_thread held thread
+
+-- ---- all threads
+
+abbrev pub any_ready_in : Held → Bool
+any_ready_in held = list_any (is_ready_thread held.setting held.machine) held.machine.threads
+
+abbrev pub any_elsewhere_in : Held → Bool
+any_elsewhere_in held = list_any (λ thread. is_ready_thread held.setting held.machine thread && not (is_at_accept_thread thread)) held.machine.threads
+
+-- when a thread that sleeps wakes, if the time is still to come
+abbrev pub later_wake : ℕ → Option Blocked → Option ℕ
+later_wake clock None = None
+later_wake clock (Some blocked) = if_later clock (wakes_at blocked.since blocked.block)
+
+-- the earliest time at which a sleeper wakes that isn't ready, if there is one
+abbrev pub IsWake : World → Option ℕ → Type 0
+IsWake w None = All (λ thread. later_wake w.clock thread.blocked ≡ None) w.threads
+IsWake w (Some time) =
+    Contains (map (λ thread. later_wake w.clock thread.blocked) w.threads) (Some time)
+    × ((other : ℕ) → Contains (map (λ thread. later_wake w.clock thread.blocked) w.threads) (Some other) → time ≤ other)

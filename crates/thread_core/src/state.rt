@@ -1,0 +1,70 @@
+ghost use Rattle.std.specs.Prelude.{◌≡◌};
+
+use crate::records::Record;
+use crate::turns::Turn;
+use cap_word::{Block, ThreadId};
+use segment_run::{Areas, Fuel};
+use slab::Slab;
+use std::alloc::Global;
+use thread_exchange::Exchange;
+use thread_waits::{Wait, Waits};
+
+/// What moves in a world.
+#[derive(Drop)]
+pub struct State {
+    pub alloc: Global,
+    pub areas: Areas,
+    pub exchange: Exchange,
+    pub waits: Waits,
+    pub records: Slab<Record>,
+    pub live: u32,
+    pub next: u32,
+    pub fuel: Fuel,
+    pub running: Option<ThreadId>,
+    pub begun: u64,
+    pub stopped: Option<Turn>,
+}
+
+impl State {
+    ghost use Rattle.thread_core.specs.Waiting.{waits_for_in, IsUntrapped};
+    ghost use Rattle.thread_waits.specs.Waiting.{is_ready_in, is_at_accept};
+
+    /// What a live thread waits for, where it isn't the one that runs.
+    pub(crate) fn waits_for(&self, thread: ThreadId) -> Option<Wait>
+        ensures { result ≡ waits_for_in self.now thread }
+    {
+        let record = self.records.get(thread.slot as usize)?;
+        if record.number != thread.number {
+            return None;
+        }
+        self.waits.at(thread.slot as usize)
+    }
+
+    /// Whether a live thread is ready.
+    pub(crate) fn is_ready(&self, thread: ThreadId) -> bool
+        requires { IsUntrapped self.now.exchange (waits_for_in self.now thread) }
+        ensures { result ≡ is_ready_in self.now.exchange.caps self.now.exchange.exchange self.now.waits.clock (waits_for_in self.now thread) }
+    {
+        match self.waits_for(thread) {
+            None => false,
+            Some(Wait::Fresh) => true,
+            Some(Wait::At { block, since }) => {
+                self.exchange.is_ready(block, since, self.waits.clock())
+            }
+        }
+    }
+
+    /// Whether a live thread is blocked at `accept`.
+    pub(crate) fn at_accept(&self, thread: ThreadId) -> bool
+        ensures { result ≡ is_at_accept (waits_for_in self.now thread) }
+    {
+        match self.waits_for(thread) {
+            None | Some(Wait::Fresh) => false,
+            Some(Wait::At { block, .. }) => match block {
+                Block::Accept => true,
+                Block::Wait { .. } | Block::Sleep { .. } | Block::Yield | Block::Take { .. } =>
+                    false,
+            },
+        }
+    }
+}

@@ -1,0 +1,113 @@
+ghost use Rattle.std.specs.Prelude.{◌≡◌, ◌<◌, ◌≤◌, length};
+ghost use Rattle.chunk_pool.specs.Pool.{word_of};
+ghost use Rattle.thread_core.specs.Ready.{is_ready_in, is_at_accept_in, any_ready_in, any_elsewhere_in, IsWake};
+ghost use Rattle.thread_core.specs.Worlds.{used_in, cap_in};
+
+use crate::world::World;
+use cap_word::{Ready, ThreadId};
+use certificate_check::Accepted;
+
+impl Ready for World {
+    ghost is_ready = { is_ready_in };
+
+    ghost at_accept = { is_at_accept_in };
+
+    ghost any_elsewhere = { any_elsewhere_in };
+
+    fn is_ready(&self, thread: ThreadId) -> bool {
+        self.state.is_ready(thread)
+    }
+
+    fn at_accept(&self, thread: ThreadId) -> bool {
+        self.state.at_accept(thread)
+    }
+
+    fn any_elsewhere(&self) -> bool {
+        self.state.waits.any_elsewhere(&self.state.exchange)
+    }
+}
+
+impl World {
+    /// Tells whether some thread is ready.
+    pub fn any_ready(&self) -> bool
+        ensures { result ≡ any_ready_in self.now }
+    {
+        self.state.waits.any_ready(&self.state.exchange)
+    }
+
+    /// The clock.
+    pub fn clock(&self) -> u64
+        ensures { result ≡ self.now.machine.clock }
+    {
+        self.state.waits.clock()
+    }
+
+    /// The earliest time at which a sleeper wakes that isn't ready, or None where there is none.
+    pub fn wake(&self) -> Option<u64>
+        ensures { IsWake self.now.machine result }
+    {
+        self.state.waits.wake()
+    }
+
+    /// How many threads live.
+    pub fn live(&self) -> u32
+        ensures { result ≡ length self.now.machine.threads }
+    {
+        self.state.live
+    }
+
+    /// How many chunks are free.
+    pub fn free(&self) -> u32
+        ensures { result ≡ length self.now.machine.areas.pool.free }
+    {
+        self.state.areas.pool().free()
+    }
+
+    /// The use of a resource; of resource 0 it is the number of held chunks.
+    pub fn used(&self, resource: u32) -> u32
+        requires { resource < 8 }
+        ensures use_is { result ≡ used_in self.now.machine resource }
+        ensures within { result ≤ cap_in self.now resource }
+    {
+        if resource == 0 {
+            self.chunks - self.state.areas.pool().free()
+        } else {
+            self.state.exchange.used(resource)
+        }
+    }
+
+    /// The cap of a resource, 0 where it isn't given; of resource 0 it is the number of chunks.
+    pub fn cap(&self, resource: u32) -> u32
+        requires { resource < 8 }
+        ensures { result ≡ cap_in self.now resource }
+    {
+        if resource == 0 {
+            self.chunks
+        } else {
+            self.state.exchange.cap(resource)
+        }
+    }
+
+    /// How many instructions have retired.
+    pub fn cost(&self) -> u64
+        ensures { result ≡ self.now.machine.cost }
+    {
+        self.most - self.state.fuel.left
+    }
+
+    /// The program with its image and certificate, as `make` was given them.
+    pub fn accepted(&self) -> &Accepted
+        ensures { result.now ≡ self.now.accepted }
+    {
+        &self.accepted
+    }
+
+    /// A word of a chunk.
+    pub fn word_at(&self, chunk: u32, word: u32) -> u32
+        requires chunk { chunk < self.now.machine.areas.pool.count }
+        requires word { word < self.now.machine.areas.pool.words }
+        ensures { result ≡ word_of self.now.machine.areas.pool chunk word }
+    {
+        self.state.areas.pool().read(chunk, word)
+    }
+}
