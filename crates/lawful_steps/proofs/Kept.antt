@@ -51,7 +51,7 @@ module _ (w after : World) (numbered : IsNumbered w) (after_numbered : IsNumbere
   each_kept (x ∷ waiting) all apart =
       (one_kept x all.0 (λ e. (apart x.thread e).0 refl), each_kept waiting all.1 (λ number e. (apart number e).1))
 
-  all_kept : (waiting : List Waiter) → AreWaiting w waiting → AllByRecursion (IsWaiting after) waiting
+  pub all_kept : (waiting : List Waiter) → AreWaiting w waiting → AllByRecursion (IsWaiting after) waiting
   all_kept waiting are = each_kept waiting are.each (λ number e. differ_all waiting number (are.running number e))
 
   -- a thread that lives after, and isn't new or the running one, waits

@@ -1,7 +1,7 @@
 -- How a segment goes on: steps without an entry, and each entry.
 use Rattle.std.proofs.Common.{◌≡◌, ◌≢◌, ℕ, zero, suc, ◌+◌, ◌-◌, ◌<◌, ◌≤◌, List, [], ◌∷◌, ◌++◌, length, map, Option, Some, None, refl, sym, ap, ◌∙◌, arith, subst, append_assoc, append-nil, true, false}
 use Rattle.std.specs.Prelude.{IsSome, slice_get}
-use Rattle.std.specs.List.{range_with_len}
+use Rattle.std.specs.List.{AllByRecursion, range_with_len}
 use Rattle.std.proofs.lemmas.List.FromFn.{map-range_with_len_more}
 use Rattle.blocking_graph.specs.Nodes.{keys_with, node_number}
 use Rattle.cap_word.specs.Word.{signed}
@@ -22,10 +22,10 @@ use Rattle.machine_world.specs.Threads.{Blocked, Thread, World, Setting, Move, G
 use Rattle.machine_world.specs.WellFormed.{IsWellFormed, KeepsWellFormed}
 use Rattle.machine_world.proofs.FormWorlds.{KeepsWellFormed-step}
 use Rattle.machine_world.proofs.OtherThreads.{KeepsThread-step}
-use Rattle.lawful_steps.specs.Waiting.{AreWaiting}
+use Rattle.lawful_steps.specs.Waiting.{AreWaiting, IsWaiting}
 use Rattle.lawful_steps.specs.Within.{IsWithin, newcomers_to}
 use Rattle.lawful_steps.proofs.Counts.{Counts, Retires, StartsOne, IsOver, counts_step}
-use Rattle.lawful_steps.proofs.Kept.{waiting_on, waiting_started, waiting_blocked, waiting_ended}
+use Rattle.lawful_steps.proofs.Kept.{all_kept, waiting_on, waiting_started, waiting_blocked, waiting_ended}
 use Rattle.lawful_steps.proofs.Own.{found_below, LeavesOwn, StandsFresh, StandsBlocked, IsBlockedSince, own_step}
 
 -- ---- one more step without an entry
@@ -307,3 +307,31 @@ module _ (g : Setup) (state : State) (segment : Segment) (begun : ℕ) (here : W
 
   pub stop_cost : segment.cost + is.steps ≡ here.cost - begun
   stop_cost = let before = is.cost in let since = is.since in omega arith
+
+  -- ---- those that wait stay live
+
+  abbrev pub Still : Move → Type 0
+  Still (Goes after) = AllByRecursion (IsWaiting after) waiting
+  Still (Puts value after) = AllByRecursion (IsWaiting after) waiting
+  Still (Spawns number after) = AllByRecursion (IsWaiting after) waiting
+  Still (Blocks after) = AllByRecursion (IsWaiting after) waiting
+  Still (Ends after) = AllByRecursion (IsWaiting after) waiting
+  Still (Stops stop) = Unit {0}
+  Still Wrong = Unit {0}
+
+  still_in : (after : World) → IsWellFormed (checked_of g) (setting_of g) after → ((number : ℕ) → here.running ≢ Some number → number ≢ here.next → thread_of after number ≡ thread_of here number) → AllByRecursion (IsWaiting after) waiting
+  still_in after formed kept = all_kept here after numbered formed.counted.numbered kept waiting is.threads
+
+  still_by : (move : Move) → step (setting_of g) here ≡ move → KeepsWellFormed (checked_of g) (setting_of g) move → ((number : ℕ) → here.running ≢ Some number → number ≢ here.next → KeepsThread number here move) → Still move
+  still_by (Goes after) e formed kept = still_in after formed kept
+  still_by (Puts value after) e formed kept = still_in after formed kept
+  still_by (Spawns number after) e formed kept = still_in after formed kept
+  still_by (Blocks after) e formed kept = still_in after formed kept
+  still_by (Ends after) e formed kept = still_in after formed kept
+  still_by (Stops stop) e formed kept = tt
+  still_by Wrong e formed kept = tt
+
+  pub still_waiting : (move : Move) → step (setting_of g) here ≡ move → Still move
+  still_waiting move e = still_by move e
+      (subst (KeepsWellFormed (checked_of g) (setting_of g)) e (KeepsWellFormed-step (checked_of g) (setting_of g) here is.formed))
+      (λ number apart old. subst (KeepsThread number here) e (KeepsThread-step (setting_of g) number here apart old))

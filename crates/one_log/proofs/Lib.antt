@@ -1,0 +1,5 @@
+mod Least
+mod Lines
+mod Times
+mod Runs
+pub mod Starting

@@ -1,0 +1,123 @@
+-- The start of a valid pair, and the log from there.
+use Rattle.std.proofs.Common.{◌≡◌, ℕ, zero, suc, ◌+◌, ◌-◌, ◌*◌, ◌/◌, ◌≤◌, ◌||◌, Bool, true, false, List, [], ◌∷◌, ◌++◌, Some, None, refl, ap, subst, arith}
+use Rattle.std.specs.Prelude.{nat_eq, nat_le, IsSome, if◌then◌else◌}
+use Rattle.std.specs.List.{range_with_len}
+use Rattle.std.proofs.lemmas.Bool.Decides.{nat_tests}
+use Rattle.c_lower.specs.ProgramCode.{lowered}
+use Rattle.c_tree.specs.WellScoped.{IsWellScoped}
+use Rattle.certificate_rules.specs.Validity.{IsValid}
+use Rattle.chunk_pool.specs.Pool.{Taken, taken_for, start_pool}
+use Rattle.lawful_log.specs.Good.{checked_of}
+use Rattle.lawful_log.specs.Lawful.{ending, IsLawfulLog}
+use Rattle.lawful_log.specs.Setup.{Setup, setting_of, main_fact, start_machine}
+use Rattle.lawful_log.specs.State.{start_of}
+use Rattle.lawful_log.proofs.AtMostOne.{same_entries, same_stops}
+use Rattle.lowered_facts.proofs.Formed.{formed}
+use Rattle.machine_world.specs.Areas.{Areas}
+use Rattle.machine_world.specs.Runs.{empty_world, started_on, start_world}
+use Rattle.machine_world.specs.Threads.{World, with_thread}
+use Rattle.machine_world.specs.WellFormed.{AreWellFormed, IsWellFormed, IsWellFormedIf, most_fuel}
+use Rattle.machine_world.proofs.FormWorlds.{IsWellFormedIf-start}
+use Rattle.segment_call_facts.proofs.ValidCalls.{CallFacts-valid}
+use Rattle.stack_certificate.specs.Certificates.{fact_at}
+use Rattle.world_source.specs.UnderWay.{StandsSettled}
+use Rattle.world_source.proofs.Between.{starts_law}
+use Rattle.c_mean.specs.World as source
+use Rattle.lawful_steps.specs.Waiting.{AreWaiting}
+use Rattle.lawful_steps.proofs.Between.{between_after}
+use Rattle.one_log.specs.One.{HasOneLog}
+use Rattle.one_log.proofs.Runs.{Between, rest_of}
+
+-- ---- a chunk for the first thread
+
+record Takes (chunks words need : ℕ) : Type 0 where
+  taken : Taken
+  is : taken_for (start_pool chunks words) need ≡ Some taken
+
+fits_true : (words need : ℕ) → need + 16 ≤ 4 * words → nat_le need (4 * words - 16) ≡ true
+fits_true words need h = let below : need ≤ 4 * words - 16 = omega (arith, h) in grind (arith, nat_tests, below)
+
+takes : (chunks words need : ℕ) → 1 ≤ chunks → need + 16 ≤ 4 * words → Takes chunks words need
+takes zero words need some room = absurd (omega (arith, some))
+takes (suc chunks) words need some room =
+    let taken : Taken = record { chunk = 0; pool = record (start_pool (suc chunks) words) { free = range_with_len 1 chunks } } in
+    record { taken = taken; is = ap (λ (b : Bool). if b then Some taken else None) (fits_true words need room) }
+
+-- ---- the first thread waits
+
+zero_only : (n : ℕ) (t : Bool) {X : Type 0} (x : X) → nat_eq 0 n ≡ t → IsSome (if t then Some x else None) → (t || false) ≡ true
+zero_only n true x e some = refl
+zero_only n false x e some = absurd (let no : false ≡ true = some in cc)
+
+first_waits : (areas : Areas) (taken : Taken) (entry : ℕ) → AreWaiting (with_thread (empty_world areas) taken entry 0) (record { thread = 0; node = 0; since = 0 } ∷ [])
+first_waits areas taken entry = record {
+  each = (record { thread = _; live = refl; since = tt }, tt);
+  once = (tt, tt);
+  running = λ n e. absurd (let no : None ≡ Some n = e in cc);
+  all = λ n apart some. zero_only n (nat_eq 0 n) _ refl some;
+}
+
+-- ---- the start
+
+module _ (g : Setup) (scoped : IsWellScoped g.program) (valid : IsValid (lowered g.program) g.image g.certificate)
+    (well : AreWellFormed (checked_of g) (record { pool = start_pool g.policy.chunks (g.certificate.chunk / 4); globals = g.image.globals; tables = g.image.tables })) (fuel : g.policy.fuel ≤ most_fuel) where
+  abbrev areas : Areas
+  areas = record { pool = start_pool g.policy.chunks (g.certificate.chunk / 4); globals = g.image.globals; tables = g.image.tables }
+
+  need_fits : (main_fact g).bound + 16 ≤ 4 * (g.certificate.chunk / 4)
+  need_fits =
+      let code = formed g.program g.image g.certificate scoped valid in
+      let bound = (valid.holds 11 g.program.main 2).v11 refl in
+      let within = bound.bound refl code.main_defined in
+      let path = ((valid.holds 11 g.program.main 3).v11 refl).path refl in
+      let size : 4 * (g.certificate.chunk / 4) ≡ g.certificate.chunk = well.chunk in
+      omega (arith, within, path, size)
+
+  first : Takes g.policy.chunks (g.certificate.chunk / 4) (main_fact g).bound
+  first = takes g.policy.chunks (g.certificate.chunk / 4) (main_fact g).bound well.pool.some_chunks need_fits
+
+  abbrev start : World
+  start = with_thread (empty_world areas) first.taken (main_fact g).entry 0
+
+  starts : start_machine g ≡ Some start
+  unfolding start_world
+  starts = ap (started_on (empty_world areas) (main_fact g).entry) first.is
+
+  start_formed : IsWellFormed (checked_of g) (setting_of g) start
+  start_formed =
+      let code = formed g.program g.image g.certificate scoped valid in
+      let room = ((CallFacts-valid (lowered g.program) g.image g.certificate code valid).entries g.program.main code.main_defined).room in
+      subst (IsWellFormedIf (checked_of g) (setting_of g)) starts
+      (IsWellFormedIf-start (checked_of g) (setting_of g) g.policy.chunks (g.certificate.chunk / 4) g.image.globals g.image.tables (fact_at g.certificate g.program.main).entry (fact_at g.certificate g.program.main).bound well fuel (omega (arith, room)))
+
+  start_stands : StandsSettled (checked_of g) g.program start (source.start_world g.program)
+  start_stands = starts_law g.program g.image g.certificate start g.policy.chunks (g.certificate.chunk / 4) scoped valid well starts
+
+  start_between : (trace : List ℕ) → Between g scoped valid (start_of g trace start)
+  start_between trace = record {
+    is = between_after g (start_of g trace start) refl start_formed start_stands.stands (first_waits areas first.taken (main_fact g).entry);
+    settled = start_stands.settled;
+  }
+
+  -- ---- the log
+
+  pub one_log : (trace : List ℕ) → HasOneLog g trace
+  one_log trace =
+      let rest = rest_of g scoped valid (start_of g trace start) (start_between trace) in
+      let entries = rest.entries ++ ending g rest.last rest.stop in
+      let lawful : IsLawfulLog g trace entries rest.stop rest.end = record {
+        start = start;
+        starts = starts;
+        before_end = rest.entries;
+        last = rest.last;
+        leads = rest.leads;
+        stops = rest.stops;
+        entries_are = refl;
+      } in
+      record {
+        entries = entries;
+        stop = rest.stop;
+        end = rest.end;
+        lawful = lawful;
+        only = λ others other w is. (same_entries g trace others entries other rest.stop w rest.end is lawful, same_stops g trace others entries other rest.stop w rest.end is lawful);
+      }

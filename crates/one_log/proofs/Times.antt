@@ -1,0 +1,100 @@
+-- The clock of a choice point at which nothing goes on: the least time there is, which is to come.
+use Rattle.std.proofs.Common.{◌≡◌, ℕ, zero, suc, ◌+◌, ◌≤◌, ◌⊎◌, inl, inr, false, List, [], ◌∷◌, ◌++◌, Option, Some, None, refl, sym, ap, ◌∙◌, arith, subst, ⊎_elim}
+use Rattle.std.specs.Prelude.{Contains, nat_le}
+use Rattle.std.specs.List.{AllByRecursion}
+use Rattle.std.proofs.lemmas.Bool.Decides.{nat_tests}
+use Rattle.cap_word.specs.declared.calls.Block.{Block}
+use Rattle.c_mean.specs.ModelledCalls as table
+use Rattle.c_mean.specs.ModelledCalls.{Exchange, wakes_at, ticks_of}
+use Rattle.c_mean.specs.World.{Rest, Fresh, Blocked as Blocks, Ended}
+use Rattle.event_trace.specs.declared.events.Event.{Event}
+use Rattle.lawful_log.specs.Clock.{event_times, IsLeastOf}
+use Rattle.lawful_log.specs.Readiness as log
+use Rattle.lawful_log.specs.Readiness.{is_ready, any_ready, waking_times}
+use Rattle.lawful_log.specs.Setup.{Setup}
+use Rattle.lawful_log.specs.State.{State}
+use Rattle.lawful_steps.specs.Clocks.{goes_on}
+use Rattle.lawful_steps.proofs.Clocks.{contains_head, contains_later, all_index, gives_above}
+use Rattle.lawful_steps.proofs.Lists.{not_both}
+use Rattle.lawful_steps.proofs.Wakes.{all_false, weakened}
+
+-- ---- the least of some times
+
+pub record Least (times : List ℕ) : Type 0 where
+  pub time : ℕ
+  pub one : Contains times time
+  pub least : AllByRecursion (λ other. time ≤ other) times
+
+all_above : (low time : ℕ) (times : List ℕ) → low ≤ time → AllByRecursion (λ other. time ≤ other) times → AllByRecursion (λ other. low ≤ other) times
+all_above low time [] h all = tt
+all_above low time (x ∷ xs) h all = ((let above = all.0 in omega (arith, h, above)), all_above low time xs h all.1)
+
+le_or : (a b : ℕ) → (a ≤ b) ⊎ (b ≤ a)
+le_or zero b = inl (omega arith)
+le_or (suc a) zero = inr (omega arith)
+le_or (suc a) (suc b) = ⊎_elim (λ (h : a ≤ b). inl (omega (arith, h))) (λ (h : b ≤ a). inr (omega (arith, h))) (le_or a b)
+
+least_by : (x : ℕ) (xs : List ℕ) (rest : Least xs) → (x ≤ rest.time) ⊎ (rest.time ≤ x) → Least (x ∷ xs)
+least_by x xs rest (inl h) = record { time = x; one = contains_head x xs x refl; least = ((omega arith), all_above x rest.time xs h rest.least) }
+least_by x xs rest (inr h) = record { time = rest.time; one = contains_later x xs rest.time rest.one; least = (h, rest.least) }
+
+least_on : (x : ℕ) (xs : List ℕ) → Least (x ∷ xs)
+least_on x [] = record { time = x; one = contains_head x [] x refl; least = ((omega arith), tt) }
+least_on x (y ∷ ys) = let rest = least_on y ys in least_by x (y ∷ ys) rest (le_or x rest.time)
+
+pub is_least : (times : List ℕ) (l : Least times) → IsLeastOf times l.time
+is_least times l = record { one = l.one; least = all_index (λ other. l.time ≤ other) times l.least }
+
+-- ---- the times are to come
+
+later_block : (caps : List ℕ) (x : Exchange) (clock since : ℕ) (block : Block) (t : ℕ) → table.is_ready caps x clock since block ≡ false → wakes_at since block ≡ Some t → clock ≤ t
+later_block caps x clock since Block.Accept t e w = absurd (let no : None ≡ Some t = w in cc)
+later_block caps x clock since (Block.Wait channel) t e w = absurd (let no : None ≡ Some t = w in cc)
+later_block caps x clock since (Block.Sleep ticks) t e w =
+    let is : since + ticks_of ticks ≡ t = cc in
+    let past : nat_le (since + ticks_of ticks) clock ≡ false = e in
+    grind (arith, nat_tests, past, is)
+later_block caps x clock since Block.Yield t e w = absurd (let no : None ≡ Some t = w in cc)
+later_block caps x clock since (Block.Take resource amount) t e w = absurd (let no : None ≡ Some t = w in cc)
+
+later_rest : (caps : List ℕ) (x : Exchange) (clock since : ℕ) (rest : Option Rest) (t : ℕ) → log.is_ready_at caps x clock since rest ≡ false → log.wakes since rest ≡ Some t → clock ≤ t
+later_rest caps x clock since (Some (Fresh function arguments)) t e w = absurd (let no : None ≡ Some t = w in cc)
+later_rest caps x clock since (Some (Blocks block waiting)) t e w = later_block caps x clock since block t e w
+later_rest caps x clock since (Some Ended) t e w = absurd (let no : None ≡ Some t = w in cc)
+later_rest caps x clock since None t e w = absurd (let no : None ≡ Some t = w in cc)
+
+module _ (g : Setup) (state : State) (clock : ℕ) where
+  sleepers_later : any_ready g state clock ≡ false → AllByRecursion (λ t. clock ≤ t) (waking_times state)
+  sleepers_later none = gives_above (λ w. log.wakes w.since (log.rest_of state w.thread)) clock state.waiting
+      (weakened (λ w. is_ready g state clock w ≡ false) (λ w. (t : ℕ) → log.wakes w.since (log.rest_of state w.thread) ≡ Some t → clock ≤ t)
+      (λ w e t wakes. later_rest g.policy.caps state.source.exchange clock w.since (log.rest_of state w.thread) t e wakes)
+      state.waiting (all_false (is_ready g state clock) state.waiting none))
+
+  not_due_later : (event : Event) → nat_le event.time clock ≡ false → clock ≤ event.time
+  not_due_later event e = grind (arith, nat_tests, e)
+
+  times_later : (next : Option Event) → goes_on g state next clock ≡ false → AllByRecursion (λ t. clock ≤ t) (event_times next ++ waking_times state)
+  times_later None e = sleepers_later e
+  times_later (Some event) e =
+      let parts : (nat_le event.time clock ≡ false) × (any_ready g state clock ≡ false) = not_both (nat_le event.time clock) (any_ready g state clock) e in
+      (not_due_later event parts.0, sleepers_later parts.1)
+
+  above_in : (times : List ℕ) (l : Least times) → AllByRecursion (λ t. clock ≤ t) times → clock ≤ l.time
+  above_in times l all = subst (λ (t : ℕ). clock ≤ t) l.one.2 (all_index (λ t. clock ≤ t) times all l.one.0 l.time l.one.1)
+
+  -- there is no time, or a least one, which is to come
+  pub data Goes (next : Option Event) : Type 0 where
+    Nothing : event_times next ≡ [] → waking_times state ≡ [] → Goes next
+    At : (time : ℕ) → clock ≤ time → IsLeastOf (event_times next ++ waking_times state) time → Goes next
+
+  goes_by : (next : Option Event) (events wakes : List ℕ) → event_times next ≡ events → waking_times state ≡ wakes → AllByRecursion (λ t. clock ≤ t) (events ++ wakes) → Goes next
+  goes_by next [] [] e w all = Nothing e w
+  goes_by next [] (x ∷ xs) e w all =
+      let l = least_on x xs in
+      At l.time (above_in (x ∷ xs) l all) (subst (λ (times : List ℕ). IsLeastOf times l.time) (ap (λ (a : List ℕ). a ++ (x ∷ xs)) (sym e) ∙ ap (λ (b : List ℕ). event_times next ++ b) (sym w)) (is_least (x ∷ xs) l))
+  goes_by next (y ∷ ys) wakes e w all =
+      let l = least_on y (ys ++ wakes) in
+      At l.time (above_in (y ∷ (ys ++ wakes)) l all) (subst (λ (times : List ℕ). IsLeastOf times l.time) (ap (λ (a : List ℕ). a ++ wakes) (sym e) ∙ ap (λ (b : List ℕ). event_times next ++ b) (sym w)) (is_least (y ∷ (ys ++ wakes)) l))
+
+  pub goes : (next : Option Event) → goes_on g state next clock ≡ false → Goes next
+  goes next stuck = goes_by next (event_times next) (waking_times state) refl refl (times_later next stuck)
