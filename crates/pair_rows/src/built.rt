@@ -1,0 +1,250 @@
+// What `build` makes of a source: the valid pairs, word for word and line for line, and what is too large.
+
+ghost use Rattle.codegen_link.specs.Plans.{AreInRange};
+
+use crate::changes::Change::Line;
+use crate::changes::{Change, image_of, program_of, text_of};
+use crate::pairs::Of::{Linked, Plain, Putting, Spawning, Tables};
+use crate::pairs::{Of, pair_of};
+use certificate_check::Accepted;
+use codegen_link::Options;
+use stack_build::{BuildError, build};
+use stack_certificate::{Certificate, FunctionFact, read_cert};
+use stack_image::Image;
+use std::alloc::{AllocError, Global};
+use std::process::Abort;
+use std::test::Fail;
+
+const USUAL: Options = Options {
+    chunk: 4096,
+    max_path: 2032,
+};
+
+const SMALL: Options = Options {
+    chunk: 64,
+    max_path: 32,
+};
+
+const NARROW: Options = Options {
+    chunk: 64,
+    max_path: 16,
+};
+
+// The source of a pair, the sizes for which it is built, and how the lines differ from those of the pair. Where a path has
+// at most 16 bytes, the call is linked.
+const PAIRS: [(Of, Options, &[Change]); 5] = [
+    (Plain, SMALL, &[]),
+    (Linked, NARROW, &[Line(3, b"max-path 16")]),
+    (Putting, USUAL, &[]),
+    (Tables, USUAL, &[]),
+    (Spawning, SMALL, &[]),
+];
+
+// A source, the sizes, and the certificate.
+const LINES: [(&[u8], Options, &[u8]); 3] = [
+    (
+        b"int main() { int a[506]; return 0; }",
+        USUAL,
+        b"capriccio certificate 1
+chunk 4096
+max-path 2032
+functions 1
+function 4104 522 2032 2028 2032 0 2024
+sites 0
+",
+    ),
+    (
+        TWO_FRAMES,
+        Options {
+            chunk: 128,
+            max_path: 64,
+        },
+        b"capriccio certificate 1
+chunk 128
+max-path 64
+functions 3
+function 4104 24 48 44 48 0 4 36
+function 4200 16 16 12 16 0 4
+function 4264 34 16 12 64 0 4
+sites 1
+site 0 plain
+",
+    ),
+    (
+        TWO_FRAMES,
+        Options {
+            chunk: 128,
+            max_path: 63,
+        },
+        b"capriccio certificate 1
+chunk 128
+max-path 63
+functions 3
+function 4104 24 48 44 48 0 4 36
+function 4200 16 16 12 16 0 4
+function 4264 44 16 12 16 0 4
+sites 1
+site 0 linked 48
+",
+    ),
+];
+
+// The table's last member has the larger frame.
+const TWO_FRAMES: &[u8] =
+    b"int f(int x) { int a[8]; return x; } int g(int x) { return x; } int (*t[2])(int) = { g, f }; int main() { return t[1](2); }";
+
+// The accepted program that `build` makes of a source.
+fn accepted(alloc: Global, source: &[u8], options: Options) -> Option<Accepted>
+    requires { AreInRange options }
+{
+    let program = program_of(alloc, source)?;
+    match build(alloc, program, options) {
+        Ok(accepted) => Some(accepted),
+        Err(_) => None,
+    }
+}
+
+// Why a source isn't built.
+fn refusal(alloc: Global, source: &[u8], options: Options) -> Option<BuildError>
+    requires { AreInRange options }
+{
+    let program = program_of(alloc, source)?;
+    match build(alloc, program, options) {
+        Ok(_) => None,
+        Err(error) => Some(error),
+    }
+}
+
+// Whether two images have the same words.
+fn are_same(found: &Image, wanted: &Image) -> bool {
+    found.code.as_slice() == wanted.code.as_slice()
+        && found.globals.as_slice() == wanted.globals.as_slice()
+        && found.tables.as_slice() == wanted.tables.as_slice()
+        && found.entries.as_slice() == wanted.entries.as_slice()
+}
+
+// Whether two functions' facts say the same.
+fn are_alike(found: &FunctionFact, wanted: &FunctionFact) -> bool {
+    found.entry == wanted.entry
+        && found.words == wanted.words
+        && found.frame == wanted.frame
+        && found.ra == wanted.ra
+        && found.bound == wanted.bound
+        && found.places.as_slice() == wanted.places.as_slice()
+}
+
+// Whether two certificates say the same.
+fn say_the_same(found: &Certificate, wanted: &Certificate) -> bool {
+    let functions = found.functions.as_slice();
+    let sites = found.sites.as_slice();
+    let wanted_functions = wanted.functions.as_slice();
+    let wanted_sites = wanted.sites.as_slice();
+    if functions.len() != wanted_functions.len() || sites.len() != wanted_sites.len() {
+        return false;
+    }
+    for k in 0..functions.len() {
+        if !are_alike(&functions[k], &wanted_functions[k]) {
+            return false;
+        }
+    }
+    for k in 0..sites.len() {
+        if sites[k].number != wanted_sites[k].number || sites[k].kind != wanted_sites[k].kind {
+            return false;
+        }
+    }
+    found.chunk == wanted.chunk && found.max_path == wanted.max_path
+}
+
+// Whether a certificate is the one of a text.
+fn has_text(alloc: Global, accepted: &Accepted, text: &[u8]) -> bool {
+    match read_cert(alloc, text) {
+        Ok(wanted) => say_the_same(accepted.certificate(), &wanted),
+        Err(_) => false,
+    }
+}
+
+// Whether a source is built to just an image and the text of a certificate.
+fn is_built(alloc: Global, source: &[u8], options: Options, image: &Image, text: &[u8]) -> bool
+    requires { AreInRange options }
+{
+    match accepted(alloc, source, options) {
+        Some(accepted) => { are_same(accepted.image(), image) && has_text(alloc, &accepted, text) }
+        None => false,
+    }
+}
+
+// Whether a pair's source is built to just the pair.
+fn is_pair(alloc: Global, of: Of, options: Options, changes: &[Change]) -> Result<bool, AllocError>
+    requires { AreInRange options }
+{
+    let pair = pair_of(of);
+    let image = image_of(alloc, &pair, changes)?;
+    let text = text_of(alloc, &pair, changes)?;
+    Ok(is_built(alloc, pair.source, options, &image, &text))
+}
+
+// Whether a source is built to an image with the text of a certificate.
+fn has_lines(alloc: Global, source: &[u8], options: Options, text: &[u8]) -> bool
+    requires { AreInRange options }
+{
+    match accepted(alloc, source, options) {
+        Some(accepted) => has_text(alloc, &accepted, text),
+        None => false,
+    }
+}
+
+// The number of words of the code that is made of a source, or 0.
+fn words_of_code(alloc: Global, source: &[u8], options: Options) -> usize
+    requires { AreInRange options }
+{
+    match accepted(alloc, source, options) {
+        Some(accepted) => accepted.image().code.len(),
+        None => 0,
+    }
+}
+
+#[test]
+fn the_pairs_are_built(rt: HostRuntime) -> Result<(), Fail> {
+    for (of, options, changes) in PAIRS {
+        assert!(rt; is_pair(rt.alloc(), of, options, changes)?);
+    }
+    Ok(())
+}
+
+#[test]
+fn frames_and_needs(rt: HostRuntime) -> Result<(), Fail> {
+    for (source, options, lines) in LINES {
+        assert!(rt; has_lines(rt.alloc(), source, options, lines));
+    }
+    let over = refusal(rt.alloc(), b"int main() { int a[507]; return 0; }", USUAL);
+    assert!(rt;
+        over == Some(BuildError::FrameTooLarge {
+            function: 0,
+            bytes: 2048
+        })
+    );
+    Ok(())
+}
+
+// A main of 28 words of code, and 4 more for each assignment and 1 for each `break`.
+fn long_source(alloc: Global, assignments: u32, breaks: u32) -> Result<Vec<u8>, AllocError> {
+    let mut text = Vec::from_slice(alloc, b"int main() { int x; while (1) {")?;
+    for _ in 0..assignments {
+        text.extend_from_slice(b"x=x;")?;
+    }
+    for _ in 0..breaks {
+        text.extend_from_slice(b"break;")?;
+    }
+    text.extend_from_slice(b"} return 0; }")?;
+    Ok(text)
+}
+
+#[test]
+fn code_has_its_limit(rt: HostRuntime) -> Result<(), Fail> {
+    let source = long_source(rt.alloc(), 49_993, 0)?;
+    assert!(rt; words_of_code(rt.alloc(), &source, SMALL) == 200_000);
+    let source = long_source(rt.alloc(), 49_993, 1)?;
+    let over = refusal(rt.alloc(), &source, SMALL);
+    assert!(rt; over == Some(BuildError::CodeTooLarge { words: 200_001 }));
+    Ok(())
+}

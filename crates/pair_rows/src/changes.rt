@@ -1,0 +1,173 @@
+// A pair with some things changed, and the checker's answer on it.
+
+use crate::pairs::{Of, Pair, pair_of};
+use c_scope::read_program;
+use c_tree::Program;
+use cap_word::Words;
+use certificate_check::{Accepted, CheckError, check};
+use stack_certificate::read_cert;
+use stack_image::Image;
+use std::alloc::{AllocError, Global};
+
+/// A list of words of an image.
+#[derive(Clone, Copy, PartialEq, Eq)]
+pub(crate) enum List {
+    Code,
+    Globals,
+    Tables,
+    Entries,
+}
+
+/// One thing that is changed in a pair.
+#[derive(Clone, Copy)]
+pub(crate) enum Change {
+    /// The certificate's line of this number, from 1, reads so.
+    Line(usize, &'static [u8]),
+    /// The certificate has no line of this number.
+    NoLine(usize),
+    /// The word of this index in a list is another.
+    Word(List, usize, u32),
+    /// One word more stands at the end of a list.
+    More(List, u32),
+    /// A list has just so many of its words.
+    Cut(List, usize),
+    /// Words 0 follow in a list until it has so many.
+    Padded(List, usize),
+}
+
+/// What the checker says of a pair.
+#[derive(Clone, Copy, PartialEq, Eq, Debug)]
+pub(crate) enum Answer {
+    Accepted,
+    /// The rule, the function and the index that fail first.
+    Rejected(u32, u32, u64),
+    /// The source or the certificate isn't read.
+    Unread,
+}
+
+/// What the checker says of a pair with these things changed.
+pub(crate) fn check_changed(
+    alloc: Global,
+    of: Of,
+    changes: &[Change],
+) -> Result<Answer, AllocError> {
+    let pair = pair_of(of);
+    let image = image_of(alloc, &pair, changes)?;
+    let text = text_of(alloc, &pair, changes)?;
+    let Ok(certificate) = read_cert(alloc, &text) else {
+        return Ok(Answer::Unread);
+    };
+    let Some(program) = program_of(alloc, pair.source) else {
+        return Ok(Answer::Unread);
+    };
+    match check(alloc, program, image, certificate) {
+        Ok(accepted) => Ok(told(&accepted, &pair)),
+        Err(
+            CheckError::Rejected {
+                rule,
+                function,
+                index,
+                ..
+            },
+        ) => Ok(Answer::Rejected(rule, function, index)),
+        Err(CheckError::Memory { .. }) => Ok(Answer::Unread),
+    }
+}
+
+/// The program of a source, where it is one.
+pub(crate) fn program_of(alloc: Global, source: &[u8]) -> Option<Program> {
+    if source.len() > 1_048_576 {
+        return None;
+    }
+    match read_program(alloc, source) {
+        Ok(program) => Some(program),
+        Err(_) => None,
+    }
+}
+
+// An accepted program tells what was handed in.
+fn told(accepted: &Accepted, pair: &Pair) -> Answer {
+    if accepted.image().globals.as_slice() == pair.globals
+        && accepted.certificate().functions.len() == accepted.program().functions().len()
+        && accepted.flat().functions().len() == accepted.program().functions().len()
+    {
+        Answer::Accepted
+    } else {
+        Answer::Unread
+    }
+}
+
+/// The image of a pair with these things changed.
+pub(crate) fn image_of(
+    alloc: Global,
+    pair: &Pair,
+    changes: &[Change],
+) -> Result<Image, AllocError> {
+    Ok(Image {
+        code: words_of(alloc, pair.code, List::Code, changes)?,
+        globals: words_of(alloc, pair.globals, List::Globals, changes)?,
+        tables: words_of(alloc, pair.tables, List::Tables, changes)?,
+        entries: words_of(alloc, pair.entries, List::Entries, changes)?,
+    })
+}
+
+fn words_of(
+    alloc: Global,
+    words: &[u32],
+    list: List,
+    changes: &[Change],
+) -> Result<Words, AllocError> {
+    let mut words = Vec::from_slice(alloc, words)?;
+    for change in changes {
+        change_words(&mut words, list, *change)?;
+    }
+    Ok(Words::new(words))
+}
+
+fn change_words(words: &mut Vec<u32>, list: List, change: Change) -> Result<(), AllocError> {
+    match change {
+        Change::Word(of, index, value) if of == list => {
+            if let Some(word) = words.get_mut(index) {
+                *word = value;
+            }
+        }
+        Change::More(of, word) if of == list => words.push(word)?,
+        Change::Cut(of, count) if of == list => words.truncate(count),
+        Change::Padded(of, count) if of == list => {
+            for _ in words.len()..count {
+                words.push(0)?;
+            }
+        }
+        _ => {}
+    }
+    Ok(())
+}
+
+/// The text of a pair's certificate with these things changed.
+pub(crate) fn text_of(
+    alloc: Global,
+    pair: &Pair,
+    changes: &[Change],
+) -> Result<Vec<u8>, AllocError> {
+    let mut text = Vec::new(alloc);
+    for k in 0..pair.certificate.len() {
+        if let Some(line) = line_of(pair.certificate[k], k + 1, changes) {
+            text.extend_from_slice(line)?;
+            text.push(b'\n')?;
+        }
+    }
+    Ok(text)
+}
+
+// The line of this number, where there is one.
+fn line_of<'a>(line: &'a [u8], here: usize, changes: &[Change]) -> Option<&'a [u8]> {
+    let mut line = Some(line);
+    for change in changes {
+        match *change {
+            Change::Line(number, text) if number == here => line = Some(text),
+            Change::NoLine(number) if number == here => line = None,
+            _ => {}
+        }
+    }
+    line
+}
