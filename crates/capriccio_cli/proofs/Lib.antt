@@ -14,3 +14,9 @@ pub mod Ends
 pub mod ServedLog
 pub mod Causes
 pub mod OnlyLog
+pub mod Follows
+pub mod Ending
+pub mod Analyses
+pub mod Appended
+pub mod OneSource
+pub mod OneCase

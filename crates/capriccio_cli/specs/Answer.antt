@@ -5,7 +5,8 @@ use Rattle.cap_io.specs.Faults.{Rose, Stayed}
 use Rattle.cap_io.specs.Files.{Files, KeepsFiles}
 use Rattle.capriccio_cli.specs.declared.refusals.Refusal.{Refusal}
 use Rattle.capriccio_cli.specs.declared.refusals.Refusal.TheVariants.{UsageNotBuilt, SourceAbsent, SourceTooLong, SourceNotBuilt, TraceNotBuilt, ReadFault, WriteFault, Memory}
-use Rattle.capriccio_cli.specs.Command.{IsLoaded, IsEmptyTrace, TakesPrefix, HasFile, most_bytes}
+use Rattle.capriccio_cli.specs.Command.{IsLoaded, IsEmptyTrace, HasFile, most_bytes}
+use Rattle.capriccio_cli.specs.Prefixes.{TakesPrefix}
 use Rattle.capriccio_cli.specs.Grammar.{Spells, IsSource}
 use Rattle.capriccio_cli.specs.Refusal.{code_of, line_of}
 use Rattle.capriccio_cli.specs.Served.{IsServed}

@@ -8,6 +8,7 @@ use Rattle.capriccio_cli.specs.declared.refusals.Refusal.{Refusal}
 use Rattle.capriccio_cli.specs.declared.refusals.Refusal.TheVariants.{SourceAbsent, SourceTooLong, SourceNotBuilt, TraceNotBuilt, ReadFault, WriteFault, Memory}
 use Rattle.capriccio_cli.specs.Grammar.{Spells, IsSource}
 use Rattle.capriccio_cli.specs.Served.{IsServed}
+use Rattle.capriccio_cli.specs.Prefixes.{TakesPrefix}
 
 -- the most bytes of a source
 abbrev pub most_bytes : ℕ
@@ -42,10 +43,6 @@ IsTraceRefusal left old new _ = ⊥
 -- the trace is empty, where told
 abbrev pub IsEmptyTrace : Option (List ℕ) → Type 0
 IsEmptyTrace left = IfSome left (λ bytes. bytes ≡ [])
-
--- a prefix of some bytes was taken
-abbrev pub TakesPrefix : Option (List ℕ) → Option (List ℕ) → List ℕ → Type 0
-TakesPrefix old new bytes = (n : ℕ) × (n ≤ length bytes) × Appends old new (take n bytes)
 
 -- the log of these numbers was written, or refused: then a prefix of it was taken
 abbrev pub IsLogged : List ℕ → (taken taken' : Option (List ℕ)) → (old new : ℕ) → Result (Unit {0}) Refusal → Type 0

@@ -10,5 +10,16 @@ pub mod Machine
 pub mod Segment
 pub mod Served
 pub mod Refusal
+pub mod Prefixes
 pub mod Command
 pub mod Answer
+pub mod FaultLines
+pub mod Outcome
+pub mod CauseLines
+pub mod Loads
+pub mod Graphs
+pub mod Checks
+pub mod Due
+pub mod Done
+pub mod Steps
+pub mod Whole

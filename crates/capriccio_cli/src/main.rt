@@ -1,23 +1,35 @@
 // Capriccio's program: linked stacks and blocking-graph scheduling for a subset of C on RV32IM.
 //
-// In: the words after the program's name, a source in the present folder, and a trace on standard input. Out: the log on
+// In: the words after the program's name, files in the present folder, and a trace on standard input. Out: text on
 // standard output, a refusal's line on standard error, and the status. `capriccio` is the whole program over objects that
 // it is handed; `main` makes the real ones. What is built so far is `serve` of a main that puts numbers: its source is
-// read, compiled for RV32IM, and run on the machine, instruction by instruction.
+// read, compiled for RV32IM, and run on the machine, instruction by instruction. And `graph` and `check` of any source:
+// commands.rt has what they do, over what is due for the words and the files (specs/Due.antt).
 #![tactic(auto)]
 
+mod cause_lines;
+mod check_command;
 mod code;
 mod command;
+mod commands;
 mod context;
+mod documents;
 mod execution;
+mod faults;
 mod fetch;
+mod frames;
 mod grammar;
+mod graph_command;
+mod loading;
 mod log;
 mod machine;
 mod refusals;
+mod reports;
 mod segments;
 mod serve;
 mod steps;
+mod stops;
+mod telling;
 mod words;
 
 use cap_io::{DirShelf, StdSink, StdSource};
@@ -65,5 +77,7 @@ fn words_of<E: Env>(environment: &E, alloc: Global) -> Result<Vec<String>, Alloc
     }
 }
 
+#[cfg(test)]
+mod command_rows;
 #[cfg(test)]
 mod tests;

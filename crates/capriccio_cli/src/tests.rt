@@ -13,6 +13,10 @@ const PUT_SEVEN: &[u8] = b"int main() { put(7); return 0; }\n";
 
 const LOG_OF_SEVEN: &[u8] = b"run 0 0 0\nout 0 7\nend 0 17 1024\nedge 0 1 1 4352 -256\nstop done\n";
 
+/// What the words may be.
+const USAGE: &[u8] =
+    b"usage: capriccio serve SRC, run SRC IMG CRT, build SRC IMG CRT, check SRC IMG CRT, graph SRC, demo N\n";
+
 /// Words of a command line.
 fn words_of(alloc: Global, words: &[&str]) -> Result<Vec<String>, AllocError> {
     let mut all = Vec::new(alloc);
@@ -112,17 +116,10 @@ fn rows(rt: HostRuntime) -> Result<(), Fail> {
             none,
             b"absent: source\n",
         ),
-        (&["serve"], PUT_SEVEN, none, 1, none, b"usage: not built\n"),
+        (&["serve"], PUT_SEVEN, none, 1, none, USAGE),
+        (&["serve", "-put.c"], PUT_SEVEN, none, 1, none, USAGE),
         (
-            &["serve", "-put.c"],
-            PUT_SEVEN,
-            none,
-            1,
-            none,
-            b"usage: not built\n",
-        ),
-        (
-            &["run", "put.c"],
+            &["demo", "1"],
             PUT_SEVEN,
             none,
             1,

@@ -1,12 +1,9 @@
--- What was served is reported.
-use Rattle.capriccio_cli.proofs.Causes.{exact}
-use Rattle.std.specs.Prelude.{Ok, Err}
-use Rattle.std.proofs.Common.{refl}
-use Rattle.capriccio_cli.proofs.Causes.{keeps_itself}
+use Rattle.std.proofs.Common.{inl, inr, refl}
+use Rattle.capriccio_cli.proofs.Ending.{keeps-itself}
 use Rattle.capriccio_cli.proofs.command.capriccio.Goals as goal
 
-pub returns-in-Err : goal.returns-in-Err
-returns-in-Err g c = record { answer = (Err c.in-Err.refusal, c.in-Err.ensures.cause.0, c.in-Err.ensures.cause.1, exact _ _ _ (Err c.in-Err.refusal) c.in-Err.ensures.cause.0, c.in-Err.ensures.cause.2, c.report.ensures) }
+pub returns-in-Some : goal.returns-in-Some
+returns-in-Some g c = record { answer = inl (c.in-Some.field-0.now, c.in-Some.ensures, c.answer_serve.ensures.answer) }
 
-pub returns-in-Ok : goal.returns-in-Ok
-returns-in-Ok g c = record { answer = (Ok tt, c.in-Ok.ensures.cause.0, c.in-Ok.ensures.cause.1, exact _ _ _ (Ok tt) c.in-Ok.ensures.cause.0, c.in-Ok.ensures.cause.2, (refl, keeps_itself _, refl)) }
+pub returns-in-None : goal.returns-in-None
+returns-in-None g c = record { answer = inr (c.in-None.ensures, (c.answer_words.ensures, record { left = keeps-itself _; reads = refl })) }

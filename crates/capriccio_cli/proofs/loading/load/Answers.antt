@@ -1,0 +1,12 @@
+use Rattle.std.proofs.Common.{Err}
+use Rattle.cap_io.specs.Shelves.{Loads}
+use Rattle.cap_io.specs.declared.shelves.ShelfError.TheVariants as shelf
+use Rattle.capriccio_cli.specs.CauseLines.{most_bytes}
+use Rattle.capriccio_cli.proofs.Follows.{too-long, absent}
+use Rattle.capriccio_cli.proofs.loading.load.Goals as goal
+
+pub returns-in-Err-TooLong-clause-answer : goal.returns-in-Err-TooLong-clause-answer
+returns-in-Err-TooLong-clause-answer g c =
+    let told = rw c.in-Err-TooLong.field-0-is at c.in-Err-TooLong.ensures in
+    let file = rw c.most_bytes.ensures at told.file in
+    (too-long c.args.document (g.F.Shelf.files c.args.shelf.now) c.args.name.now file, told.counts)

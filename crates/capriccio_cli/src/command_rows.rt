@@ -1,0 +1,271 @@
+// The commands `graph` and `check` over files in memory, with ample memory.
+use super::capriccio;
+use cap_io::{CleanShelf, CleanSink, CleanSource, MemShelf, MemSink};
+use std::alloc::{AllocError, Global};
+use std::test::Fail;
+
+/// `int main() { put(7); return 0; }`, its image as words and its certificate, as the formats' vectors have them.
+const PUT_SEVEN: &[u8] = b"int main() { put(7); return 0; }";
+
+const IMAGE_OF_SEVEN: [u32; 30] = [
+    0x31504143, 0x00000018, 0x00000000, 0x00000000, 0x00000001, 0x01e00893, 0x00000073, 0xff010113,
+    0x00112623, 0x000002b7, 0x00728293, 0x00512023, 0x00012503, 0x00300893, 0x00000073, 0x000002b7,
+    0x00028293, 0x00512023, 0x00012503, 0x00c12083, 0x01010113, 0x00008067, 0x000002b7, 0x00028293,
+    0x00512023, 0x00012503, 0x00c12083, 0x01010113, 0x00008067, 0x00001008,
+];
+
+const CERTIFICATE_OF_SEVEN: &[u8] =
+    b"capriccio certificate 1\nchunk 4096\nmax-path 2032\nfunctions 1\nfunction 4104 22 16 12 16 0\nsites 0\n";
+
+/// A program of two functions, and its image for chunks of 64 bytes and paths of 32.
+const TWO: &[u8] = b"int g(int x) { return x; } int main() { int a; int b; a = g(1); return a; }";
+
+const IMAGE_OF_TWO: [u32; 52] = [
+    0x31504143, 0x0000002d, 0x00000000, 0x00000000, 0x00000002, 0x01e00893, 0x00000073, 0xff010113,
+    0x00112623, 0x00a12023, 0x00012283, 0x00512223, 0x00412503, 0x00c12083, 0x01010113, 0x00008067,
+    0x000002b7, 0x00028293, 0x00512223, 0x00412503, 0x00c12083, 0x01010113, 0x00008067, 0xff010113,
+    0x00112623, 0x000002b7, 0x00028293, 0x00512023, 0x000002b7, 0x00028293, 0x00512223, 0x000002b7,
+    0x00128293, 0x00512423, 0x00812503, 0xf91ff0ef, 0x00a12023, 0x00012283, 0x00512423, 0x00812503,
+    0x00c12083, 0x01010113, 0x00008067, 0x000002b7, 0x00028293, 0x00512423, 0x00812503, 0x00c12083,
+    0x01010113, 0x00008067, 0x00001008, 0x00001048,
+];
+
+const NONE: &[u8] = b"";
+
+/// The bytes of words, each lowest byte first.
+fn bytes_of(alloc: Global, words: &[u32]) -> Result<Vec<u8>, AllocError> {
+    let mut bytes = Vec::new(alloc);
+    for word in words {
+        bytes.extend_from_slice(&word.to_le_bytes())?;
+    }
+    Ok(bytes)
+}
+
+/// Words of a command line.
+fn words_of(alloc: Global, words: &[&str]) -> Result<Vec<String>, AllocError> {
+    let mut all = Vec::new(alloc);
+    for word in words {
+        all.push(String::from_str(alloc, word)?)?;
+    }
+    Ok(all)
+}
+
+/// The files P, I and C.
+fn files_of(
+    alloc: Global,
+    source: &[u8],
+    image: &[u8],
+    certificate: &[u8],
+) -> Result<Vec<(String, Vec<u8>)>, AllocError> {
+    let mut files = Vec::new(alloc);
+    files.push((String::from_str(alloc, "P")?, source.to_vec(alloc)?))?;
+    files.push((String::from_str(alloc, "I")?, image.to_vec(alloc)?))?;
+    files.push((String::from_str(alloc, "C")?, certificate.to_vec(alloc)?))?;
+    Ok(files)
+}
+
+/// The status, and what the output and standard error took, over objects that never fail.
+fn answer(
+    alloc: Global,
+    words: &[&str],
+    files: Vec<(String, Vec<u8>)>,
+) -> Result<(u8, Vec<u8>, Vec<u8>), AllocError> {
+    let words = words_of(alloc, words)?;
+    let mut shelf = CleanShelf::new(alloc, files);
+    let mut trace = CleanSource::new(Vec::new(alloc));
+    let mut out = CleanSink::new(alloc);
+    let mut err = CleanSink::new(alloc);
+    let status = capriccio(alloc, &words, &mut shelf, &mut trace, &mut out, &mut err);
+    Ok((
+        status,
+        out.bytes().to_vec(alloc)?,
+        err.bytes().to_vec(alloc)?,
+    ))
+}
+
+#[test]
+fn graphs(rt: HostRuntime) -> Result<(), Fail> {
+    let alloc = rt.alloc();
+    let plain: &[&str] = &["graph", "P"];
+    let small: &[&str] = &["graph", "P", "--chunk", "64", "--max-path", "32"];
+    let table: [(&[&str], &[u8], u8, &[u8], &[u8]); 9] = [
+        (
+            small,
+            TWO,
+            0,
+            b"function 0 g frame 16 bound 16\nfunction 1 main frame 16 bound 32\nsite 0 main plain\n",
+            NONE,
+        ),
+        (
+            &["graph", "--max-path", "32", "P", "--chunk", "64"],
+            b"int g(int x) { return x; } int main() { int a; int b; int c; a = g(1); return a; }",
+            0,
+            b"function 0 g frame 16 bound 16\nfunction 1 main frame 32 bound 32\nsite 0 main over\n",
+            NONE,
+        ),
+        (
+            small,
+            b"int main() { int a[10]; return 0; }",
+            5,
+            NONE,
+            b"limit: frame of main is 48 bytes\n",
+        ),
+        (
+            plain,
+            b"int b(int n); int a(int n) { int r; r = b(n - 1); return r; } int b(int n) { if (n < 1) return 0; int r; r = a(n - 1); return r; } int main() { int r; r = a(9); return r; }",
+            0,
+            b"function 0 a frame 32 bound 64\nfunction 1 b frame 32 bound 32\nfunction 2 main frame 16 bound 80\nsite 0 a plain\nsite 1 b back\nsite 2 main plain\n",
+            NONE,
+        ),
+        (plain, NONE, 2, NONE, b"source: NoMain\n"),
+        (
+            plain,
+            b"int main() { int a; int a; return 0; }",
+            2,
+            NONE,
+            b"source: Twice at 24\n",
+        ),
+        (
+            plain,
+            b"int main() { put(self() + 1); return 0; }",
+            2,
+            NONE,
+            b"source: NestedCall at 17\n",
+        ),
+        (&["graph", "Q"], TWO, 9, NONE, b"absent: source\n"),
+        (
+            &["graph", "P", "Q"],
+            TWO,
+            1,
+            NONE,
+            b"usage: capriccio serve SRC, run SRC IMG CRT, build SRC IMG CRT, check SRC IMG CRT, graph SRC, demo N\n",
+        ),
+    ];
+    for (words, source, status, out, err) in table {
+        let given = answer(alloc, words, files_of(alloc, source, NONE, NONE)?)?;
+        assert!(rt;
+            given.0 == status && given.1.as_slice() == out && given.2.as_slice() == err,
+            "{source:?}"
+        );
+    }
+    Ok(())
+}
+
+#[test]
+fn checks(rt: HostRuntime) -> Result<(), Fail> {
+    let alloc = rt.alloc();
+    let words: &[&str] = &["check", "P", "I", "C"];
+    let seven = bytes_of(alloc, &IMAGE_OF_SEVEN)?;
+    let cut = seven.as_slice().get(..10).ok_or("ten bytes")?;
+    let mut long = seven.as_slice().to_vec(alloc)?;
+    long.push(0)?;
+    let two = bytes_of(alloc, &IMAGE_OF_TWO)?;
+    let table: [(&[u8], &[u8], &[u8], u8, &[u8], &[u8]); 7] = [
+        (
+            PUT_SEVEN,
+            seven.as_slice(),
+            CERTIFICATE_OF_SEVEN,
+            0,
+            b"accepted\n",
+            NONE,
+        ),
+        (
+            TWO,
+            two.as_slice(),
+            b"capriccio certificate 1\nchunk 64\nmax-path 32\nfunctions 2\nfunction 4104 16 16 12 16 0 4\nfunction 4168 27 16 12 16 0 4 8\nsites 1\nsite 0 plain\n",
+            3,
+            b"rejected V10 function 1 index 0\n",
+            NONE,
+        ),
+        (
+            TWO,
+            two.as_slice(),
+            b"capriccio certificate 1\nchunk 64\nmax-path 32\nfunctions 2\nfunction 4104 16 16 12 0 0 4\nfunction 4168 27 16 12 32 0 4 8\nsites 1\nsite 0 plain\n",
+            3,
+            b"rejected V11 function 0 index 1\n",
+            NONE,
+        ),
+        (
+            PUT_SEVEN,
+            cut,
+            CERTIFICATE_OF_SEVEN,
+            4,
+            NONE,
+            b"image: Short at 10\n",
+        ),
+        (
+            PUT_SEVEN,
+            long.as_slice(),
+            CERTIFICATE_OF_SEVEN,
+            4,
+            NONE,
+            b"image: Long at 120\n",
+        ),
+        (
+            PUT_SEVEN,
+            seven.as_slice(),
+            b"capriccio certificate 1\nchunk 4096\nmax-path 2032\nmax-path 2032\nfunctions 1\nfunction 4104 22 16 12 16 0\nsites 0\n",
+            4,
+            NONE,
+            b"certificate: Line 4\n",
+        ),
+        (
+            b"int main() { return; }",
+            cut,
+            NONE,
+            2,
+            NONE,
+            b"source: Kind at 13\n",
+        ),
+    ];
+    for (source, image, certificate, status, out, err) in table {
+        let given = answer(alloc, words, files_of(alloc, source, image, certificate)?)?;
+        assert!(rt;
+            given.0 == status && given.1.as_slice() == out && given.2.as_slice() == err,
+            "{err:?}"
+        );
+    }
+    Ok(())
+}
+
+/// The status of `check`, and what the output took, where that load of the shelf or that write to the output fails: 0 stands
+/// for none. The output takes 4 bytes a call.
+fn failing(alloc: Global, load: u64, write: u64) -> Result<(u8, Vec<u8>), AllocError> {
+    let words = words_of(alloc, &["check", "P", "I", "C"])?;
+    let image = bytes_of(alloc, &IMAGE_OF_SEVEN)?;
+    let mut loads = Vec::new(alloc);
+    if load > 0 {
+        loads.push((load, 0))?;
+    }
+    let mut writes = Vec::new(alloc);
+    if write > 0 {
+        writes.push(write)?;
+    }
+    let files = files_of(alloc, PUT_SEVEN, image.as_slice(), CERTIFICATE_OF_SEVEN)?;
+    let mut shelf = MemShelf::new(alloc, files, loads);
+    let mut trace = CleanSource::new(Vec::new(alloc));
+    let mut out = MemSink::new(alloc, 4, writes);
+    let mut err = CleanSink::new(alloc);
+    let status = capriccio(alloc, &words, &mut shelf, &mut trace, &mut out, &mut err);
+    Ok((status, out.bytes().to_vec(alloc)?))
+}
+
+#[test]
+fn failing_checks(rt: HostRuntime) -> Result<(), Fail> {
+    let table: [(u64, u64, u8, &[u8]); 6] = [
+        (1, 0, 6, NONE),
+        (2, 0, 6, NONE),
+        (3, 0, 6, NONE),
+        (0, 1, 7, NONE),
+        (0, 2, 7, b"acce"),
+        (4, 0, 0, b"accepted\n"),
+    ];
+    for (load, write, status, out) in table {
+        let given = failing(rt.alloc(), load, write)?;
+        assert!(rt;
+            given.0 == status && given.1.as_slice() == out,
+            "{load} {write}"
+        );
+    }
+    Ok(())
+}
