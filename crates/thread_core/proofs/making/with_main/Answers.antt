@@ -42,6 +42,7 @@ invariant_of-result c = record {
   chunks = (made c).chunks;
   state = (made c).kept;
   come = (made c).settled;
+  ready = λ thread r e. absurd (let x : None ≡ Some thread = e in cc);
   stopped = λ h. absurd (let e = h in cc);
 }
 
