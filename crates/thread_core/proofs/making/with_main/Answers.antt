@@ -1,4 +1,4 @@
-use Rattle.std.proofs.Common.{None, refl, ap, ◌∙◌}
+use Rattle.std.proofs.Common.{◌≡◌, Some, None, refl, ap, ◌∙◌}
 use Rattle.thread_core.proofs.MakingLaws.{main_fact, made_law, IsMade}
 use Rattle.thread_core.proofs.making.with_main.Goals as goal
 

@@ -1,4 +1,4 @@
-use Rattle.std.proofs.Common.{◌≡◌, ◌≤◌, None, ap, ◌∙◌}
+use Rattle.std.proofs.Common.{◌≡◌, ◌≤◌, Some, None, sym, ap, ◌∙◌}
 use Rattle.thread_core.specs.States.{machine_of}
 use Rattle.thread_core.proofs.OutsideLaws.{IsMoved, advanced_moved, between_is, come_between, between_come}
 use Rattle.machine_world.specs.Runs.{advanced}

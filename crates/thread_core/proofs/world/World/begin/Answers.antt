@@ -1,5 +1,6 @@
 use Rattle.std.proofs.Common.{◌≡◌, Option, Some, None, IsTrue, refl, sym, ◌∙◌, ap, subst}
-use Rattle.machine_world.specs.Threads.{Setting}
+use Rattle.certificate_check.specs.Accepting.{accepted_tree}
+use Rattle.segment_run.specs.Contexts.{checked_of}
 use Rattle.world_runs.specs.Running.{IsRunning}
 use Rattle.thread_core.specs.States.{machine_of, setting_of}
 use Rattle.thread_core.specs.Ready.{is_ready_in}
@@ -31,10 +32,10 @@ resume-requires-clause-ready c =
 pub run-requires : goal.run-requires
 run-requires c = c.resume.ensures.may
 
-mid_setting : (c : goal.After-resume) → setting_of c.self.inside.accepted c.self.inside.most c.resume.new.self ≡ setting_of c.self.inside.accepted c.self.inside.most c.self.inside.state
+mid_setting : (c : goal.After-run) → setting_of c.self.inside.accepted c.self.inside.most c.resume.new.self ≡ setting_of c.self.inside.accepted c.self.inside.most c.self.inside.state
 mid_setting c = λ i. record { code = c.self.inside.accepted.image.code; fuel = c.self.inside.most; backlog = c.resume.ensures.backlog i; caps = c.resume.ensures.caps i }
 
-mid_runs : (c : goal.After-resume) → IsRunning (checked_of c.self.inside.accepted) (accepted_tree c.self.inside.accepted) (setting_of c.self.inside.accepted c.self.inside.most c.resume.new.self) (machine_of c.self.inside.most c.resume.new.self)
+mid_runs : (c : goal.After-run) → IsRunning (checked_of c.self.inside.accepted) (accepted_tree c.self.inside.accepted) (setting_of c.self.inside.accepted c.self.inside.most c.resume.new.self) (machine_of c.self.inside.most c.resume.new.self)
 mid_runs c =
     begun_runs c.self.inside.accepted c.self.inside.most c.args.thread c.self.inside.accepted.program.well_scoped c.image-image.ensures.valid c.self.inside.state c.resume.new.self c.self.invariant.state
     (come_between c.self.inside.accepted c.self.inside.most c.self.inside.state c.self.inside.state.running

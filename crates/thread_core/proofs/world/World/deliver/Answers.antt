@@ -1,4 +1,4 @@
-use Rattle.std.proofs.Common.{◌≡◌, None, ap, ◌∙◌}
+use Rattle.std.proofs.Common.{◌≡◌, None, Some, sym, ap, ◌∙◌}
 use Rattle.c_mean.specs.ModelledCalls.{Message}
 use Rattle.thread_core.specs.States.{machine_of, setting_of}
 use Rattle.thread_core.proofs.OutsideLaws.{IsMoved, delivered_moved, between_is, come_between, between_come}
