@@ -6,7 +6,7 @@ use Rattle.cap_word.specs.declared.threads.ThreadId.{ThreadId}
 use Rattle.certificate_check.specs.Acceptance.{Acceptance}
 use Rattle.certificate_check.specs.Accepting.{accepted_tree}
 use Rattle.machine_world.specs.WellFormed.{IsWellFormed}
-use Rattle.segment_run.specs.Contexts.{checked_of, AreOf}
+use Rattle.segment_run.specs.Contexts.{checked_of, code_of, local_of, AreOf, IsReady}
 use Rattle.thread_waits.specs.Waiting.{wait_at}
 use Rattle.threads_by_number.specs.Found.{IsNumbered}
 use Rattle.world_runs.specs.Running.{IsRunning}
@@ -56,5 +56,8 @@ pub record IsKeptIn (w : Inside) : Type 0 where
   pub chunks : w.chunks ≡ w.state.areas.pool.count
   pub state : IsKept w.accepted w.most w.state
   pub come : HasCome w.accepted w.most w.state w.state.running
+  -- a thread whose segment is under way rests, behind an ECALL, as long as the run hasn't stopped
+  pub ready : (thread : ThreadId) (r : Record) → w.state.running ≡ Some thread → w.state.stopped ≡ None → get w.state.records thread.slot ≡ Some r →
+      IsReady (checked_of w.accepted) (code_of w.accepted) (local_of w.state.areas r.context)
   -- a run that has stopped had a segment under way
   pub stopped : IsSome w.state.stopped → IsSome w.state.running

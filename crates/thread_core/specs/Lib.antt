@@ -6,3 +6,7 @@ pub mod Inside
 pub mod Kept
 pub mod FirstParts
 pub mod Making
+pub mod Turns
+pub mod Parts
+pub mod Steps
+pub mod Starts

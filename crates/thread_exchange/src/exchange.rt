@@ -1,4 +1,4 @@
-ghost use Rattle.std.specs.Prelude.{◌≡◌, ◌+◌, ◌-◌, ◌≤◌, ◌<◌, ◌^◌, not, None, IfOk, nat_le, if◌then◌else◌};
+ghost use Rattle.std.specs.Prelude.{◌≡◌, ◌+◌, ◌-◌, ◌≤◌, ◌<◌, ◌^◌, not, None, IfOk, nat_le, length, if◌then◌else◌};
 ghost use Rattle.c_mean.specs.ModelledCalls as table;
 ghost use Rattle.c_mean.specs.ModelledCalls.{Arrival, Message, immediate_row};
 ghost use Rattle.c_mean.specs.World.{empty_exchange};
@@ -80,8 +80,11 @@ impl Exchange {
 
     /// The trap that a call which blocks is, if it is one.
     pub fn trap_of(&self, block: Block) -> Option<TrapKind>
-        ensures { result ≡ (row_of self.now block).trap }
+        ensures trap { result ≡ (row_of self.now block).trap }
+        ensures caps { length self.now.caps ≡ 8 }
     {
+        // What every exchange keeps: there are eight caps.
+        let _ = &self.caps;
         match block {
             Block::Accept | Block::Sleep { .. } | Block::Yield => None,
             Block::Wait { channel } => {

@@ -124,6 +124,7 @@ pub(crate) fn grow_trees(
 pub(crate) fn grow_places(places: &mut Vec<Option<Wait>>, count: usize) -> Result<(), AllocError>
     requires { length places.old.items ≤ count }
     ensures most { length places.new.items ≤ count }
+    ensures longer { length places.old.items ≤ length places.new.items }
     ensures same { (k : ℕ) → slice_index_or places.new.items k None ≡ slice_index_or places.old.items k None }
     ensures ok { OnOk result (length places.new.items ≡ count) }
 {

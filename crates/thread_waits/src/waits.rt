@@ -67,6 +67,7 @@ impl Waits {
     pub fn make_place(&mut self, alloc: Global, place: usize) -> Result<(), AllocError>
         requires { place < 2 ^ 32 }
         ensures there { OnOk result (place < length self.new.places) }
+        ensures longer { length self.old.places ≤ length self.new.places }
         ensures same { (other : ℕ) → wait_at self.new other ≡ wait_at self.old other }
         ensures clock { self.new.clock ≡ self.old.clock }
     {

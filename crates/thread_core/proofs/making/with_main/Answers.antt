@@ -1,4 +1,4 @@
-use Rattle.std.proofs.Common.{None, refl, ap, ◌∙◌}
+use Rattle.std.proofs.Common.{◌≡◌, Some, None, refl, ap, ◌∙◌}
 use Rattle.thread_core.proofs.MakingLaws.{main_fact, made_law, IsMade}
 use Rattle.thread_core.proofs.making.with_main.Goals as goal
 
@@ -42,6 +42,7 @@ invariant_of-result c = record {
   chunks = (made c).chunks;
   state = (made c).kept;
   come = (made c).settled;
+  ready = λ thread r e. absurd (let x : None ≡ Some thread = e in cc);
   stopped = λ h. absurd (let e = h in cc);
 }
 

@@ -1,4 +1,4 @@
-use Rattle.std.proofs.Common.{◌≡◌, ◌≤◌, None, ap, ◌∙◌}
+use Rattle.std.proofs.Common.{◌≡◌, ◌≤◌, Some, None, sym, ap, ◌∙◌}
 use Rattle.thread_core.specs.States.{machine_of}
 use Rattle.thread_core.proofs.OutsideLaws.{IsMoved, advanced_moved, between_is, come_between, between_come}
 use Rattle.machine_world.specs.Runs.{advanced}
@@ -15,5 +15,6 @@ invariant_of-self c =
       chunks = c.self.invariant.chunks;
       state = moved.kept;
       come = between_come c.self.inside.accepted c.self.inside.most (record c.self.inside.state { waits = c.advance.new.self }) c.self.inside.state.running between moved.settled;
+      ready = λ thread r e. absurd (let x : None ≡ Some thread = sym between ∙ e in cc);
       stopped = c.self.invariant.stopped;
     }

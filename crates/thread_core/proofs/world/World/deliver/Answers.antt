@@ -1,4 +1,4 @@
-use Rattle.std.proofs.Common.{◌≡◌, None, ap, ◌∙◌}
+use Rattle.std.proofs.Common.{◌≡◌, None, Some, sym, ap, ◌∙◌}
 use Rattle.c_mean.specs.ModelledCalls.{Message}
 use Rattle.thread_core.specs.States.{machine_of, setting_of}
 use Rattle.thread_core.proofs.OutsideLaws.{IsMoved, delivered_moved, between_is, come_between, between_come}
@@ -16,5 +16,6 @@ invariant_of-self-in-Message c =
       chunks = c.self.invariant.chunks;
       state = moved.kept;
       come = between_come c.self.inside.accepted c.self.inside.most (record c.self.inside.state { exchange = c.send-queued.new.self }) c.self.inside.state.running between moved.settled;
+      ready = λ thread r e. absurd (let x : None ≡ Some thread = sym between ∙ e in cc);
       stopped = c.self.invariant.stopped;
     }

@@ -1,0 +1,137 @@
+-- A thread that stands at the ECALL of a spawn: what the step of the world is, and what comes of it.
+use Rattle.std.proofs.Common.{◌≡◌, ◌≢◌, ℕ, ◌+◌, ◌-◌, ◌*◌, ◌^◌, ◌<◌, ◌≤◌, Bool, true, false, List, [], ◌∷◌, ◌++◌, length, Option, Some, None, refl, sym, ap, ◌∙◌, subst, arith, ⊎_elim}
+use Rattle.std.specs.Prelude.{IsSome, nat_eq, nat_le, slice_index_or, slice_set, map, option_map, Ok}
+use Rattle.std.proofs.lemmas.Bool.{cases_eq, cond-true, cond-false, ne_eqb}
+use Rattle.std.proofs.lemmas.Bool.Decides.{nat_tests}
+use Rattle.std.proofs.Math.ListN as list
+use Rattle.slab.specs.Slab.{Slab, get}
+use Rattle.c_lower.specs.ProgramCode.{lowered}
+use Rattle.cap_word.specs.declared.calls.Ask.{Ask}
+use Rattle.cap_word.specs.declared.stops.Stop.{Stop}
+use Rattle.cap_word.specs.declared.threads.ThreadId.{ThreadId}
+use Rattle.certificate_check.specs.Acceptance.{Acceptance}
+use Rattle.certificate_check.specs.Accepting.{accepted_tree}
+use Rattle.certificate_rules.specs.Validity.{IsValid}
+use Rattle.chunk_pool.specs.Pool.{Pool, Taken, taken_of, taken_for, fits, payload_bytes_of}
+use Rattle.flat_code.specs.declared.operations.Op.{Op}
+use Rattle.lowered_facts.proofs.Formed.{formed}
+use Rattle.machine_world.specs.Areas.{Areas}
+use Rattle.machine_world.specs.Local.{with_header}
+use Rattle.machine_world.specs.Places.{Checked}
+use Rattle.machine_world.specs.Threads.{Thread, World, Setting, Move, Stops, Spawns, thread_of, starts, spawned, retired, resumed, with_thread, start_core, replaced, most_threads, moved, step_of, step_on, step}
+use Rattle.machine_world.specs.WellFormed.{IsWellFormed, KeepsWellFormed}
+use Rattle.machine_world.proofs.FormWorlds.{KeepsWellFormed-step}
+use Rattle.segment_run.specs.Contexts.{checked_of, code_of, local_of, core_of}
+use Rattle.segment_run.specs.Segments.{IsAtSpawn, IsAtAsk}
+use Rattle.segment_steps.proofs.Needs.{NeedsFit-valid}
+use Rattle.stack_certificate.specs.Certificates.{fact_at, need_of}
+use Rattle.stack_certificate.specs.Templates.{kind_of}
+use Rattle.threads_by_number.proofs.Changing.{thread_found}
+use Rattle.thread_core.specs.Kept.{IsKept, IsRunningThere}
+use Rattle.thread_core.specs.States.{number_of, thread_of_record, threads_of, machine_of, setting_of, number_in}
+use Rattle.thread_core.specs.Steps.{Runs, LocalIs}
+use Rattle.thread_core.specs.declared.records.Record.{Record}
+use Rattle.thread_core.specs.declared.state.State.{State}
+
+module _ (accepted : Acceptance) (most : ℕ) (st : State) (thread : ThreadId) (runs : Runs accepted most st thread) (left : 0 < st.fuel.left) (function argument : ℕ)
+    (at : LocalIs st thread (λ l. IsAtAsk (checked_of accepted) (code_of accepted) l (Ask.Spawn function argument))) (valid : IsValid (lowered (accepted_tree accepted)) accepted.image accepted.certificate) where
+  abbrev pub c : Checked
+  c = checked_of accepted
+
+  abbrev pub s : Setting
+  s = setting_of accepted most st
+
+  abbrev pub w : World
+  w = machine_of most st
+
+  pub there : (r : Record) × (get st.records thread.slot ≡ Some r) × (r.number ≡ thread.number)
+  there = subst (IsRunningThere st) runs.is runs.kept.running
+
+  abbrev pub r : Record
+  r = there.0
+
+  abbrev pub t : Thread
+  t = thread_of_record st.areas.pool st.waits thread.slot r
+
+  pub found : thread_of w thread.number ≡ Some t
+  found = subst (λ (n : ℕ). thread_of w n ≡ Some t) there.2
+      (thread_found number_of (thread_of_record st.areas.pool st.waits) st.records.slots st.next thread.slot r (λ k x. refl) runs.kept.numbered there.1)
+
+  pub spawn : IsAtSpawn c (code_of accepted) (local_of st.areas r.context) function argument
+  spawn = at r there.1
+
+  abbrev pub entry : ℕ
+  entry = (fact_at accepted.certificate function).entry
+
+  abbrev pub need : ℕ
+  need = need_of (kind_of accepted.certificate (Op.Spawn spawn.site spawn.place function spawn.variable))
+
+  fuelled : nat_eq (most - st.fuel.left) most ≡ false
+  fuelled = ne_eqb (most - st.fuel.left) most (λ e. (let below = runs.kept.fuel in omega (arith, e, left, below)))
+
+  pub step_is : step s w ≡ starts w t entry argument need
+  unfolding step
+  step_is =
+      ap (λ (o : Option ThreadId). step_on s w (number_in o)) runs.is
+      ∙ ap (step_of s w) found
+      ∙ cond-false (nat_eq (most - st.fuel.left) most) (Stops Stop.Fuel) _ fuelled
+      ∙ ap (moved s w t) spawn.asks
+
+  -- ---- it stops
+
+  le_true : (a b : ℕ) → a ≤ b → nat_le a b ≡ true
+  le_true a b h = grind (arith, nat_tests, h)
+
+  le_false : (a b : ℕ) → b < a → nat_le a b ≡ false
+  le_false a b h = grind (arith, nat_tests, h)
+
+  pub many : most_threads ≤ st.live → step s w ≡ Stops Stop.Threads
+  many h = step_is ∙ cond-true (nat_le most_threads (length (threads_of st))) (Stops Stop.Threads) _
+      (le_true most_threads (length (threads_of st)) (let same = runs.kept.live in omega (arith, h, same)))
+
+  few_step : st.live < most_threads → step s w ≡ spawned w t entry argument (taken_for st.areas.pool need)
+  few_step h = step_is ∙ cond-false (nat_le most_threads (length (threads_of st))) (Stops Stop.Threads) _
+      (le_false most_threads (length (threads_of st)) (let same = runs.kept.live in omega (arith, h, same)))
+
+  no_chunk : (free : List ℕ) → length free ≡ 0 → taken_of st.areas.pool need free ≡ None
+  no_chunk [] e = refl
+  no_chunk (x ∷ xs) e = absurd (omega (arith, e))
+
+  pub empty : st.live < most_threads → length st.areas.pool.free ≡ 0 → step s w ≡ Stops Stop.NoChunk
+  empty few none = few_step few ∙ ap (spawned w t entry argument) (no_chunk st.areas.pool.free none)
+
+  -- ---- it starts a thread
+
+
+
+  need_fits : need ≤ payload_bytes_of st.areas.pool 0
+  need_fits =
+      let fit = (NeedsFit-valid (lowered (accepted_tree accepted)) accepted.image accepted.certificate (formed (accepted_tree accepted) accepted.image accepted.certificate accepted.program.well_scoped valid) valid).spawned
+          spawn.rests.function spawn.rests.operation spawn.site function spawn.variable spawn.place spawn.rests.at.frames_are.at.0 spawn.rests.at.operation in
+      let size = runs.kept.formed.areas.chunk in
+      omega (arith, fit, size)
+
+  pub record Takes : Type 0 where
+    pub taken : Taken
+    pub is : taken_for st.areas.pool need ≡ Some taken
+
+  takes_by : (free : List ℕ) → (length free ≡ 0 → ⊥) → (tk : Taken) × (taken_of st.areas.pool need free ≡ Some tk)
+  takes_by [] some = absurd (some refl)
+  takes_by (x ∷ xs) some =
+      let tk : Taken = record { chunk = x; pool = record st.areas.pool { free = xs } } in
+      (tk, cond-true (fits st.areas.pool need x) (Some tk) None (le_true need (payload_bytes_of st.areas.pool x) need_fits))
+
+  pub takes : (length st.areas.pool.free ≡ 0 → ⊥) → Takes
+  takes some = let tk = takes_by st.areas.pool.free some in record { taken = tk.0; is = tk.1 }
+
+  pub need_within : need ≤ payload_bytes_of st.areas.pool 0
+  need_within = need_fits
+
+  abbrev pub after : Taken → World
+  after taken = with_thread (retired w (resumed t (Some st.next)) st.areas) taken entry argument
+
+  pub starts_one : st.live < most_threads → (tk : Takes) → step s w ≡ Spawns st.next (after tk.taken)
+  starts_one few tk = few_step few ∙ ap (spawned w t entry argument) tk.is
+
+  pub after_formed : st.live < most_threads → (tk : Takes) → IsWellFormed c s (after tk.taken)
+  after_formed few tk = subst (KeepsWellFormed c s) (starts_one few tk) (KeepsWellFormed-step c s w runs.kept.formed)

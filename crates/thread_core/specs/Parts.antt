@@ -1,0 +1,27 @@
+-- Parts of a call: a thread's record and its context.
+use Rattle.std.specs.Prelude.{◌≡◌, ◌≢◌, ℕ, ◌+◌, Option, Some, None}
+use Rattle.slab.specs.Slab.{get}
+use Rattle.cap_word.specs.declared.threads.ThreadId.{ThreadId}
+use Rattle.rv_machine.specs.Registers.{write}
+use Rattle.segment_run.specs.declared.contexts.Context.{Context}
+use Rattle.thread_core.specs.declared.records.Record.{Record}
+use Rattle.thread_core.specs.declared.state.State.{State}
+
+-- what holds of the context of a thread
+abbrev pub ContextIs : State → ThreadId → (Context → Type 0) → Type 0
+ContextIs st thread P = (r : Record) → get st.records thread.slot ≡ Some r → P r.context
+
+-- the record of a thread has this context, and every other record is as it was
+pub record HasContext (old : State) (thread : ThreadId) (context : Context) (new : State) : Type 0 where
+  pub written : (r : Record) → get old.records thread.slot ≡ Some r → get new.records thread.slot ≡ Some (record r { context = context })
+  pub others : (place : ℕ) → place ≢ thread.slot → get new.records place ≡ get old.records place
+
+-- a context past its ECALL, with the call's result
+abbrev pub passed_context : Context → Option ℕ → Context
+passed_context context None = record context { pc = context.pc + 4 }
+passed_context context (Some value) = record context { pc = context.pc + 4; x = write context.x 10 value }
+
+-- and with what its call answers, where it does
+abbrev pub answered_context : Context → Option ℕ → Context
+answered_context context None = context
+answered_context context (Some value) = record context { x = write context.x 10 value }

@@ -1,0 +1,49 @@
+ghost use Rattle.std.specs.Prelude.{◌≡◌, None};
+ghost use Rattle.thread_core.specs.Turns.{MayBegin, MayProceed, Begins, Proceeds, KeepsSetting, AnswersAgain};
+ghost use Rattle.thread_core.specs.Worlds.{KeepsPlaces};
+
+use crate::turns::Turn;
+use crate::world::World;
+use cap_word::ThreadId;
+
+impl World {
+    /// Begins a segment of a thread that is ready: the effect of resuming, and then the thread runs up to what the turn
+    /// tells. Where the run has stopped the answer is as it was.
+    pub fn begin(&mut self, thread: ThreadId) -> Turn
+        requires { MayBegin self.old thread self.old.stopped }
+        ensures begins { self.old.stopped ≡ None → Begins self.old thread.number result self.new }
+        ensures again { AnswersAgain self.old self.old.stopped result self.new }
+        ensures setting { KeepsSetting self.old self.new }
+        ensures places { KeepsPlaces self.old self.new }
+    {
+        match self.state.stopped {
+            Some(turn) => turn,
+            None => {
+                // What the image's call tells: the pair is valid.
+                let _image = self.accepted.image();
+                self.state.resume(&self.accepted, self.most, thread);
+                self.state.run(&self.accepted, self.most, thread)
+            }
+        }
+    }
+
+    /// The segment under way goes on, up to what the turn tells. Where the run has stopped the answer is as it was.
+    pub fn proceed(&mut self) -> Turn
+        requires { MayProceed self.old self.old.stopped }
+        ensures proceeds { self.old.stopped ≡ None → Proceeds self.old result self.new }
+        ensures again { AnswersAgain self.old self.old.stopped result self.new }
+        ensures setting { KeepsSetting self.old self.new }
+        ensures places { KeepsPlaces self.old self.new }
+    {
+        match self.state.stopped {
+            Some(turn) => turn,
+            None => match self.state.running {
+                Some(thread) => {
+                    let _image = self.accepted.image();
+                    self.state.run(&self.accepted, self.most, thread)
+                }
+                None => unreachable!(),
+            },
+        }
+    }
+}
