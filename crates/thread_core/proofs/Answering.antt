@@ -179,7 +179,7 @@ module _ (accepted : Acceptance) (most : ℕ) (st : State) (thread : ThreadId) (
       (st4 : State) (result : Context) (has : HasContext (record st { exchange = exchange }) thread result st4) (context_is : ContextIs (record st { exchange = exchange }) thread (λ context. result ≡ passed_context context answer))
       (rest : st4 ≡ record st { exchange = exchange; records = st4.records; fuel = st4.fuel; waits = record st.waits { clock = st.waits.clock + 1 } }) (less : st4.fuel.left + 1 ≡ st.fuel.left)
       (rests : (a : Acceptance) (areas : Areas) → IsValid (lowered (accepted_tree a)) a.image a.certificate → ContextIs (record st { exchange = exchange }) thread (λ context. RestsBefore (checked_of a) (local_of areas context)) →
-          RestsBehind (checked_of a) (code_of a) (local_of areas result)) where
+      RestsBehind (checked_of a) (code_of a) (local_of areas result)) where
     behind_now : RestsBehind (checked_of accepted) (code_of accepted) (local_of st.areas result)
     behind_now = rests accepted st.areas valid (all_there (λ x. RestsBefore (checked_of accepted) (local_of st.areas x.context)) rests_before)
 

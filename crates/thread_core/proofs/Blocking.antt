@@ -235,9 +235,9 @@ module _ (accepted : Acceptance) (most : ℕ) (st : State) (thread : ThreadId) (
           let here : HasKeyOf (checked_of accepted) st.areas.pool (core_of st.areas.pool result) key = key_by (checked_of accepted) st.areas.pool (core_of st.areas.pool result) key behind.rests behind.behind is in
           let number : r.number ≡ thread.number = (its_record accepted most st thread runs).2 in
           let found : thread_of (machine_of most new) thread.number ≡ Some (thread_of_record st.areas.pool waits thread.slot (record r { context = result })) =
-              subst (λ (n : ℕ). thread_of (machine_of most new) n ≡ Some (thread_of_record st.areas.pool waits thread.slot (record r { context = result }))) number (found_at accepted most new kept_new thread.slot (record r { context = result }) written) in
+          subst (λ (n : ℕ). thread_of (machine_of most new) n ≡ Some (thread_of_record st.areas.pool waits thread.slot (record r { context = result }))) number (found_at accepted most new kept_new thread.slot (record r { context = result }) written) in
           let keyed : HasKey (checked_of accepted) (machine_of most new) (thread_of (machine_of most new) thread.number) key =
-              has_key (checked_of accepted) (machine_of most new) (thread_of (machine_of most new) thread.number) (thread_of_record st.areas.pool waits thread.slot (record r { context = result })) key found here in
+          has_key (checked_of accepted) (machine_of most new) (thread_of (machine_of most new) thread.number) (thread_of_record st.areas.pool waits thread.slot (record r { context = result })) key found here in
           record {
             kept = kept_new;
             rest = record { caps = refl; backlog = refl; chunks = refl; begun = refl };
@@ -255,15 +255,15 @@ module _ (accepted : Acceptance) (most : ℕ) (st : State) (thread : ThreadId) (
   passed_told untrapped st4 result waits4 since cost key has context_is rest less behind since_is waits_is cost_is key_is =
       let time : since ≡ st.waits.clock + 1 = since_is ∙ ap (λ (x : State). x.waits.clock) rest in
       let waits_are : waits4 ≡ record { places = slice_set st.waits.places thread.slot (Some (Wait.At block (st.waits.clock + 1))); clock = st.waits.clock + 1 } =
-          waits_is ∙ ap (λ (x : State). record x.waits { places = slice_set x.waits.places thread.slot (Some (Wait.At block since)) }) rest
-          ∙ ap (λ (n : ℕ). let w : Waiting = record { places = slice_set st.waits.places thread.slot (Some (Wait.At block n)); clock = st.waits.clock + 1 } in w) time in
+      waits_is ∙ ap (λ (x : State). record x.waits { places = slice_set x.waits.places thread.slot (Some (Wait.At block since)) }) rest
+      ∙ ap (λ (n : ℕ). let w : Waiting = record { places = slice_set st.waits.places thread.slot (Some (Wait.At block n)); clock = st.waits.clock + 1 } in w) time in
       let final : record st4 { waits = waits4; running = None } ≡ new untrapped st4.records st4.fuel result =
-          ap (λ (x : State). record x { waits = waits4; running = None }) rest
-          ∙ ap (λ (w : Waiting). record st { records = st4.records; fuel = st4.fuel; waits = w; running = None }) waits_are in
+      ap (λ (x : State). record x { waits = waits4; running = None }) rest
+      ∙ ap (λ (w : Waiting). record st { records = st4.records; fuel = st4.fuel; waits = w; running = None }) waits_are in
       let begun : st4.begun ≡ st.begun = ap (λ (x : State). x.begun) rest in
       let cost_now : cost ≡ most - st4.fuel.left - st.begun = cost_is ∙ ap (λ (n : ℕ). most - st4.fuel.left - n) begun in
       let keyed : (f i word : ℕ) (op : Op) (place : Place) (frames : List Frame) → IsPastCall (checked_of accepted) st.areas.pool (core_of st.areas.pool result) f i op word place frames → key ≡ key_of (checked_of accepted) f i frames =
-          subst (λ (pool : Pool). (f i word : ℕ) (op : Op) (place : Place) (frames : List Frame) → IsPastCall (checked_of accepted) pool (core_of pool result) f i op word place frames → key ≡ key_of (checked_of accepted) f i frames) (ap (λ (x : State). x.areas.pool) rest) key_is in
+      subst (λ (pool : Pool). (f i word : ℕ) (op : Op) (place : Place) (frames : List Frame) → IsPastCall (checked_of accepted) pool (core_of pool result) f i op word place frames → key ≡ key_of (checked_of accepted) f i frames) (ap (λ (x : State). x.areas.pool) rest) key_is in
       let told = blocked_told untrapped st4.records st4.fuel result (has.written r there) has.others (context_is r there) less behind key keyed in
       subst (Told accepted most thread st (Some (Turn.Blocked key cost))) (sym final)
       (subst (λ (n : ℕ). Told accepted most thread st (Some (Turn.Blocked key n)) (new untrapped st4.records st4.fuel result)) (sym cost_now) told)

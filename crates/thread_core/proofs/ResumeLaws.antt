@@ -82,8 +82,8 @@ module _ (accepted : Acceptance) (most : ℕ) (st : State) (kept : IsKept accept
       × (threads_in number_of (thread_of_record st.areas.pool waits) records.slots st.next ≡ replaced (record { number = r.number; core = core_of st.areas.pool context; blocked = None }) (threads_of st))
   both_parts =
       let written = record_written number_of (thread_of_record st.areas.pool st.waits) (thread_of_record st.areas.pool waits) st.records.slots records.slots st.next thread.slot r (record r { context = context })
-              (λ k s. refl) (λ k s. refl) kept.numbered there now_there refl
-              (record { records = λ k apart. others k apart; threads = λ k s apart e. ap (λ (o : Option Wait). let t : Thread = record { number = s.number; core = core_of st.areas.pool s.context; blocked = blocked_of o } in t) (elsewhere k apart) }) in
+      (λ k s. refl) (λ k s. refl) kept.numbered there now_there refl
+      (record { records = λ k apart. others k apart; threads = λ k s apart e. ap (λ (o : Option Wait). let t : Thread = record { number = s.number; core = core_of st.areas.pool s.context; blocked = blocked_of o } in t) (elsewhere k apart) }) in
       (written.0, written.1 ∙ ap (λ (o : Option Wait). replaced (record { number = r.number; core = core_of st.areas.pool context; blocked = blocked_of o }) (threads_of st)) gone)
 
   was_there : (place : ℕ) (t : Record) → get records place ≡ Some t → (place ≡ thread.slot) ⊎ (place ≢ thread.slot) → (s : Record) × (get st.records place ≡ Some s)
@@ -125,7 +125,7 @@ module _ (accepted : Acceptance) (most : ℕ) (st : State) (kept : IsKept accept
       if_so (is_none (number_in st.running)) still (picked (setting_of accepted most st) (machine_of most st) (first_with thread.number (threads_of st))) None
       ∙ ap (picked (setting_of accepted most st) (machine_of most st)) found_now
       ∙ if_so (may_run (setting_of accepted most st) (machine_of most st) (blocked_of (wait_at st.waits thread.slot))) may
-          (Some (picked_at (setting_of accepted most st) (machine_of most st) (thread_of_record st.areas.pool st.waits thread.slot r) (blocked_of (wait_at st.waits thread.slot)))) None
+      (Some (picked_at (setting_of accepted most st) (machine_of most st) (thread_of_record st.areas.pool st.waits thread.slot r) (blocked_of (wait_at st.waits thread.slot)))) None
       ∙ ap Some e
 
   -- all is kept, where a pick leads there

@@ -114,7 +114,7 @@ module _ (accepted : Acceptance) (most : ℕ) (thread : ThreadId) (old : State) 
     kept_thread : (k : ℕ) (s : Record) → (k ≡ thread.slot → ⊥) → get old.records k ≡ Some s → thread_of_record areas.pool (record old.waits { clock = clock }) k s ≡ thread_of_record old.areas.pool old.waits k s
     kept_thread k s apart e =
         let all : AllByRecursion (λ chunk. chunk_of areas.pool chunk ≡ chunk_of old.areas.pool chunk) (chain_from old.areas.pool s.context.chunk s.context.depth) =
-            segment_keeps world r.number s.number runner (thread_of_record old.areas.pool old.waits k s) areas.pool kept.formed.counted found (found_at accepted most old kept k s e) (other_number k s e apart) others in
+        segment_keeps world r.number s.number runner (thread_of_record old.areas.pool old.waits k s) areas.pool kept.formed.counted found (found_at accepted most old kept k s e) (other_number k s e apart) others in
         let words : areas.pool.words ≡ old.areas.pool.words = omega (arith, of.chunk, kept.areas.chunk) in
         ap (with_chain s (blocked_of (wait_at old.waits k))) (chain_stays old.areas.pool areas.pool s.context.chunk s.context.depth words all)
 
@@ -251,12 +251,12 @@ module _ (accepted : Acceptance) (most : ℕ) (thread : ThreadId) (old : State) 
           let before : World = after_silent world runner at steps in
           let goes : GoesOn setting steps world before = goes_at steps spare at leads sum in
           let turns : step setting before ≡ moved setting before (record runner { core = at.core }) (runs.Stops (local.Ended areas)) =
-              step_turns setting world runner at steps (runs.Stops (local.Ended areas)) runs_there found (omega (arith, sum, left, kept.fuel)) ends in
+          step_turns setting world runner at steps (runs.Stops (local.Ended areas)) runs_there found (omega (arith, sum, left, kept.fuel)) ends in
           let time : old.waits.clock + steps + 1 ≡ clock = omega (arith, sum, left) in
           let cost : most - old.fuel.left + steps + 1 ≡ most - fuel.left = omega (arith, sum, left, kept.fuel) in
           let threads : without r.number (replaced (record runner { core = at.core }) world.threads) ≡ threads_of left_by = replaced_gone (record runner { core = at.core }) world.threads ∙ sym threads_left.1 in
           let is : record before { threads = without r.number (replaced (record runner { core = at.core }) world.threads); areas = areas; clock = old.waits.clock + steps + 1; cost = most - old.fuel.left + steps + 1; running = None } ≡ machine_of most left_by =
-              (λ i. record before { threads = threads i; areas = areas; clock = time i; cost = cost i; running = None }) in
+          (λ i. record before { threads = threads i; areas = areas; clock = time i; cost = cost i; running = None }) in
           let stepped : step setting before ≡ machine.Ends (machine_of most left_by) = turns ∙ ap (λ (w : World). machine.Ends w) is in
           let formed_before : IsWellFormed (checked_of accepted) setting before = formed_on (checked_of accepted) setting steps world before kept.formed goes in
           let formed : IsWellFormed (checked_of accepted) setting (machine_of most left_by) = subst (KeepsWellFormed (checked_of accepted) setting) stepped (KeepsWellFormed-step (checked_of accepted) setting before formed_before) in

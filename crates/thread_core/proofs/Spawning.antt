@@ -102,12 +102,10 @@ module _ (accepted : Acceptance) (most : ℕ) (st : State) (thread : ThreadId) (
 
   -- ---- it starts a thread
 
-
-
   need_fits : need ≤ payload_bytes_of st.areas.pool 0
   need_fits =
       let fit = (NeedsFit-valid (lowered (accepted_tree accepted)) accepted.image accepted.certificate (formed (accepted_tree accepted) accepted.image accepted.certificate accepted.program.well_scoped valid) valid).spawned
-          spawn.rests.function spawn.rests.operation spawn.site function spawn.variable spawn.place spawn.rests.at.frames_are.at.0 spawn.rests.at.operation in
+      spawn.rests.function spawn.rests.operation spawn.site function spawn.variable spawn.place spawn.rests.at.frames_are.at.0 spawn.rests.at.operation in
       let size = runs.kept.formed.areas.chunk in
       omega (arith, fit, size)
 

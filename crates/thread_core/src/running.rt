@@ -83,7 +83,8 @@ impl State {
         let context = self.pass(thread, None);
         let key = walk(accepted, self.areas.pool(), &context);
         let since = self.waits.clock();
-        self.waits.wait(thread.slot as usize, Wait::At { block, since });
+        self.waits
+            .wait(thread.slot as usize, Wait::At { block, since });
         self.running = None;
         Turn::Blocked {
             key,

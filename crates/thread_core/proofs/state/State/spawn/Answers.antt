@@ -46,4 +46,4 @@ pub returns : goal.returns
 returns c =
     let few : c.args.self.now.live < most_threads = omega (arith, c.if-self-ge-MOST_THREADS.false) in
     spawned.spawned_told c.args.accepted.now c.args.most c.args.self.now c.args.thread c.requires.runs c.requires.fuel c.args.function c.args.argument c.requires.at c.image-image.ensures.valid few (λ e. c.if-free-eq0.false (c.free.ensures.count ∙ ap (λ (p : Pool). length p.free) c.pool.ensures ∙ e)) c.free_place.new.self c.free_place.ensures.more c.in-Some.slot c.in-Some.ensures.place c.in-Some-start.context c.start.new.areas c.in-Some-start.ensures.machine c.start.ensures.areas c.add.new.self c.add.ensures
-        c.pass-passed.new.self c.pass-passed.result c.pass-passed.ensures.record c.pass-passed.ensures.context c.pass-passed.ensures.rest c.pass-passed.ensures.fuel c.pass-passed.ensures.rests
+    c.pass-passed.new.self c.pass-passed.result c.pass-passed.ensures.record c.pass-passed.ensures.context c.pass-passed.ensures.rest c.pass-passed.ensures.fuel c.pass-passed.ensures.rests

@@ -15,7 +15,7 @@ run-requires c = record {
 pub invariant_of-self : goal.invariant_of-self
 invariant_of-self c =
     let k = came c.self.inside.accepted c.self.inside.most c.in-Some-running.thread c.self.inside.accepted.program.well_scoped c.image-image.ensures.valid c.self.inside.state c.run.new.self c.self.invariant.state
-            (come_is c.self.inside.accepted c.self.inside.most c.self.inside.state c.self.inside.state.running c.in-Some-running.thread c.in-Some-running.is c.self.invariant.come) c.run.result c.run.ensures in
+    (come_is c.self.inside.accepted c.self.inside.most c.self.inside.state c.self.inside.state.running c.in-Some-running.thread c.in-Some-running.is c.self.invariant.come) c.run.result c.run.ensures in
     record {
       chunks = c.self.invariant.chunks ∙ sym c.run.ensures.rest.chunks;
       state = c.run.ensures.kept;
