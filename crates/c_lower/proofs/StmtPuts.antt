@@ -1,7 +1,6 @@
 -- The sizes of what jumps pass over are taken from the end of a list while a statement's code is put.
 use Rattle.std.proofs.Common.{◌≡◌, ◌+◌, ℕ, List, [], ◌∷◌, ◌++◌, length, sym, ap, ◌∙◌, append_assoc}
-use Rattle.std.proofs.lemmas.List.{append-nil}
-use Rattle.std.specs.Prelude.{Option, Result, Ok, Err, OnOk}
+use Rattle.std.specs.Prelude.{Option}
 use Rattle.c_tree.specs.Trees.{ExprTree, SimpleTree, StmtTree, StmtTrees, If, IfElse, While, For, Then}
 use Rattle.flat_code.specs.declared.operations.Op.{Op}
 use Rattle.c_lower.specs.ExprCode.{expr_size}
@@ -16,10 +15,6 @@ Put c1 c2 s1 s2 s t leave skip = (rest : List ℕ) → s1 ≡ rest ++ stmt_sizes
 -- the last size is taken
 abbrev pub Taken : (s1 s2 : List ℕ) (size : ℕ) → Type 0
 Taken s1 s2 size = (rest : List ℕ) → (n : ℕ) → s1 ≡ rest ++ (n ∷ []) → (size ≡ n) × (s2 ≡ rest)
-
--- what has no sizes
-pub none_taken : {A : Type 0} {P : Type 0} (s : List A) → P → (rest : List A) → s ≡ rest ++ [] → P × (s ≡ rest)
-none_taken s h rest e = (h, e ∙ append-nil rest)
 
 -- a statement's sizes come before its own
 pub own : (s1 s2 : List ℕ) (size : ℕ) (rest inside : List ℕ) (n : ℕ) → Taken s1 s2 size → s1 ≡ rest ++ (inside ++ (n ∷ [])) → (size ≡ n) × (s2 ≡ rest ++ inside)

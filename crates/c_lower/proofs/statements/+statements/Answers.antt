@@ -1,4 +1,4 @@
-use Rattle.std.proofs.Common.{◌≡◌, ◌+◌, [], ◌∷◌, ◌++◌, ◌∙◌, List, ℕ, length, map, drop, ap, subst, arith}
+use Rattle.std.proofs.Common.{◌≡◌, ◌+◌, ◌∷◌, ◌++◌, ℕ, length, map, drop, subst, arith}
 use Rattle.std.specs.Prelude.{option_map}
 use Rattle.c_tree.specs.declared.statements.Stmt.{Stmt}
 use Rattle.c_tree.specs.Views.{expr_tree, simple_tree, stmt_tree, stmt_trees}
