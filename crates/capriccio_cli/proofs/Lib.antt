@@ -18,5 +18,4 @@ pub mod Follows
 pub mod Ending
 pub mod Analyses
 pub mod Appended
-pub mod OneSource
 pub mod OneCase

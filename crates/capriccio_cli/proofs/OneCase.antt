@@ -41,7 +41,7 @@ use Rattle.capriccio_cli.specs.Graphs.{Graphs, GraphsProgram, IsFrameRefused, na
 use Rattle.capriccio_cli.specs.Checks.{Checks, ChecksBytes, ChecksPair, IsVerdict, verdict_outcome}
 use Rattle.capriccio_cli.specs.Due.{Does, IsDue}
 use Rattle.capriccio_cli.specs.Done.{Outside, IsRisen, IsDone, NoFault, IsExact, IsCase}
-use Rattle.capriccio_cli.proofs.OneSource.{one_program, one_source_error, never}
+use Rattle.c_scope.proofs.SourceTexts.{one_program, one_source_error, never}
 
 alike : (a b o : Outcome) → a ≡ o → b ≡ o → IsCase a b
 alike a b o p q = (ap (λ (x : Outcome). x.status) (p ∙ sym q), ap (λ (x : Outcome). x.line) (p ∙ sym q))
