@@ -19,4 +19,11 @@ pub mod Ending
 pub mod Analyses
 pub mod Appended
 pub mod OneSource
+pub mod RisingLists
+pub mod OnePlan
+pub mod LoweredGraph
+pub mod OneBuild
 pub mod OneCase
+pub mod Sizes
+pub mod Limits
+pub mod Built
