@@ -1,4 +1,4 @@
--- A program has one placement for paths of a length, and so its code is too large or not, by one count of words.
+-- A program has one placement for paths of a length, and so one analysis, and its code is too large or not, by one count of words.
 use Rattle.std.proofs.Common.{◌≡◌, ℕ, ◌-◌, ◌^◌, ◌<◌, ◌≤◌, min, List, length, refl, sym, ap, subst, ◌∙◌, arith}
 use Rattle.std.proofs.lemmas.List.{length-map}
 use Rattle.c_tree.specs.Trees.{ProgramTree}
@@ -17,7 +17,9 @@ use Rattle.stack_image.specs.declared.images.Image.{Image}
 use Rattle.stack_certificate.specs.declared.certificates.Certificate.{Certificate}
 use Rattle.stack_build.specs.Builds.{IsPlanned, IsLaidOut, IsTooLarge}
 use Rattle.stack_build.specs.declared.refusals.BuildError.TheVariants.{CodeTooLarge}
+use Rattle.analysis_lines.specs.Lines.{analysis_lines}
 use Rattle.capriccio_cli.specs.BuildsFiles.{HasFittingCode}
+use Rattle.capriccio_cli.specs.Graphs.{IsAnalysed, names_of}
 use Rattle.capriccio_cli.proofs.LoweredGraph.{lowered-graph}
 use Rattle.capriccio_cli.proofs.OnePlan.{graphs-are-one, placements-are-one}
 
@@ -31,6 +33,17 @@ module _ (p : ProgramTree) (scoped : IsWellScoped p) where
       subst (λ (g : CallGraphState). IsPlacement g (back_edges g) path a) graphs (subst (λ (numbers : List ℕ). IsPlacement h.0 numbers path a) one.back_is one.placed) in
       let second : IsPlacement k.0 (back_edges k.0) path b = subst (λ (numbers : List ℕ). IsPlacement k.0 numbers path b) two.back_is two.placed in
       placements-are-one k.0 path a b (lowered-graph p scoped k.0 two.graph_is) first second
+
+  -- one text of its analysis
+  pub texts-are-one : (path : ℕ) (s t : List ℕ) → IsAnalysed p path s → IsAnalysed p path t → s ≡ t
+  texts-are-one path s t h k =
+      let one = h.placed in
+      let two = k.placed in
+      let graphs : h.graph ≡ k.graph = graphs-are-one (lowered p) h.graph k.graph one.graph_is two.graph_is in
+      let plans : h.plan ≡ k.plan = plans-are-one path h.plan k.plan (h.graph, h.back, h.placed) (k.graph, k.back, k.placed) in
+      let backs : h.back ≡ k.back = one.back_is ∙ (ap (λ (g : CallGraphState). back_edges g) graphs ∙ sym two.back_is) in
+      let lines : CallGraphState → List ℕ → Plan → List ℕ = λ g back plan. analysis_lines (names_of p) g.weights plan.bounds g.sites back plan.checkpointed in
+      h.lines ∙ (ap (λ (g : CallGraphState). lines g h.back h.plan) graphs ∙ (ap (λ (back : List ℕ). lines k.graph back h.plan) backs ∙ (ap (λ (plan : Plan). lines k.graph k.back plan) plans ∙ sym k.lines)))
 
   pub words-are-one : (options : Options) (m n : ℕ) → IsTooLarge (lowered p) options (CodeTooLarge m) → IsTooLarge (lowered p) options (CodeTooLarge n) → m ≡ n
   words-are-one options m n h k =
