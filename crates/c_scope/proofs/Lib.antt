@@ -29,4 +29,4 @@ pub mod Counted
 pub mod LeastFaults
 pub mod Resolved
 pub mod OneOutcome
-mod SourceTexts
+pub mod SourceTexts

@@ -96,10 +96,10 @@ one_stage source e d (by_rules x p h n) (by_rules y q k m) =
     let P : List RawItemTree → Type 0 = λ t. IsRefused t x in
     p ∙ (ap by_scope (scoping.one_refusal k.tree x y (subst P (one_tree source h.tokens k.tokens h.tree k.tree h.lexed k.lexed h.parsed k.parsed) h.refused) n k.refused m) ∙ sym q)
 
-never : (source : List ℕ) (p : ProgramTree) (e : SourceError) → ReadsAs source p → IsSourceErrorOf source e → ⊥
+pub never : (source : List ℕ) (p : ProgramTree) (e : SourceError) → ReadsAs source p → IsSourceErrorOf source e → ⊥
 never source p e r h = never_stage source p e r (stage source e h)
 
-one_source_error : (source : List ℕ) (e d : SourceError) → IsSourceErrorOf source e → IsSourceErrorOf source d → e ≡ d
+pub one_source_error : (source : List ℕ) (e d : SourceError) → IsSourceErrorOf source e → IsSourceErrorOf source d → e ≡ d
 one_source_error source e d h k = one_stage source e d (stage source e h) (stage source d k)
 
 pub one_program : (source : List ℕ) (p q : ProgramTree) → ReadsAs source p → ReadsAs source q → p ≡ q

@@ -18,7 +18,6 @@ pub mod Follows
 pub mod Ending
 pub mod Analyses
 pub mod Appended
-pub mod OneSource
 pub mod RisingLists
 pub mod OnePlan
 pub mod LoweredGraph

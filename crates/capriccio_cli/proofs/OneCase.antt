@@ -44,7 +44,7 @@ use Rattle.capriccio_cli.specs.Checks.{Checks, ChecksBytes, ChecksPair, IsVerdic
 use Rattle.capriccio_cli.specs.BuildsFiles.{BuildsCode, BuildsProgram, built}
 use Rattle.capriccio_cli.specs.Due.{Does, IsDue, sizes_of}
 use Rattle.capriccio_cli.specs.Done.{Outside, IsRisen, IsDone, NoFault, IsExact, IsCase}
-use Rattle.capriccio_cli.proofs.OneSource.{one_program, one_source_error, never}
+use Rattle.c_scope.proofs.SourceTexts.{one_program, one_source_error, never}
 use Rattle.capriccio_cli.proofs.OneBuild.{words-are-one}
 
 alike : (a b o : Outcome) → a ≡ o → b ≡ o → IsCase a b

@@ -53,13 +53,14 @@ impl TraceReader {
     /// its time is below the last; ReadFault only where the source's count of faults rose in this call, or stands at its
     /// end. After a refusal the reader gives the same refusal again and reads nothing. An event's time is at most 10^15
     /// and not below the last, and its channel at most 63, also where the source tells nothing of its bytes. At every
-    /// answer the source has a tail of its bytes left. It takes no memory.
+    /// answer it has given at most 1,000,000 lines, and the source has a tail of its bytes left. It takes no memory.
     pub fn next<S: Source>(&mut self, source: &mut S) -> Result<Option<Event>, TraceError>
         ensures again { IfSome self.old.refused (λ refusal. result ≡ Err refusal × self.new ≡ self.old × source.new ≡ source.old) }
         ensures told { self.old.refused ≡ None → NextTold self.old self.new (S.left source.old) (S.left source.new) result }
         ensures fits { IfOk result (λ answer. IfSome answer (λ event. FitsEvent event × (self.old.last ≤ event.time))) }
         ensures tail { LeavesTail (S.left source.old) (S.left source.new) }
         ensures kept { self.old.refused ≡ None → KeepsRefusal self.old self.new result }
+        ensures counted { self.new.lines ≤ 1000000 }
         ensures counts { self.old.refused ≡ None → CountsNext result (S.faults source.old) (S.faults source.new) }
         ensures never_falls { S.faults source.old ≤ S.faults source.new }
     {
@@ -79,6 +80,7 @@ impl TraceReader {
         ensures fits { IfOk result (λ answer. IfSome answer (λ event. FitsEvent event × (self.old.last ≤ event.time))) }
         ensures tail { LeavesTail (S.left source.old) (S.left source.new) }
         ensures kept { KeepsCount self.old self.new result }
+        ensures counted { self.new.lines ≤ 1000000 }
         ensures counts { CountsNext result (S.faults source.old) (S.faults source.new) }
         ensures never_falls { S.faults source.old ≤ S.faults source.new }
     {
