@@ -115,16 +115,22 @@ fewer-ops code plan (op ∷ ops) = one-fewer code plan op (filter_map (site_fact
 fewer-facts : (code : FlatCode) (plan : Plan) (fs : List FlatFunction) → length (flat_map (λ function. filter_map (site_fact code plan) function.ops) fs) ≤ length (flat_map (λ f. filter_map site_of f.ops) fs)
 fewer-facts code plan [] = omega arith
 fewer-facts code plan (f ∷ fs) =
-    omega (arith, length-append (filter_map (site_fact code plan) f.ops) (flat_map (λ (g : FlatFunction). filter_map (site_fact code plan) g.ops) fs), length-append (filter_map site_of f.ops) (flat_map (λ (g : FlatFunction). filter_map site_of g.ops) fs),
-    fewer-ops code plan f.ops, fewer-facts code plan fs)
+    omega (
+      arith,
+      length-append (filter_map (site_fact code plan) f.ops) (flat_map (λ (g : FlatFunction). filter_map (site_fact code plan) g.ops) fs),
+      length-append (filter_map site_of f.ops) (flat_map (λ (g : FlatFunction). filter_map site_of g.ops) fs),
+      fewer-ops code plan f.ops,
+      fewer-facts code plan fs,
+    )
 
 rises-behind : (last : Option ℕ) (facts : List SiteFact) → IsStrictlyIncreasing (map (λ fact. fact.number) facts) → ((fact : SiteFact) (rest : List SiteFact) → facts ≡ fact ∷ rest → IsAbove last fact.number) → Rises last facts
 rises-behind last [] up above = tt
 rises-behind last (fact ∷ []) up above = (above fact [] refl, tt)
-rises-behind last (fact ∷ next ∷ facts) up above =
-    (above fact (next ∷ facts) refl,
-    rises-behind (Some fact.number) (next ∷ facts) (λ k lt. let one : suc k + 1 ≡ suc (k + 1) = omega arith in let moved = rw one at (up (suc k) (omega arith)) in moved)
-    (λ other rest e. let same : next ≡ other = cc in subst (λ (x : SiteFact). fact.number < x.number) same (up 0 (omega arith))))
+rises-behind last (fact ∷ next ∷ facts) up above = (
+  above fact (next ∷ facts) refl,
+  rises-behind (Some fact.number) (next ∷ facts) (λ k lt. let one : suc k + 1 ≡ suc (k + 1) = omega arith in let moved = rw one at (up (suc k) (omega arith)) in moved)
+      (λ other rest e. let same : next ≡ other = cc in subst (λ (x : SiteFact). fact.number < x.number) same (up 0 (omega arith))),
+)
 
 pub certificate-fits : (p : ProgramTree) (plan : Plan) (options : Options) (i : Image) (c : Certificate) → IsWellScoped p → IsValid (lowered p) i c → IsCertificateOf (lowered p) plan options c → certificate.IsWithinLimits c
 certificate-fits p plan options i c scoped valid is =
@@ -136,13 +142,13 @@ certificate-fits p plan options i c scoped valid is =
     let words = all-have-words p p.functions scoped.bodies in
     let places = all-from-index HasFewPlaces none c.functions
     (λ k lt.
-      let there : k < length code.functions = omega (arith, count) in
-      let frame = ((valid.holds 3 k 0).v3 refl).frame refl there in
-      let same : (fact_at c k).frame ≡ weight_of (function_at code k).sizes = ap (λ (f : FunctionFact). f.frame) (fact-is code plan c k none facts there) in
-      let small = small-frame (sum (function_at code k).sizes) (let w = frame.2 in omega arith) in
-      let few = all-at (λ (f : FlatFunction). length f.sizes ≤ sum f.sizes) code.functions k empty words there in
-      let each = ((valid.holds 1 k 4).v1 refl).places refl there in
-      omega arith) in
+    let there : k < length code.functions = omega (arith, count) in
+    let frame = ((valid.holds 3 k 0).v3 refl).frame refl there in
+    let same : (fact_at c k).frame ≡ weight_of (function_at code k).sizes = ap (λ (f : FunctionFact). f.frame) (fact-is code plan c k none facts there) in
+    let small = small-frame (sum (function_at code k).sizes) (let w = frame.2 in omega arith) in
+    let few = all-at (λ (f : FlatFunction). length f.sizes ≤ sum f.sizes) code.functions k empty words there in
+    let each = ((valid.holds 1 k 4).v1 refl).places refl there in
+    omega arith) in
     let sites : length c.sites ≤ 65535 =
     omega (arith, length_permutation (site_facts code plan) c.sites facts.sites, fewer-facts code plan code.functions, length_permutation (map (λ s. s.number) (program_sites p)) (site_numbers code) (program_permutes p), length-map (program_sites p) (λ s. s.number), scoped.sites) in
     record {

@@ -13,11 +13,11 @@ ghost use Rattle.capriccio_cli.specs.BuildsFiles.{Builds, BuildsProgram, built_l
 ghost use Rattle.capriccio_cli.specs.Steps.{IsStop, IsShelfStop};
 
 use crate::cause_lines::{put_number, put_text};
-use crate::stops::{Cause, Stop};
 use crate::documents::Document;
 use crate::faults::Fault;
 use crate::frames::frame_stop;
 use crate::loading::{load, read_source};
+use crate::stops::{Cause, Stop};
 use c_tree::Program;
 use cap_io::Shelf;
 use codegen_link::Options;

@@ -104,12 +104,7 @@ fn refused_builds(rt: HostRuntime) -> Result<(), Fail> {
             b"limit: frame of main is 48 bytes\n",
         ),
         (small, b"int main() { return; }", 2, b"source: Kind at 13\n"),
-        (
-            &["build", "Q", "I", "C"],
-            TWO,
-            9,
-            b"absent: source\n",
-        ),
+        (&["build", "Q", "I", "C"], TWO, 9, b"absent: source\n"),
         (
             &["build", "P", "I"],
             TWO,
@@ -126,36 +121,6 @@ fn refused_builds(rt: HostRuntime) -> Result<(), Fail> {
         assert!(rt;
             left.image.as_slice() == OLD && left.certificate.as_slice() == OLD,
             "{words:?}"
-        );
-    }
-    Ok(())
-}
-
-/// A main of 28 words of code, and 4 more for each assignment and 1 for each `break`.
-fn long_source(alloc: Global, assignments: u32, breaks: u32) -> Result<Vec<u8>, AllocError> {
-    let mut text = Vec::from_slice(alloc, b"int main() { int x; while (1) {")?;
-    for _ in 0..assignments {
-        text.extend_from_slice(b"x=x;")?;
-    }
-    for _ in 0..breaks {
-        text.extend_from_slice(b"break;")?;
-    }
-    text.extend_from_slice(b"} return 0; }")?;
-    Ok(text)
-}
-
-#[test]
-fn code_has_its_limit(rt: HostRuntime) -> Result<(), Fail> {
-    let table: [(u32, u8, &[u8], &[u8]); 2] = [
-        (0, 0, b"built code 200000 globals 0 tables 0\n", NONE),
-        (1, 5, NONE, b"limit: code is 200001 words\n"),
-    ];
-    for (breaks, status, out, err) in table {
-        let source = long_source(rt.alloc(), 49_993, breaks)?;
-        let left = built(rt.alloc(), &["build", "P", "I", "C"], source.as_slice())?;
-        assert!(rt;
-            left.status == status && left.out.as_slice() == out && left.err.as_slice() == err,
-            "{breaks}"
         );
     }
     Ok(())

@@ -18,7 +18,8 @@ pub(crate) const CERTIFICATE_OF_SEVEN: &[u8] =
     b"capriccio certificate 1\nchunk 4096\nmax-path 2032\nfunctions 1\nfunction 4104 22 16 12 16 0\nsites 0\n";
 
 /// A program of two functions, and its image for chunks of 64 bytes and paths of 32.
-pub(crate) const TWO: &[u8] = b"int g(int x) { return x; } int main() { int a; int b; a = g(1); return a; }";
+pub(crate) const TWO: &[u8] =
+    b"int g(int x) { return x; } int main() { int a; int b; a = g(1); return a; }";
 
 pub(crate) const IMAGE_OF_TWO: [u32; 52] = [
     0x31504143, 0x0000002d, 0x00000000, 0x00000000, 0x00000002, 0x01e00893, 0x00000073, 0xff010113,

@@ -2,8 +2,8 @@
 ghost use Rattle.std.specs.Prelude.{◌≡◌, ◌∷◌, []};
 ghost use Rattle.capriccio_cli.specs.Steps.{AreStores};
 
-use crate::stops::Stop;
 use crate::faults::Fault;
+use crate::stops::Stop;
 use cap_io::{Shelf, ShelfError};
 use std::alloc::Global;
 
