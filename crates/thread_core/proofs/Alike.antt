@@ -1,5 +1,5 @@
 -- A state with more room than another stands for the same machine world, and keeps what it keeps.
-use Rattle.std.proofs.Common.{◌≡◌, ℕ, ◌+◌, ◌-◌, ◌<◌, ◌≤◌, List, length, Option, Some, None, refl, sym, ap, ◌∙◌, subst, arith, ◌^◌}
+use Rattle.std.proofs.Common.{◌≡◌, ℕ, ◌+◌, ◌-◌, ◌≤◌, List, length, Option, Some, None, refl, sym, ap, ◌∙◌, subst, arith, ◌^◌}
 use Rattle.std.specs.Prelude.{IsSome, slice_index_or, map, option_map}
 use Rattle.slab.specs.Slab.{Slab, get}
 use Rattle.cap_word.specs.declared.stops.Stop.{Stop}
@@ -12,11 +12,11 @@ use Rattle.thread_waits.specs.Waiting.{Waiting, wait_at}
 use Rattle.thread_waits.specs.declared.waits.Wait.{Wait}
 use Rattle.threads_by_number.specs.Found.{IsNumbered, threads_in}
 use Rattle.threads_by_number.proofs.Changing.{all_same}
-use Rattle.thread_core.specs.Kept.{IsKept, AreAligned, RunsAt, IsRunningThere}
-use Rattle.thread_core.specs.States.{number_of, thread_of_record, threads_of, blocked_of, machine_of, setting_of, numbers_of, number_in}
+use Rattle.thread_core.specs.Kept.{IsKept, IsRunningThere}
+use Rattle.thread_core.specs.States.{number_of, thread_of_record, blocked_of, machine_of, setting_of, number_in}
 use Rattle.thread_core.specs.Steps.{Runs, KeepsRest, Told, TellsIf, held_in}
 use Rattle.thread_core.specs.Waiting.{IsUntrapped}
-use Rattle.thread_core.specs.Worlds.{IsThread, KeepsPlaces}
+use Rattle.thread_core.specs.Worlds.{KeepsPlaces}
 use Rattle.thread_core.specs.declared.records.Record.{Record}
 use Rattle.thread_core.specs.declared.state.State.{State}
 use Rattle.thread_core.specs.declared.turns.Turn.{Turn}

@@ -1,5 +1,5 @@
 -- What a turn makes of a world: a good stretch, and a world that keeps what every world keeps.
-use Rattle.std.proofs.Common.{◌≡◌, ℕ, ◌+◌, ◌-◌, ◌<◌, ◌≤◌, Option, Some, None, IsSome, IsTrue, refl, sym, ◌∙◌, ap, subst, arith}
+use Rattle.std.proofs.Common.{◌≡◌, ℕ, ◌+◌, ◌-◌, Option, Some, None, IsSome, IsTrue, refl, sym, ◌∙◌, ap, subst, arith}
 use Rattle.c_lower.specs.ProgramCode.{lowered}
 use Rattle.c_tree.specs.WellScoped.{IsWellScoped}
 use Rattle.cap_word.specs.declared.threads.ThreadId.{ThreadId}
@@ -8,7 +8,7 @@ use Rattle.certificate_check.specs.Accepting.{accepted_tree}
 use Rattle.certificate_rules.specs.Validity.{IsValid}
 use Rattle.machine_world.specs.Runs.{world_of, Pick, after_action}
 use Rattle.machine_world.specs.Stretches.{IsGoodStretch}
-use Rattle.machine_world.specs.Threads.{World, Setting, Move, Goes, Puts, Spawns, Blocks, Ends, Stops, Wrong, step}
+use Rattle.machine_world.specs.Threads.{World, Setting, Move, Puts, Spawns, Blocks, Ends, Stops, step}
 use Rattle.machine_world.specs.WellFormed.{IsWellFormed}
 use Rattle.slab.specs.Slab.{get}
 use Rattle.segment_run.specs.Contexts.{checked_of, code_of, local_of, IsReady}
@@ -18,14 +18,14 @@ use Rattle.world_runs.specs.Running.{IsRunning, KeepsRunning}
 use Rattle.world_runs.proofs.Stretching as runs
 use Rattle.world_source.specs.UnderWay.{IsSettled}
 use Rattle.thread_core.specs.Kept.{IsKept, HasCome}
-use Rattle.thread_core.specs.States.{machine_of, setting_of}
+use Rattle.thread_core.specs.States.{machine_of, setting_of, number_in}
 use Rattle.thread_core.specs.Steps.{held_in, MayRun, OnTold, KeepsRest, GoesIf}
 use Rattle.thread_core.specs.Ready.{is_ready_in}
-use Rattle.thread_core.specs.Turns.{Tells, IsTurn, MayBegin}
+use Rattle.thread_core.specs.Turns.{Tells, IsTurn, MayBegin, LeavesRun}
 use Rattle.thread_core.specs.Worlds.{Held}
 use Rattle.thread_core.specs.declared.state.State.{State}
 use Rattle.thread_core.specs.declared.turns.Turn.{Turn}
-use Rattle.thread_core.proofs.CostLaws.{Retires, Counts, counts_step, goes_cost}
+use Rattle.thread_core.proofs.CostLaws.{Counts, counts_step, goes_cost}
 use Rattle.thread_core.proofs.OutsideLaws.{between_come}
 
 -- what stays of a setting
@@ -60,6 +60,20 @@ pub begun_runs : (accepted : Acceptance) (most : ℕ) (thread : ThreadId) → Is
 begun_runs accepted most thread scoped valid old mid kept settled same picks =
     subst (λ (t : Setting). IsRunning (checked_of accepted) (accepted_tree accepted) t (machine_of most mid)) (sym same)
     (runs.picks (accepted_tree accepted) accepted.image accepted.certificate (setting_of accepted most old) scoped valid refl (machine_of most old) (machine_of most mid) thread.number kept.formed settled picks)
+
+-- what a turn leaves
+running_now : (running : Option ThreadId) (thread : ThreadId) → running ≡ Some thread → IsSome (number_in running)
+running_now None thread e = absurd (let x : None ≡ Some thread = e in cc)
+running_now (Some other) thread e = refl
+
+pub leaves_run : (accepted : Acceptance) (most : ℕ) (thread : ThreadId) (number : ℕ) (at : World) (new : State) (move : Move) (turn : Turn) → Tells move turn number at (held_in accepted most new) → GoesIf accepted most thread (Some turn) new → LeavesRun turn (held_in accepted most new)
+leaves_run accepted most thread number at new (Puts value after) (Turn.Out told) t goes = (t.2, running_now new.running thread goes.runs.is)
+leaves_run accepted most thread number at new (Spawns started after) (Turn.Spawned other) t goes = (t.3, running_now new.running thread goes.runs.is)
+leaves_run accepted most thread number at new (Spawns started after) Turn.Memory t goes = t.1
+leaves_run accepted most thread number at new (Blocks after) (Turn.Blocked key cost) t goes = (t.3, ap number_in goes)
+leaves_run accepted most thread number at new (Ends after) (Turn.Ended cost) t goes = (t.2, ap number_in goes)
+leaves_run accepted most thread number at new (Stops stop) (Turn.Cut told cost) t goes = t.3
+leaves_run accepted most thread number at new move turn t goes = absurd t
 
 running_come : (accepted : Acceptance) (most : ℕ) (st : State) (running : Option ThreadId) (thread : ThreadId) → running ≡ Some thread →
     IsRunning (checked_of accepted) (accepted_tree accepted) (setting_of accepted most st) (machine_of most st) → HasCome accepted most st running

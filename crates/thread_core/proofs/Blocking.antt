@@ -1,11 +1,11 @@
 -- A thread that stands at the ECALL of a call that blocks: what the step of the world is, and what comes of it.
-use Rattle.std.proofs.Common.{◌≡◌, ◌≢◌, ℕ, ◌+◌, ◌-◌, ◌^◌, ◌<◌, ◌≤◌, ◌⊎◌, inl, inr, Bool, true, false, List, length, Option, Some, None, IsSome, option_map, refl, sym, ap, ◌∙◌, subst, arith, slice_set, nat_le, nat_lt, if◌then◌else◌}
+use Rattle.std.proofs.Common.{◌≡◌, ◌≢◌, ℕ, ◌+◌, ◌-◌, ◌^◌, ◌<◌, ◌⊎◌, inl, inr, List, length, Option, Some, None, IsSome, option_map, refl, sym, ap, ◌∙◌, subst, arith, slice_set}
 use Rattle.std.proofs.lemmas.Bool.{cases_eq}
 use Rattle.std.proofs.lemmas.List.{length-map, length-set, get_or-set_same, get_or-set_other}
 use Rattle.slab.specs.Slab.{Slab, get}
 use Rattle.c_lower.specs.ProgramCode.{lowered}
-use Rattle.c_mean.specs.ModelledCalls.{BlockingRow, blocking_row}
-use Rattle.cap_word.specs.Calls.{Call, Blocking}
+use Rattle.c_mean.specs.ModelledCalls.{BlockingRow}
+use Rattle.cap_word.specs.Calls.{Blocking}
 use Rattle.cap_word.specs.declared.calls.Block.{Block}
 use Rattle.cap_word.specs.declared.stops.Stop.{Stop}
 use Rattle.cap_word.specs.declared.threads.ThreadId.{ThreadId}
@@ -15,53 +15,37 @@ use Rattle.certificate_check.specs.Accepting.{accepted_tree}
 use Rattle.certificate_rules.specs.Validity.{IsValid}
 use Rattle.chunk_pool.specs.Pool.{Pool}
 use Rattle.flat_code.specs.declared.operations.Op.{Op}
-use Rattle.lowered_facts.proofs.Formed.{formed}
-use Rattle.lowered_facts.proofs.Zeroes.{program_zeroes}
 use Rattle.machine_world.specs.InPlace.{Frame}
 use Rattle.machine_world.specs.Keys.{key_of}
 use Rattle.machine_world.specs.Local.{Core, Calls, passed}
-use Rattle.machine_world.specs.Places.{Checked, Place, size_in}
+use Rattle.machine_world.specs.Places.{Checked, Place}
 use Rattle.machine_world.specs.Rests.{IsResting, IsPastCall, AtStart, AtCall, PastCall}
 use Rattle.machine_world.specs.StandsForWorld.{IsPast}
-use Rattle.machine_world.specs.Threads.{Thread, World, Move, Blocks, Stops, blocks, unless_trap, retired, replaced, thread_of, step}
+use Rattle.machine_world.specs.Threads.{Thread, World, Move, Blocks, Stops, blocks, retired, replaced, thread_of, step}
 use Rattle.machine_world.specs.WellFormed.{IsWellFormed, KeepsWellFormed}
 use Rattle.machine_world.proofs.FormWorlds.{KeepsWellFormed-step}
-use Rattle.segment_facts.proofs.ValidFacts.{CodeFacts-valid}
-use Rattle.segment_laws.specs.Facts.{CodeFacts}
 use Rattle.segment_run.specs.Contexts.{checked_of, code_of, local_of, core_of}
 use Rattle.segment_run.specs.Passing.{RestsBefore, RestsBehind, RestsAround, IsAround}
-use Rattle.segment_run.specs.Safe.{RestsAtCall}
 use Rattle.segment_run.specs.Segments.{IsAtModel}
 use Rattle.segment_run.specs.declared.contexts.Context.{Context}
 use Rattle.segment_run.specs.declared.contexts.Fuel.{Fuel}
 use Rattle.thread_exchange.specs.Exchanges.{row_of}
-use Rattle.thread_waits.specs.Waiting.{Waiting, wait_at, latest, IsBlockInRange}
+use Rattle.thread_waits.specs.Waiting.{Waiting, wait_at}
 use Rattle.thread_waits.specs.declared.waits.Wait.{Wait}
-use Rattle.threads_by_number.specs.Found.{IsNumbered, KeepsRecords}
+use Rattle.threads_by_number.specs.Found.{IsNumbered}
 use Rattle.threads_by_number.proofs.Changing.{record_written}
 use Rattle.thread_core.specs.Kept.{IsKept, AreAligned, RunsAt}
 use Rattle.thread_core.specs.Parts.{ContextIs, HasContext, passed_context}
 use Rattle.thread_core.specs.States.{number_of, thread_of_record, threads_of, blocked_of, machine_of, setting_of}
-use Rattle.thread_core.specs.Steps.{Runs, LocalIs, KeepsRest, Told, TellsIf, held_in}
+use Rattle.thread_core.specs.Steps.{Runs, LocalIs, Told, TellsIf, held_in}
 use Rattle.thread_core.specs.Turns.{HasKeyOf, HasKey}
 use Rattle.thread_core.specs.Waiting.{IsUntrapped}
 use Rattle.thread_core.specs.declared.records.Record.{Record}
 use Rattle.thread_core.specs.declared.state.State.{State}
 use Rattle.thread_core.specs.declared.turns.Turn.{Turn}
+use Rattle.thread_core.proofs.Answering.{rests_small}
 use Rattle.thread_core.proofs.PassLaws.{its_record, its_step, passed_core}
 use Rattle.thread_core.proofs.TellingLaws.{number_at, found_at}
-
--- pc at the ECALL of an operation is small
-small_at : (accepted : Acceptance) (st : State) (context : Context) (op : Op) → IsValid (lowered (accepted_tree accepted)) accepted.image accepted.certificate → RestsAtCall (checked_of accepted) (local_of st.areas context) op →
-    context.pc < 2 ^ 32 - 4
-small_at accepted st context op valid rests =
-    let facts : CodeFacts (checked_of accepted) (code_of accepted) = CodeFacts-valid (lowered (accepted_tree accepted)) accepted.image accepted.certificate
-    (formed (accepted_tree accepted) accepted.image accepted.certificate accepted.program.well_scoped valid) (program_zeroes (accepted_tree accepted) accepted.program.well_scoped) valid in
-    let stands = rests.at.frames_are.at in
-    let room = (facts.operation rests.function rests.operation op stands.0 rests.at.operation).room in
-    let within = subst (λ (o : Option Op). rests.word < size_in (checked_of accepted) rests.function o) rests.at.operation stands.1 in
-    let is = stands.2 in
-    omega (arith, room, within, is)
 
 around_by : (c : Checked) (pool : Pool) (core : Core) (rests : IsResting c pool core) → IsPast c pool core rests → IsAround c pool core rests
 around_by c pool core (AtStart f frames in_place) past = past
@@ -102,7 +86,7 @@ module _ (accepted : Acceptance) (most : ℕ) (st : State) (thread : ThreadId) (
   all_there P p x e = let both : Some r ≡ Some x = sym there ∙ e in let same : r ≡ x = cc in subst P same p
 
   small_r : r.context.pc < 2 ^ 32 - 4
-  small_r = small_at accepted st r.context _ valid model.rests
+  small_r = rests_small accepted st r.context _ valid model.rests
 
   pub small_pc : ContextIs st thread (λ context. context.pc < 2 ^ 32 - 4)
   small_pc = all_there (λ (x : Record). x.context.pc < 2 ^ 32 - 4) small_r

@@ -1,5 +1,5 @@
 -- A call behind silent steps, and the stop of a run.
-use Rattle.std.proofs.Common.{◌≡◌, ℕ, ◌+◌, ◌-◌, ◌<◌, ◌≤◌, List, Option, Some, None, option_map, IsSome, IfNone, refl, sym, ◌∙◌, ap, subst, arith, slice_index_or}
+use Rattle.std.proofs.Common.{◌≡◌, ℕ, ◌+◌, ◌-◌, ◌<◌, ◌≤◌, Option, Some, None, IfNone, refl, sym, ◌∙◌, ap, subst, arith}
 use Rattle.cap_word.specs.Runs as runs
 use Rattle.cap_word.specs.declared.stops.Stop.{Stop}
 use Rattle.cap_word.specs.declared.threads.ThreadId.{ThreadId}
@@ -9,20 +9,21 @@ use Rattle.machine_world.specs.Local as local
 use Rattle.machine_world.specs.Local.{LocalMove, local_step}
 use Rattle.machine_world.specs.Threads as machine
 use Rattle.machine_world.specs.Threads.{Thread, World, Setting, thread_of, moved, step}
-use Rattle.segment_run.specs.Contexts.{checked_of, code_of, local_of}
+use Rattle.segment_run.specs.Contexts.{code_of}
 use Rattle.segment_run.specs.declared.segments.Segment.{Segment}
 use Rattle.segment_run.specs.declared.segments.Segment.TheVariants as answer
 use Rattle.slab.specs.Slab.{get}
 use Rattle.thread_steps.specs.Silent.{GoesOn}
 use Rattle.thread_steps.proofs.Silent as silent
 use Rattle.thread_steps.proofs.Silent.{step_moves, step_fuel}
-use Rattle.thread_core.specs.Kept.{IsKept, AreAligned, IsRunningThere}
-use Rattle.thread_core.specs.States.{number_of, number_in, numbers_of, thread_of_record, threads_of, machine_of, setting_of}
+use Rattle.thread_core.specs.Kept.{IsRunningThere}
+use Rattle.thread_core.specs.States.{number_in, thread_of_record, machine_of, setting_of}
 use Rattle.thread_core.specs.Steps.{MayRun, Runs, LocalIs, KeepsRest, SamePlaces, PlacesIf, RanTo, Told, TellsIf, OnTold, held_in}
 use Rattle.thread_core.specs.Worlds.{KeepsPlaces}
 use Rattle.thread_core.specs.declared.records.Record.{Record}
 use Rattle.thread_core.specs.declared.state.State.{State}
 use Rattle.thread_core.specs.declared.turns.Turn.{Turn}
+use Rattle.thread_core.proofs.Alike.{stop_told}
 use Rattle.thread_core.proofs.TellingLaws.{found_at, number_at}
 
 -- ---- one after the other
@@ -144,63 +145,21 @@ module _ (accepted : Acceptance) (most : ℕ) (thread : ThreadId) (st : State) (
       let cost : most - st.fuel.left ≡ most = omega (arith, none) in
       step_fuel (setting_of accepted most st) (machine_of most st) runner running found cost
 
-  -- ---- the run stops
-
-  abbrev pub cut_cost : ℕ
-  cut_cost = most - st.fuel.left - st.begun
-
-  abbrev pub stopped_by : Turn → State
-  stopped_by turn = record st { stopped = Some turn }
-
-  aligned : (turn : Turn) → AreAligned (stopped_by turn)
-  aligned turn = record {
-    vacant = runs_in.kept.aligned.vacant;
-    runs = runs_in.kept.aligned.runs;
-    waits = runs_in.kept.aligned.waits;
-    there = runs_in.kept.aligned.there;
-    named = runs_in.kept.aligned.named;
-    untrapped = runs_in.kept.aligned.untrapped;
-  }
-
-  there_by : (running : Option ThreadId) (turn : Turn) → IsRunningThere st running → IsRunningThere (stopped_by turn) running
-  there_by None turn h = tt
-  there_by (Some other) turn h = h
-
-  pub kept_stopped : (turn : Turn) → IsKept accepted most (stopped_by turn)
-  kept_stopped turn = record {
-    areas = runs_in.kept.areas;
-    numbered = runs_in.kept.numbered;
-    aligned = aligned turn;
-    live = runs_in.kept.live;
-    fuel = runs_in.kept.fuel;
-    begun = runs_in.kept.begun;
-    clock = runs_in.kept.clock;
-    formed = runs_in.kept.formed;
-    running = there_by st.running turn runs_in.kept.running;
-  }
-
-  pub cut_told : (stop : Stop) → step (setting_of accepted most st) (machine_of most st) ≡ machine.Stops stop → Told accepted most thread st (Some (Turn.Cut stop cut_cost)) (stopped_by (Turn.Cut stop cut_cost))
-  cut_told stop e = record {
-    kept = kept_stopped (Turn.Cut stop cut_cost);
-    rest = record { caps = refl; backlog = refl; chunks = refl; begun = refl };
-    places = λ other is alive. is;
-    tells = subst (λ (move : machine.Move). TellsIf move (Some (Turn.Cut stop cut_cost)) thread.number (machine_of most st) (held_in accepted most (stopped_by (Turn.Cut stop cut_cost)))) (sym e) (refl, refl, refl, refl);
-    goes = runs_in.is;
-  }
+-- ---- the run stops
 
 pub cut_trap : (accepted : Acceptance) (most : ℕ) (thread : ThreadId) (old mid : State) (kind : TrapKind) → (ran : RanTo accepted most thread old (answer.Traps kind) mid) → OnTold accepted most thread old (Some (Turn.Cut (Stop.Trap kind) (most - mid.fuel.left - mid.begun))) (record mid { stopped = Some (Turn.Cut (Stop.Trap kind) (most - mid.fuel.left - mid.begun)) })
 cut_trap accepted most thread old mid kind ran =
-    let told = cut_told accepted most thread mid ran.runs (Stop.Trap kind) (step_is accepted most thread mid ran.runs (runs.Stops (local.Trapped kind)) ran.fuel ran.next).1 in
+    let told = stop_told accepted most mid thread ran.runs (Stop.Trap kind) (step_is accepted most thread mid ran.runs (runs.Stops (local.Trapped kind)) ran.fuel ran.next).1 in
     joined accepted most thread old mid (record mid { stopped = Some (Turn.Cut (Stop.Trap kind) (most - mid.fuel.left - mid.begun)) }) (answer.Traps kind) (Some (Turn.Cut (Stop.Trap kind) (most - mid.fuel.left - mid.begun))) ran told
 
 pub cut_chunk : (accepted : Acceptance) (most : ℕ) (thread : ThreadId) (old mid : State) → (ran : RanTo accepted most thread old answer.NoChunk mid) → OnTold accepted most thread old (Some (Turn.Cut Stop.NoChunk (most - mid.fuel.left - mid.begun))) (record mid { stopped = Some (Turn.Cut Stop.NoChunk (most - mid.fuel.left - mid.begun)) })
 cut_chunk accepted most thread old mid ran =
-    let told = cut_told accepted most thread mid ran.runs Stop.NoChunk (step_is accepted most thread mid ran.runs (runs.Stops local.NoRoom) ran.fuel ran.next).1 in
+    let told = stop_told accepted most mid thread ran.runs Stop.NoChunk (step_is accepted most thread mid ran.runs (runs.Stops local.NoRoom) ran.fuel ran.next).1 in
     joined accepted most thread old mid (record mid { stopped = Some (Turn.Cut Stop.NoChunk (most - mid.fuel.left - mid.begun)) }) answer.NoChunk (Some (Turn.Cut Stop.NoChunk (most - mid.fuel.left - mid.begun))) ran told
 
 pub cut_fuel : (accepted : Acceptance) (most : ℕ) (thread : ThreadId) (old mid : State) → (ran : RanTo accepted most thread old answer.OutOfFuel mid) → OnTold accepted most thread old (Some (Turn.Cut Stop.Fuel (most - mid.fuel.left - mid.begun))) (record mid { stopped = Some (Turn.Cut Stop.Fuel (most - mid.fuel.left - mid.begun)) })
 cut_fuel accepted most thread old mid ran =
-    let told = cut_told accepted most thread mid ran.runs Stop.Fuel (fuel_is accepted most thread mid ran.runs ran.fuel) in
+    let told = stop_told accepted most mid thread ran.runs Stop.Fuel (fuel_is accepted most thread mid ran.runs ran.fuel) in
     joined accepted most thread old mid (record mid { stopped = Some (Turn.Cut Stop.Fuel (most - mid.fuel.left - mid.begun)) }) answer.OutOfFuel (Some (Turn.Cut Stop.Fuel (most - mid.fuel.left - mid.begun))) ran told
 
 -- the turn and the state that `cut` answers

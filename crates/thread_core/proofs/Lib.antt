@@ -17,3 +17,8 @@ pub mod Spawned
 pub mod Spawning
 pub mod Started
 pub mod TellingLaws
+pub mod Shortness
+pub mod Numbering
+pub mod Trapped
+pub mod SourceKeys
+pub mod SourceLaws

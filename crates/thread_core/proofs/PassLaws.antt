@@ -1,5 +1,5 @@
 -- A thread that runs passes its ECALL.
-use Rattle.std.proofs.Common.{◌≡◌, ◌≢◌, ℕ, ◌+◌, ◌-◌, ◌^◌, ◌<◌, ◌≤◌, ◌⊎◌, inl, inr, List, length, map, Option, Some, None, IsSome, refl, sym, ◌∙◌, ap, subst, arith, nat_eq}
+use Rattle.std.proofs.Common.{◌≡◌, ◌≢◌, ℕ, ◌+◌, ◌-◌, ◌^◌, ◌<◌, ◌≤◌, ◌⊎◌, inl, inr, List, length, Option, Some, None, refl, sym, ◌∙◌, ap, subst, arith}
 use Rattle.std.proofs.lemmas.List.{length-map}
 use Rattle.std.proofs.Math.Nat.{mod-eq_of_lt}
 use Rattle.slab.specs.Slab.{Slab, get}
@@ -7,22 +7,20 @@ use Rattle.cap_word.specs.Word.{add}
 use Rattle.cap_word.specs.declared.stops.Stop.{Stop}
 use Rattle.cap_word.specs.declared.threads.ThreadId.{ThreadId}
 use Rattle.certificate_check.specs.Acceptance.{Acceptance}
-use Rattle.machine_world.specs.Local.{Core, Local, LocalMove, local_step, passed, with_result}
-use Rattle.machine_world.specs.Threads.{Thread, World, Setting, thread_of, first_with, replaced, moved, step, retired, resumed, Stops}
-use Rattle.segment_laws.specs.Ways.{HasForm}
+use Rattle.machine_world.specs.Local.{Core, LocalMove, local_step, passed, with_result}
+use Rattle.machine_world.specs.Threads.{Thread, thread_of, replaced, moved, step, retired, Stops}
 use Rattle.segment_run.specs.Contexts.{checked_of, code_of, local_of, IsOwned}
 use Rattle.segment_run.proofs.Owning.{IsOwned-owns}
 use Rattle.segment_run.specs.declared.contexts.Context.{Context}
 use Rattle.segment_run.specs.declared.contexts.Fuel.{Fuel}
 use Rattle.machine_world.specs.WellFormed.{IsWellFormed}
 use Rattle.thread_exchange.specs.Exchanges.{Exchanging}
-use Rattle.thread_steps.specs.Silent.{local_in}
 use Rattle.thread_steps.proofs.Silent.{step_moves, step_fuel}
-use Rattle.thread_waits.specs.Waiting.{Waiting, wait_at}
-use Rattle.threads_by_number.specs.Found.{IsNumbered, KeepsRecords, threads_in}
+use Rattle.thread_waits.specs.Waiting.{wait_at}
+use Rattle.threads_by_number.specs.Found.{IsNumbered}
 use Rattle.threads_by_number.proofs.Changing.{record_written}
 use Rattle.world_source.proofs.Forms.{has_form}
-use Rattle.thread_core.specs.States.{number_of, thread_of_record, threads_of, machine_of, setting_of, number_in, blocked_of}
+use Rattle.thread_core.specs.States.{number_of, thread_of_record, threads_of, machine_of, setting_of, number_in}
 use Rattle.thread_core.specs.Kept.{IsKept, IsRunningThere, RunsAt, AreAligned}
 use Rattle.thread_core.specs.Parts.{HasContext, passed_context}
 use Rattle.thread_core.specs.Steps.{Runs}

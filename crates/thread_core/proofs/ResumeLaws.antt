@@ -1,6 +1,6 @@
 -- A segment of a thread that is ready begins.
 use Rattle.std.proofs.lemmas.Bool.Decides.{nat_tests}
-use Rattle.std.proofs.Common.{◌≡◌, Ok, ◌||◌, is_some, ◌*◌, pos, ◌-ℤ◌, ◌≢◌, ℕ, ◌+◌, ◌-◌, ◌^◌, ◌<◌, ◌≤◌, ◌⊎◌, inl, inr, Bool, true, false, List, length, map, Option, Some, None, IsSome, option_map, is_none, refl, sym, ◌∙◌, ap, subst, arith, nat_eq, slice_set, if◌then◌else◌}
+use Rattle.std.proofs.Common.{◌≡◌, Ok, ◌||◌, is_some, ◌*◌, pos, ◌-ℤ◌, ◌≢◌, ℕ, ◌+◌, ◌-◌, ◌<◌, ◌⊎◌, inl, inr, Bool, true, false, length, Option, Some, None, IsSome, option_map, is_none, refl, sym, ◌∙◌, ap, subst, arith, nat_eq, slice_set, if◌then◌else◌}
 use Rattle.std.proofs.lemmas.List.{length-map, length-set, get_or-set_same, get_or-set_other}
 use Rattle.slab.specs.Slab.{Slab, get}
 use Rattle.c_lower.specs.ProgramCode.{lowered}

@@ -1,8 +1,8 @@
 -- A segment up to a call, as the state of a world shows it.
-use Rattle.std.proofs.Common.{◌≡◌, ◌≢◌, ℕ, zero, suc, ◌+◌, ◌-◌, ◌*◌, ◌<◌, ◌≤◌, ◌⊎◌, inl, inr, Bool, true, false, cond, List, [], ◌∷◌, length, Option, Some, None, option_map, IsSome, refl, sym, ◌∙◌, ap, subst, arith, ⊎_elim, slice_index_or}
+use Rattle.std.proofs.Common.{◌≡◌, ◌≢◌, ℕ, zero, suc, ◌+◌, ◌-◌, ◌<◌, ◌⊎◌, inl, inr, Bool, true, false, List, [], ◌∷◌, length, Option, Some, None, option_map, IsSome, refl, sym, ◌∙◌, ap, subst, arith, slice_index_or}
 use Rattle.std.specs.Prelude.{nat_eq}
 use Rattle.std.specs.List.{AllByRecursion}
-use Rattle.std.proofs.lemmas.Bool.{eq-eqb, ne_eqb, cases_eq}
+use Rattle.std.proofs.lemmas.Bool.{cases_eq}
 use Rattle.cap_word.specs.Runs as runs
 use Rattle.cap_word.specs.declared.threads.ThreadId.{ThreadId}
 use Rattle.certificate_check.specs.Acceptance.{Acceptance}
@@ -19,7 +19,7 @@ use Rattle.machine_world.proofs.FormWorlds.{KeepsWellFormed-step}
 use Rattle.machine_world.proofs.HeldLaws.{KeepsSize-step}
 use Rattle.segment_laws.specs.Ways.{WayIn, Leads}
 use Rattle.segment_run.specs.Contexts.{checked_of, code_of, core_of, local_of, chain_from, AreOf}
-use Rattle.segment_run.specs.Segments.{IsSegment, IsEnd, KeepsChunks}
+use Rattle.segment_run.specs.Segments.{IsSegment, KeepsChunks}
 use Rattle.segment_run.specs.declared.contexts.Context.{Context}
 use Rattle.segment_run.specs.declared.contexts.Fuel.{Fuel}
 use Rattle.segment_run.specs.declared.segments.Segment.{Segment}
@@ -32,7 +32,7 @@ use Rattle.threads_by_number.specs.Found.{IsNumbered, KeepsRecords}
 use Rattle.threads_by_number.proofs.Changing.{record_written, record_removed}
 use Rattle.thread_core.specs.Kept.{IsKept, AreAligned, RunsAt, IsRunningThere}
 use Rattle.thread_core.specs.States.{blocked_of, number_of, number_in, numbers_of, thread_of_record, threads_of, machine_of, setting_of}
-use Rattle.thread_core.specs.Steps.{MayRun, Runs, LocalIs, IsNext, HasFuel, KeepsRest, RanTo, RanOut, Ran, held_in}
+use Rattle.thread_core.specs.Steps.{MayRun, Runs, IsNext, HasFuel, RanTo, RanOut, Ran, held_in}
 use Rattle.thread_core.specs.Worlds.{KeepsPlaces}
 use Rattle.thread_core.specs.declared.records.Record.{Record}
 use Rattle.thread_core.specs.declared.state.State.{State}

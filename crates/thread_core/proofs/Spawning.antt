@@ -1,10 +1,9 @@
 -- A thread that stands at the ECALL of a spawn: what the step of the world is, and what comes of it.
-use Rattle.std.proofs.Common.{◌≡◌, ◌≢◌, ℕ, ◌+◌, ◌-◌, ◌*◌, ◌^◌, ◌<◌, ◌≤◌, Bool, true, false, List, [], ◌∷◌, ◌++◌, length, Option, Some, None, refl, sym, ap, ◌∙◌, subst, arith, ⊎_elim}
-use Rattle.std.specs.Prelude.{IsSome, nat_eq, nat_le, slice_index_or, slice_set, map, option_map, Ok}
-use Rattle.std.proofs.lemmas.Bool.{cases_eq, cond-true, cond-false, ne_eqb}
+use Rattle.std.proofs.Common.{◌≡◌, ℕ, ◌-◌, ◌<◌, ◌≤◌, true, false, List, [], ◌∷◌, length, Option, Some, None, refl, ap, ◌∙◌, subst, arith}
+use Rattle.std.specs.Prelude.{nat_eq, nat_le}
+use Rattle.std.proofs.lemmas.Bool.{cond-true, cond-false, ne_eqb}
 use Rattle.std.proofs.lemmas.Bool.Decides.{nat_tests}
-use Rattle.std.proofs.Math.ListN as list
-use Rattle.slab.specs.Slab.{Slab, get}
+use Rattle.slab.specs.Slab.{get}
 use Rattle.c_lower.specs.ProgramCode.{lowered}
 use Rattle.cap_word.specs.declared.calls.Ask.{Ask}
 use Rattle.cap_word.specs.declared.stops.Stop.{Stop}
@@ -12,22 +11,20 @@ use Rattle.cap_word.specs.declared.threads.ThreadId.{ThreadId}
 use Rattle.certificate_check.specs.Acceptance.{Acceptance}
 use Rattle.certificate_check.specs.Accepting.{accepted_tree}
 use Rattle.certificate_rules.specs.Validity.{IsValid}
-use Rattle.chunk_pool.specs.Pool.{Pool, Taken, taken_of, taken_for, fits, payload_bytes_of}
+use Rattle.chunk_pool.specs.Pool.{Taken, taken_of, taken_for, fits, payload_bytes_of}
 use Rattle.flat_code.specs.declared.operations.Op.{Op}
 use Rattle.lowered_facts.proofs.Formed.{formed}
-use Rattle.machine_world.specs.Areas.{Areas}
-use Rattle.machine_world.specs.Local.{with_header}
 use Rattle.machine_world.specs.Places.{Checked}
-use Rattle.machine_world.specs.Threads.{Thread, World, Setting, Move, Stops, Spawns, thread_of, starts, spawned, retired, resumed, with_thread, start_core, replaced, most_threads, moved, step_of, step_on, step}
+use Rattle.machine_world.specs.Threads.{Thread, World, Setting, Stops, Spawns, thread_of, starts, spawned, retired, resumed, with_thread, most_threads, moved, step_of, step_on, step}
 use Rattle.machine_world.specs.WellFormed.{IsWellFormed, KeepsWellFormed}
 use Rattle.machine_world.proofs.FormWorlds.{KeepsWellFormed-step}
-use Rattle.segment_run.specs.Contexts.{checked_of, code_of, local_of, core_of}
+use Rattle.segment_run.specs.Contexts.{checked_of, code_of, local_of}
 use Rattle.segment_run.specs.Segments.{IsAtSpawn, IsAtAsk}
 use Rattle.segment_steps.proofs.Needs.{NeedsFit-valid}
 use Rattle.stack_certificate.specs.Certificates.{fact_at, need_of}
 use Rattle.stack_certificate.specs.Templates.{kind_of}
 use Rattle.threads_by_number.proofs.Changing.{thread_found}
-use Rattle.thread_core.specs.Kept.{IsKept, IsRunningThere}
+use Rattle.thread_core.specs.Kept.{IsRunningThere}
 use Rattle.thread_core.specs.States.{number_of, thread_of_record, threads_of, machine_of, setting_of, number_in}
 use Rattle.thread_core.specs.Steps.{Runs, LocalIs}
 use Rattle.thread_core.specs.declared.records.Record.{Record}

@@ -1,6 +1,6 @@
 -- What a state is where a thread has started: its machine world is that after the step, and it keeps what every state keeps.
-use Rattle.std.proofs.Common.{◌≡◌, ◌≢◌, ℕ, ◌+◌, ◌-◌, ◌*◌, ◌^◌, ◌<◌, ◌≤◌, ◌⊎◌, inl, inr, Bool, true, false, List, [], ◌∷◌, ◌++◌, length, Option, Some, None, refl, sym, ap, ◌∙◌, subst, arith, ⊎_elim}
-use Rattle.std.specs.Prelude.{IsSome, slice_index_or, map, option_map, Ok}
+use Rattle.std.proofs.Common.{◌≡◌, ◌≢◌, ℕ, ◌+◌, ◌-◌, ◌^◌, ◌<◌, ◌≤◌, ◌⊎◌, inl, inr, List, [], ◌∷◌, ◌++◌, length, Option, Some, None, refl, sym, ap, ◌∙◌, subst, arith, ⊎_elim}
+use Rattle.std.specs.Prelude.{IsSome, option_map}
 use Rattle.std.proofs.lemmas.Bool.{cases_eq}
 use Rattle.std.proofs.lemmas.List.{length-map, length-append}
 use Rattle.slab.specs.Slab.{Slab, get}
@@ -11,23 +11,22 @@ use Rattle.cap_word.specs.declared.threads.ThreadId.{ThreadId}
 use Rattle.certificate_check.specs.Acceptance.{Acceptance}
 use Rattle.certificate_check.specs.Accepting.{accepted_tree}
 use Rattle.certificate_rules.specs.Validity.{IsValid}
-use Rattle.chunk_pool.specs.Pool.{Pool, Taken}
-use Rattle.flat_code.specs.Codes.{operation_at}
+use Rattle.chunk_pool.specs.Pool.{Pool}
 use Rattle.flat_code.specs.declared.operations.Op.{Op}
 use Rattle.lowered_facts.proofs.Formed.{formed}
 use Rattle.lowered_facts.proofs.Zeroes.{program_zeroes}
 use Rattle.machine_world.specs.Areas.{Areas}
-use Rattle.machine_world.specs.Local.{Core, with_header}
+use Rattle.machine_world.specs.Local.{with_header}
 use Rattle.machine_world.specs.Places.{size_in}
 use Rattle.machine_world.specs.Rests.{IsResting, AtCall}
 use Rattle.stack_certificate.specs.Certificates.{fact_at}
-use Rattle.machine_world.specs.Threads.{Thread, World, Setting, Move, Spawns, thread_of, resumed, replaced, start_core, most_threads, step}
+use Rattle.machine_world.specs.Threads.{Thread, World, Setting, Move, thread_of, resumed, replaced, start_core, most_threads}
 use Rattle.machine_world.specs.WellFormed.{IsWellFormed}
 use Rattle.segment_facts.proofs.ValidFacts.{CodeFacts-valid}
 use Rattle.segment_laws.specs.Facts.{CodeFacts}
 use Rattle.segment_laws.proofs.Registers.{add-small}
 use Rattle.segment_run.specs.Contexts.{checked_of, code_of, local_of, core_of, chain_from, AreOf, IsReady}
-use Rattle.segment_run.specs.Passing.{IsBefore, RestsBefore, RestsBehind}
+use Rattle.segment_run.specs.Passing.{RestsBefore, RestsBehind}
 use Rattle.segment_run.specs.Segments.{IsAtAsk}
 use Rattle.segment_run.specs.declared.contexts.Context.{Context}
 use Rattle.segment_run.specs.declared.contexts.Fuel.{Fuel}
@@ -41,10 +40,10 @@ use Rattle.thread_waits.specs.Waiting.{Waiting, wait_at}
 use Rattle.thread_waits.specs.declared.waits.Wait.{Wait}
 use Rattle.world_source.proofs.Forms.{has_form}
 use Rattle.world_source.proofs.Fresh.{kept_starting}
-use Rattle.thread_core.specs.Kept.{IsKept, AreAligned, RunsAt, IsRunningThere}
+use Rattle.thread_core.specs.Kept.{IsKept, RunsAt, IsRunningThere}
 use Rattle.thread_core.specs.Parts.{passed_context}
-use Rattle.thread_core.specs.States.{number_of, thread_of_record, threads_of, blocked_of, machine_of, setting_of, number_in, numbers_of}
-use Rattle.thread_core.specs.Steps.{Runs, LocalIs, MayRun, KeepsRest, Told, TellsIf, held_in}
+use Rattle.thread_core.specs.States.{number_of, thread_of_record, threads_of, blocked_of, machine_of, setting_of, number_in}
+use Rattle.thread_core.specs.Steps.{Runs, LocalIs, Told, TellsIf, held_in}
 use Rattle.thread_core.specs.Waiting.{IsUntrapped}
 use Rattle.thread_core.specs.declared.records.Record.{Record}
 use Rattle.thread_core.specs.declared.state.State.{State}

@@ -10,3 +10,5 @@ pub mod Turns
 pub mod Parts
 pub mod Steps
 pub mod Starts
+pub mod Sources
+pub mod Lengths

@@ -1,5 +1,5 @@
 -- A place for one more thread, and its record there.
-use Rattle.std.specs.Prelude.{◌≡◌, ◌≢◌, ℕ, ◌+◌, ◌<◌, ◌≤◌, ◌^◌, length, Option, Some, None, slice_set}
+use Rattle.std.specs.Prelude.{◌≡◌, ◌≢◌, ℕ, ◌+◌, ◌<◌, ◌≤◌, ◌^◌, length, Some, None, slice_set}
 use Rattle.slab.specs.Slab.{get, HasRoomFor}
 use Rattle.thread_waits.specs.Waiting.{wait_at}
 use Rattle.thread_waits.specs.declared.waits.Wait.{Wait}

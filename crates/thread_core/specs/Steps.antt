@@ -1,5 +1,5 @@
 -- What the calls under `begin` and `proceed` do, over the state of a world.
-use Rattle.std.specs.Prelude.{◌≡◌, ℕ, ◌+◌, ◌<◌, ◌≤◌, List, Option, Some, None, option_map}
+use Rattle.std.specs.Prelude.{◌≡◌, ℕ, ◌<◌, ◌≤◌, List, Option, Some, None, option_map}
 use Rattle.slab.specs.Slab.{get}
 use Rattle.cap_word.specs.Calls.{Blocking}
 use Rattle.cap_word.specs.Runs.{Stops}

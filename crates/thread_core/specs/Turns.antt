@@ -11,9 +11,8 @@ use Rattle.machine_world.specs.Places.{Checked, Place}
 use Rattle.machine_world.specs.Rests.{IsPastCall}
 use Rattle.machine_world.specs.Runs.{after_action, Pick}
 use Rattle.machine_world.specs.Stretches.{IsGoodStretch}
-use Rattle.machine_world.specs.Threads.{Thread, World, Setting, thread_of, Move, Puts, Spawns, Blocks, Ends, Stops, step}
+use Rattle.machine_world.specs.Threads.{Thread, World, thread_of, Move, Puts, Spawns, Blocks, Ends, Stops, step}
 use Rattle.segment_run.specs.Contexts.{checked_of}
-use Rattle.certificate_check.specs.Acceptance.{Acceptance}
 use Rattle.thread_core.specs.declared.turns.Turn.{Turn}
 use Rattle.thread_core.specs.Ready.{is_ready_in}
 use Rattle.thread_steps.specs.Silent.{GoesOn}
@@ -91,3 +90,13 @@ MayBegin old thread (Some turn) = Unit {0}
 abbrev pub MayProceed : Held → Option Turn → Type 0
 MayProceed old None = IsSome old.machine.running
 MayProceed old (Some turn) = Unit {0}
+
+-- what a turn leaves: after a value and a start the segment is under way still, after a block and an end none is, and after a
+-- cut and want of memory the run has stopped
+abbrev pub LeavesRun : Turn → Held → Type 0
+LeavesRun (Turn.Out value) new = (new.stopped ≡ None) × IsSome new.machine.running
+LeavesRun (Turn.Spawned thread) new = (new.stopped ≡ None) × IsSome new.machine.running
+LeavesRun (Turn.Blocked key cost) new = (new.stopped ≡ None) × (new.machine.running ≡ None)
+LeavesRun (Turn.Ended cost) new = (new.stopped ≡ None) × (new.machine.running ≡ None)
+LeavesRun (Turn.Cut stop cost) new = new.stopped ≡ Some (Turn.Cut stop cost)
+LeavesRun Turn.Memory new = new.stopped ≡ Some Turn.Memory

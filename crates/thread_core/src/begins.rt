@@ -1,5 +1,7 @@
 ghost use Rattle.std.specs.Prelude.{◌≡◌, None};
-ghost use Rattle.thread_core.specs.Turns.{MayBegin, MayProceed, Begins, Proceeds, KeepsSetting, AnswersAgain};
+ghost use Rattle.thread_core.specs.Lengths.{BeginsShort, StepsKeepShort};
+ghost use Rattle.thread_core.specs.Sources.{BeginsAsSource, ProceedsAsSource};
+ghost use Rattle.thread_core.specs.Turns.{MayBegin, MayProceed, Begins, Proceeds, KeepsSetting, AnswersAgain, LeavesRun};
 ghost use Rattle.thread_core.specs.Worlds.{KeepsPlaces};
 
 use crate::turns::Turn;
@@ -12,6 +14,9 @@ impl World {
     pub fn begin(&mut self, thread: ThreadId) -> Turn
         requires { MayBegin self.old thread self.old.stopped }
         ensures begins { self.old.stopped ≡ None → Begins self.old thread.number result self.new }
+        ensures source { self.old.stopped ≡ None → BeginsAsSource self.old thread.number result self.new }
+        ensures chains { self.old.stopped ≡ None → BeginsShort self.old thread.number self.new }
+        ensures leaves { self.old.stopped ≡ None → LeavesRun result self.new }
         ensures again { AnswersAgain self.old self.old.stopped result self.new }
         ensures setting { KeepsSetting self.old self.new }
         ensures places { KeepsPlaces self.old self.new }
@@ -31,6 +36,9 @@ impl World {
     pub fn proceed(&mut self) -> Turn
         requires { MayProceed self.old self.old.stopped }
         ensures proceeds { self.old.stopped ≡ None → Proceeds self.old result self.new }
+        ensures source { self.old.stopped ≡ None → ProceedsAsSource self.old result self.new }
+        ensures chains { self.old.stopped ≡ None → StepsKeepShort self.old self.old.machine self.new }
+        ensures leaves { self.old.stopped ≡ None → LeavesRun result self.new }
         ensures again { AnswersAgain self.old self.old.stopped result self.new }
         ensures setting { KeepsSetting self.old self.new }
         ensures places { KeepsPlaces self.old self.new }

@@ -102,6 +102,13 @@ impl World {
         &self.accepted
     }
 
+    /// How many words a chunk has.
+    pub fn chunk_words(&self) -> u32
+        ensures { result ≡ self.now.machine.areas.pool.words }
+    {
+        self.accepted.certificate().chunk / 4
+    }
+
     /// A word of a chunk.
     pub fn word_at(&self, chunk: u32, word: u32) -> u32
         requires chunk { chunk < self.now.machine.areas.pool.count }

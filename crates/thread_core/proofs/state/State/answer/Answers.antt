@@ -8,7 +8,6 @@ use Rattle.thread_exchange.specs.Exchanges.{Exchanging}
 use Rattle.thread_core.specs.Parts.{passed_context}
 use Rattle.thread_core.specs.Steps.{LocalIs, Told}
 use Rattle.thread_core.specs.declared.records.Record.{Record}
-use Rattle.thread_core.specs.declared.state.State.{State}
 use Rattle.thread_core.specs.declared.turns.Turn.{Turn}
 use Rattle.thread_core.proofs.Alike.{stop_told}
 use Rattle.thread_core.proofs.Answering as answering

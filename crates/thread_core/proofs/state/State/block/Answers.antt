@@ -1,26 +1,24 @@
-use Rattle.std.proofs.Common.{◌≡◌, ℕ, ◌-◌, ◌+◌, ◌^◌, ◌<◌, ◌≤◌, List, Option, Some, None, refl, sym, ap, ◌∙◌, subst, arith}
+use Rattle.std.proofs.Common.{◌≡◌, ℕ, ◌-◌, ◌+◌, List, sym, ap, ◌∙◌, subst, arith}
 use Rattle.cap_word.specs.declared.stops.Stop.{Stop}
-use Rattle.cap_word.specs.declared.traps.TrapKind.{TrapKind}
 use Rattle.chunk_pool.specs.Pool.{Pool}
 use Rattle.flat_code.specs.declared.operations.Op.{Op}
 use Rattle.machine_world.specs.InPlace.{Frame}
 use Rattle.machine_world.specs.Keys.{key_of}
 use Rattle.machine_world.specs.Places.{Place}
 use Rattle.machine_world.specs.Rests.{IsPastCall}
-use Rattle.segment_run.specs.Contexts.{checked_of, code_of, local_of, core_of}
-use Rattle.segment_run.specs.Passing.{RestsBehind}
-use Rattle.thread_core.specs.Steps.{Told}
+use Rattle.segment_run.specs.Contexts.{checked_of, core_of}
 use Rattle.thread_core.specs.declared.turns.Turn.{Turn}
 use Rattle.thread_core.specs.declared.state.State.{State}
 use Rattle.thread_core.proofs.Blocking as law
 use Rattle.thread_core.proofs.InRange.{in_range}
-use Rattle.thread_core.proofs.Joining.{cut_told, told_is}
+use Rattle.thread_core.proofs.Alike.{stop_told}
+use Rattle.thread_core.proofs.Joining.{told_is}
 use Rattle.thread_core.proofs.state.State.block.Goals as goal
 
 pub returns-in-Some : goal.returns-in-Some
 returns-in-Some c =
     told_is c.args.accepted.now c.args.most c.args.thread c.args.self.now c.args.self.now c.cut.result (Turn.Cut (Stop.Trap c.in-Some.kind) (c.args.most - c.args.self.now.fuel.left - c.args.self.now.begun)) c.cut.new.self
-    (cut_told c.args.accepted.now c.args.most c.args.thread c.args.self.now c.requires.runs (Stop.Trap c.in-Some.kind) (law.traps c.args.accepted.now c.args.most c.args.self.now c.args.thread c.requires.runs c.requires.fuel c.args.block c.requires.at c.image-image.ensures.valid c.in-Some.kind (sym c.trap_of.ensures.trap ∙ c.in-Some.is)))
+    (stop_told c.args.accepted.now c.args.most c.args.self.now c.args.thread c.requires.runs (Stop.Trap c.in-Some.kind) (law.traps c.args.accepted.now c.args.most c.args.self.now c.args.thread c.requires.runs c.requires.fuel c.args.block c.requires.at c.image-image.ensures.valid c.in-Some.kind (sym c.trap_of.ensures.trap ∙ c.in-Some.is)))
     c.cut.ensures.turn c.cut.ensures.after
 
 pub pass-context-requires-clause-pc : goal.pass-context-requires-clause-pc

@@ -1,6 +1,5 @@
-use Rattle.std.proofs.Common.{◌≡◌, Option, Some, None, IsSome, sym, subst}
+use Rattle.std.proofs.Common.{◌≡◌, Some, sym, subst}
 use Rattle.slab.specs.Slab.{get}
-use Rattle.machine_world.specs.Places.{Checked}
 use Rattle.segment_run.specs.Contexts.{checked_of, code_of, local_of}
 use Rattle.segment_run.specs.Passing.{RestsBefore, RestsBehind}
 use Rattle.segment_run.specs.declared.contexts.Context.{Context}

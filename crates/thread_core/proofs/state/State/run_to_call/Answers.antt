@@ -1,4 +1,4 @@
-use Rattle.std.proofs.Common.{◌≡◌, ◌≢◌, ℕ, ◌+◌, ◌-◌, Some, None, sym, ◌∙◌, ap, subst}
+use Rattle.std.proofs.Common.{◌≡◌, ◌+◌, ◌-◌, Some, sym, ◌∙◌, ap, subst}
 use Rattle.segment_run.specs.Contexts.{checked_of, code_of, local_of}
 use Rattle.segment_run.specs.Segments.{IsSegment, KeepsChunks}
 use Rattle.segment_run.specs.declared.contexts.Context.{Context}

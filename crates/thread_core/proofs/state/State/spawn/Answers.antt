@@ -1,13 +1,10 @@
-use Rattle.std.proofs.Common.{◌≡◌, ◌<◌, ◌≤◌, Some, None, sym, subst, ap, ◌∙◌, arith, length}
+use Rattle.std.proofs.Common.{◌≡◌, ◌<◌, ◌≤◌, sym, ap, ◌∙◌, arith, length}
 use Rattle.c_lower.specs.ProgramCode.{lowered}
 use Rattle.certificate_check.specs.Accepting.{accepted_tree}
 use Rattle.chunk_pool.specs.Pool.{Pool}
 use Rattle.machine_world.specs.Threads.{most_threads}
 use Rattle.segment_run.proofs.Calls.{as_many}
 use Rattle.cap_word.specs.declared.stops.Stop.{Stop}
-use Rattle.thread_core.specs.Steps.{Told}
-use Rattle.thread_core.specs.declared.state.State.{State}
-use Rattle.thread_core.specs.declared.turns.Turn.{Turn}
 use Rattle.thread_core.proofs.Alike.{stop_told}
 use Rattle.thread_core.proofs.Spawning as spawning
 use Rattle.thread_core.proofs.Spawned as spawned
