@@ -1,7 +1,6 @@
 -- How a command ends, from what its last step did.
-use Rattle.std.proofs.Common.{◌≡◌, ◌≢◌, ℕ, ◌<◌, ◌≤◌, List, [], ◌∷◌, ◌++◌, length, take, Option, Some, None, Result, Ok, Err, refl, sym, ap, ◌∙◌, subst, arith, inl, inr, ⊎_elim}
+use Rattle.std.proofs.Common.{◌≡◌, ℕ, List, [], ◌∷◌, Option, Some, None, Result, Ok, Err, refl, sym, ◌∙◌, subst, inl, inr, ⊎_elim}
 use Rattle.std.proofs.lemmas.List.{append-nil}
-use Rattle.std.specs.Prelude.{MatchResult}
 use Rattle.std.specs.Io.KnownBytes.{Keeps, Appends}
 use Rattle.cap_io.specs.Files.{Files, KeepsFiles, KeepsOthers}
 use Rattle.capriccio_cli.specs.declared.stops.Cause.{Cause}
@@ -11,8 +10,7 @@ use Rattle.capriccio_cli.specs.declared.faults.Fault.{Fault}
 use Rattle.capriccio_cli.specs.declared.faults.Fault.TheVariants.{Read, Write, Memory}
 use Rattle.capriccio_cli.specs.Outcome.{Outcome, printed}
 use Rattle.capriccio_cli.specs.CauseLines.{refusal}
-use Rattle.capriccio_cli.specs.FaultLines.{fault_status, fault_line}
-use Rattle.capriccio_cli.specs.Done.{Outside, IsRisen, WhereTold, AreStored, AreCutShort, IsStored, IsCutShort, IsNothing, IsWhole, IsDone, IsExact, IsToldOf, IsTold, status_of, line_of}
+use Rattle.capriccio_cli.specs.Done.{Outside, IsRisen, WhereTold, AreStored, AreCutShort, IsDone, IsExact, IsToldOf, IsTold}
 use Rattle.capriccio_cli.specs.Steps.{IsShelfStop, IsPrinted, AreStores, EndsAs, IsFinished}
 
 pub keeps-itself : (bytes : Option (List ℕ)) → Keeps bytes bytes

@@ -1,49 +1,44 @@
 -- The cases of what is due exclude one another: two outcomes that are due for the same words and files have one status and one
 -- line.
-use Rattle.std.proofs.Common.{◌≡◌, ℕ, ◌<◌, ◌≤◌, List, [], ◌∷◌, ◌++◌, length, Option, Some, None, Result, Ok, Err, refl, sym, ap, subst, ◌∙◌, arith, inl, inr, ⊎_elim}
-use Rattle.std.specs.Prelude.{IfSome}
+use Rattle.std.proofs.Common.{◌≡◌, ℕ, ◌<◌, List, [], ◌∷◌, ◌++◌, Option, Some, None, Result, Ok, Err, refl, sym, ap, subst, ◌∙◌, arith, inl, inr, ⊎_elim}
 use Rattle.std.proofs.lemmas.Bool.{cases_order}
-use Rattle.cap_io.specs.Faults.{Rose, Stayed}
+use Rattle.cap_io.specs.Faults.{Stayed}
 use Rattle.cap_io.specs.Files.{Files}
 use Rattle.c_tree.specs.Trees.{ProgramTree}
 use Rattle.c_tree.specs.WellScoped.{IsWellScoped}
-use Rattle.c_scope.specs.SourceText.{ReadsAs, IsSourceErrorOf}
 use Rattle.c_scope.specs.declared.source_errors.SourceError.{SourceError}
 use Rattle.c_lower.specs.ProgramCode.{lowered}
 use Rattle.flat_code.specs.Codes.{FlatCode}
 use Rattle.codegen_link.specs.declared.options.Options.{Options}
-use Rattle.certificate_rules.specs.Validity.{IsValid, IsFirstFailure}
+use Rattle.certificate_rules.specs.Validity.{IsFirstFailure}
 use Rattle.stack_image.specs.declared.images.Image.{Image}
 use Rattle.stack_image.specs.declared.refusals.ImageError.{ImageError}
 use Rattle.stack_image.specs.Refusal.{refusal_of}
 use Rattle.stack_image.specs.Reading.{image_of}
-use Rattle.stack_image.specs.Spelling as image
 use Rattle.stack_image.proofs.ReadAgain.{spelling_not_refused, image_of-spelling}
 use Rattle.stack_certificate.specs.declared.certificates.Certificate.{Certificate}
 use Rattle.stack_certificate.specs.FirstRefused.{IsFirstRefused}
-use Rattle.stack_certificate.specs.Text as certificate
 use Rattle.stack_certificate.proofs.Spellings.{spelling_unique, first_refused_unique, spelling_unrefused}
 use Rattle.stack_build.specs.Builds.{frame_refusal}
 use Rattle.stack_build.specs.declared.refusals.BuildError.TheVariants.{FrameTooLarge}
-use Rattle.command_words.specs.WordList.{IsWordList, Request, Serve, Run, Build, Check, Graph, Demo}
+use Rattle.command_words.specs.WordList.{Request, Serve, Run, Build, Check, Graph, Demo}
 use Rattle.command_words.proofs.OneRequest.{one_request}
 use Rattle.analysis_lines.specs.Lines.{name_at}
 use Rattle.capriccio_cli.specs.declared.documents.Document.{Document}
 use Rattle.capriccio_cli.specs.declared.documents.Document.TheVariants as document
-use Rattle.capriccio_cli.specs.declared.stops.Cause.{Cause}
 use Rattle.capriccio_cli.specs.declared.stops.Cause.TheVariants as cause
 use Rattle.capriccio_cli.specs.declared.faults.Fault.{Fault}
 use Rattle.capriccio_cli.specs.declared.faults.Fault.TheVariants.{Read, Write, Memory}
 use Rattle.capriccio_cli.specs.declared.check_command.Verdict.{Verdict}
 use Rattle.capriccio_cli.specs.declared.check_command.Verdict.TheVariants.{Accepted, Rejected}
 use Rattle.capriccio_cli.specs.Outcome.{Outcome, refused, printed}
-use Rattle.capriccio_cli.specs.CauseLines.{most_bytes, refusal, frame_words}
+use Rattle.capriccio_cli.specs.CauseLines.{refusal, frame_words}
 use Rattle.capriccio_cli.specs.Loads.{OfFile, AfterLoad, AfterThree, AfterSource, AfterImage, AfterCertificate, IsImageText, IsCertificateText}
-use Rattle.capriccio_cli.specs.Graphs.{Graphs, GraphsProgram, IsFrameRefused, names_of}
-use Rattle.capriccio_cli.specs.Checks.{Checks, ChecksBytes, ChecksPair, IsVerdict, verdict_outcome}
+use Rattle.capriccio_cli.specs.Graphs.{GraphsProgram, IsFrameRefused, names_of}
+use Rattle.capriccio_cli.specs.Checks.{ChecksBytes, ChecksPair, IsVerdict, verdict_outcome}
 use Rattle.capriccio_cli.specs.BuildsFiles.{BuildsCode, BuildsProgram, built}
 use Rattle.capriccio_cli.specs.Due.{Does, IsDue, sizes_of}
-use Rattle.capriccio_cli.specs.Done.{Outside, IsRisen, IsDone, NoFault, IsExact, IsCase}
+use Rattle.capriccio_cli.specs.Done.{Outside, IsRisen, IsDone, IsExact, IsCase}
 use Rattle.c_scope.proofs.SourceTexts.{one_program, one_source_error, never}
 use Rattle.capriccio_cli.proofs.OneBuild.{words-are-one}
 

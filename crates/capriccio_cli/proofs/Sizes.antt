@@ -1,5 +1,5 @@
 -- The sizes of a word list are in the ranges that a build wants.
-use Rattle.std.proofs.Common.{ℕ, ◌+◌, ◌≤◌, List, Option, arith}
+use Rattle.std.proofs.Common.{ℕ, List, Option, arith}
 use Rattle.codegen_link.specs.Plans.{AreInRange}
 use Rattle.command_words.specs.Said.{value_of}
 use Rattle.command_words.specs.Values.{IsPlacement}
