@@ -22,6 +22,7 @@ use Rattle.runner.specs.Kept.{Kept}
 use Rattle.runner.specs.Lines.{halt_end, end_lines, edge_line}
 use Rattle.runner.specs.Looks.{Knows}
 use Rattle.runner.specs.Sound.{IsSound}
+use Rattle.runner.specs.Ways.{IsOnWay, IsOnRun}
 use Rattle.runner.specs.Stands.{StandsBetween, Stands, bytes_of}
 use Rattle.runner.specs.Steps.{IsTold, ActsTo, GoesTo, HaltsAt, FailsIn, stop_line}
 use Rattle.schedule_log.specs.EntryText.{entry_text, log_text}
@@ -91,8 +92,8 @@ module _ (g : Setup) (first : Held) (monitor : MonitorState) (at : IsAtStart g f
 
   -- a part of a log was written
   pub fell_at : (left taken written : Option (List ℕ)) (held : Held) (entries : List Entry) (stop : StopLine) (end : World) → IfSome left (λ b. IsLawfulLog g b entries stop end) → (count : ℕ) → count ≤ length (log_text entries) →
-      Appends taken written (take count (log_text entries)) → ActsTo (setting_of g) first.machine held.machine → FellShort g held left taken written
-  fell_at left taken written held entries stop end lawful count part writes acts = record {
+      Appends taken written (take count (log_text entries)) → ActsTo (setting_of g) first.machine held.machine → IfSome left (λ b. IsOnRun g b first.machine entries held.machine) → FellShort g held left taken written
+  fell_at left taken written held entries stop end lawful count part writes acts on_run = record {
     entries = entries;
     stop = stop;
     end = end;
@@ -105,6 +106,7 @@ module _ (g : Setup) (first : Held) (monitor : MonitorState) (at : IsAtStart g f
     starts = starts g first monitor at sound;
     actions = acts.actions;
     machine = acts.leads;
+    on_run = on_run;
   }
 
   longer : (a rest whole : List Entry) (count : ℕ) → whole ≡ a ++ rest → count ≤ length (log_text a) → count ≤ length (log_text whole)
@@ -118,13 +120,14 @@ module _ (g : Setup) (first : Held) (monitor : MonitorState) (at : IsAtStart g f
 
   -- a part of entries was written that are allowed from the start: they begin the lawful log
   pub fell_leads : (left taken written : Option (List ℕ)) (held : Held) (state : State) (entries : List Entry) → (IsTold left → Leads g (start_of g (bytes_of left) first.machine) entries state) → (count : ℕ) → count ≤ length (log_text entries) →
-      Appends taken written (take count (log_text entries)) → ActsTo (setting_of g) first.machine held.machine → FellShort g held left taken written
-  fell_leads None taken written held state entries leads count part writes acts = fell_at None taken written held entries StopLine.Done held.machine tt count part writes acts
-  fell_leads (Some b) taken written held state entries leads count part writes acts =
+      Appends taken written (take count (log_text entries)) → ActsTo (setting_of g) first.machine held.machine → IsOnWay (setting_of g) state.machine held.machine → FellShort g held left taken written
+  fell_leads None taken written held state entries leads count part writes acts way = fell_at None taken written held entries StopLine.Done held.machine tt count part writes acts tt
+  fell_leads (Some b) taken written held state entries leads count part writes acts way =
       let whole : HasOneLog g b = one_log g (scoped g first monitor at sound) (valid g first monitor at sound) (well g first monitor at sound) (fuel_most g first monitor at sound) b in
       let rest = begins_each g b first.machine entries whole.entries state whole.stop whole.end (starts g first monitor at sound) (leads tt) whole.lawful in
       fell_at (Some b) taken written held whole.entries whole.stop whole.end whole.lawful count (longer entries rest.0 whole.entries count rest.1 part)
       (subst (λ (l : List ℕ). Appends taken written l) (sym (begins entries rest.0 whole.entries count rest.1 part)) writes) acts
+      (record { done = entries; rest = rest.0; joined = rest.1; state = state; leads = leads tt; way = way })
 
 -- ---- a run so far
 
@@ -190,7 +193,7 @@ module _ (g : Setup) (first : Held) (left_first taken_first : Option (List ℕ))
         (length done + fails.count) (omega (arith, size, part))
         (subst (λ (l : List ℕ). Appends taken_first written l) (sym (ap (take (length done + fails.count)) text ∙ take_on done more fails.count))
         (appends_on taken_first taken written done (take fails.count more) so_far.writes fails.writes))
-        (acts_on (setting_of g) first.machine so_far.state.machine after.machine so_far.acts fails.acts)
+        (acts_on (setting_of g) first.machine so_far.state.machine after.machine so_far.acts fails.acts) fails.way
 
     -- it stops
     module _ (halt : Halt) (new : Kept) (after : Held) (mid : Option (List ℕ)) (halts : HaltsAt g so_far.state so_far.left new after halt taken mid) where
@@ -211,6 +214,10 @@ module _ (g : Setup) (first : Held) (left_first taken_first : Option (List ℕ))
         stops = halts.stops (told tt);
         entries_are = refl;
       }
+
+      on_run_if : (left : Option (List ℕ)) → (IsTold left → Leads g (start_of g (bytes_of left) first.machine) so_far.entries so_far.state) → IfSome left (λ b. IsOnRun g b first.machine whole after.machine)
+      on_run_if None leads = tt
+      on_run_if (Some b) leads = record { done = so_far.entries; rest = ending g so_far.state stop; joined = refl; state = so_far.state; leads = leads tt; way = halts.way }
 
       lawful : IfSome left_first (λ b. IsLawfulLog g b whole stop after.machine)
       lawful = lawful_if left_first so_far.told so_far.leads
@@ -240,4 +247,4 @@ module _ (g : Setup) (first : Held) (left_first taken_first : Option (List ℕ))
           fell_at g first monitor at sound left_first taken_first written after whole stop after.machine lawful (length done + count) (omega (arith, size, part_now))
           (subst (λ (l : List ℕ). Appends taken_first written l) (sym (ap (take (length done + count)) text ∙ take_on done more count))
           (appends_on taken_first taken written done (take count more) so_far.writes (subst (λ (l : List ℕ). Appends taken written (take count l)) end_is (subst (λ (m : Option (List ℕ)). Appends m written (take count (log_text (end_lines after.setting.caps new.graph.edges stop)))) halts.writes puts))))
-          (acts_on (setting_of g) first.machine so_far.state.machine after.machine so_far.acts halts.acts)
+          (acts_on (setting_of g) first.machine so_far.state.machine after.machine so_far.acts halts.acts) (on_run_if left_first so_far.leads)

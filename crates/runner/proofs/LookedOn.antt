@@ -20,7 +20,7 @@ use Rattle.runner.specs.Looks.{Sees, Refuses, Nears}
 use Rattle.runner.specs.Ranks.{due_at, long_rank, lines_rank, stuck_rank, rank, FallsTo}
 use Rattle.runner.specs.Stands.{StandsBetween, StandsSomehow, IsAtPoint}
 use Rattle.runner.specs.Steps.{IsTold, HaltsAt, FailsIn, StepEnds}
-use Rattle.runner.proofs.Parts.{acts_between, no_part, to_between}
+use Rattle.runner.proofs.Parts.{acts_between, way_between, onward_between, no_part, to_between}
 use Rattle.runner.proofs.Waited.{clock_same}
 
 -- what is known of the trace may be left out
@@ -54,6 +54,7 @@ module _ (g : Setup) (state : State) (k : Kept) (held : Held) (left : Option (Li
     };
     graph = stands.past.graph_is;
     acts = acts_between g state k held left stands;
+    way = way_between g state k held left stands;
     writes = refl;
   }
 
@@ -68,11 +69,12 @@ module _ (g : Setup) (state : State) (k : Kept) (held : Held) (left : Option (Li
     };
     graph = subst (λ (x : GraphState). IsGraphOf x state.past) (sym same) stands.past.graph_is;
     acts = acts_between g state k held left stands;
+    way = way_between g state k held left stands;
     writes = refl;
   }
 
   pub read_fails : (taken : Option (List ℕ)) → FailsIn g state left held taken taken
-  read_fails taken = no_part g state left held taken stands.of (acts_between g state k held left stands)
+  read_fails taken = no_part g state left held taken stands.of (onward_between g state k held left stands)
 
 pub at_point : (g : Setup) (state : State) (left : Option (List ℕ)) (k : Kept) (held : Held) (told : Option (List ℕ)) (event : Option Event) (sees : Sees g state left k held told event) → k.under ≡ None → held.machine.threads ≢ [] →
     IsAtPoint g state k held sees.left event
@@ -90,7 +92,7 @@ from_before g state before here k held left taken written (Ok None) told is = re
   stands = is.stands;
   writes = is.writes;
 }
-from_before g state before here k held left taken written (Ok (Some halt)) told is = record { of = is.of; stops = λ t. is.stops (told t); graph = is.graph; acts = is.acts; writes = is.writes }
+from_before g state before here k held left taken written (Ok (Some halt)) told is = record { of = is.of; stops = λ t. is.stops (told t); graph = is.graph; acts = is.acts; way = is.way; writes = is.writes }
 from_before g state before here k held left taken written (Err failure) told is = record {
   new = is.new;
   entries = is.entries;
@@ -99,6 +101,7 @@ from_before g state before here k held left taken written (Err failure) told is 
   part = is.part;
   writes = is.writes;
   acts = is.acts;
+  way = is.way;
   of = is.of;
 }
 

@@ -18,7 +18,10 @@ use Rattle.runner.specs.Stands.{IsOf, StandsBetween, StandsWithin, StandsBy, Sta
 use Rattle.runner.specs.Steps.{IsTold, ActsTo, GoesTo, FailsIn, PartEnds}
 use Rattle.schedule_log.specs.EntryText.{entry_text, log_text}
 use Rattle.schedule_log.specs.declared.entries.Entry.{Entry}
+use Rattle.thread_core.specs.Turns.{Tells}
 use Rattle.thread_core.specs.Worlds.{Held}
+use Rattle.thread_core.specs.declared.turns.Turn.{Turn}
+use Rattle.runner.specs.Ways.{IsOnWay, has_waited, has_run, has_told}
 use Rattle.runner.proofs.Acting.{acts_on, one_step, told_acts}
 
 -- ---- one action
@@ -63,6 +66,17 @@ pub quiet_acts : (s : Setting) (n : ℕ) (w at : World) → after_quiet s n w �
 quiet_acts s zero w at e = no_acts s w at (let same : Some w ≡ Some at = e in cc)
 quiet_acts s (suc n) w at e = quiet_by s n w at (λ v f. quiet_acts s n v at f) (quiet_world (step s w)) refl e
 
+-- ---- the way to the next entry
+
+told_way : (s : Setting) (from at : World) (n : ℕ) → after_quiet s n from ≡ Some at → (move : Move) (turn : Turn) (number : ℕ) (new : Held) → step s at ≡ move → Tells move turn number at new → IsOnWay s from new.machine
+told_way s from at n quiet (Puts_word value after) (Turn.Out told) number new e t = has_told n at quiet (ap world_of e ∙ ap Some (sym t.1))
+told_way s from at n quiet (Spawns started after) (Turn.Spawned thread) number new e t = has_told n at quiet (ap world_of e ∙ ap Some (sym t.2))
+told_way s from at n quiet (Spawns started after) Turn.Memory number new e t = has_run n (quiet ∙ ap Some (sym t.0))
+told_way s from at n quiet (Blocks after) (Turn.Blocked key cost) number new e t = has_told n at quiet (ap world_of e ∙ ap Some (sym t.2))
+told_way s from at n quiet (Ends after) (Turn.Ended cost) number new e t = has_told n at quiet (ap world_of e ∙ ap Some (sym t.1))
+told_way s from at n quiet (Stops stop) (Turn.Cut told cost) number new e t = has_run n (quiet ∙ ap Some (sym t.2))
+told_way s from at n quiet _ _ number new e t = absurd t
+
 -- ---- where the run stands
 
 module _ (g : Setup) (state : State) (k : Kept) (held : Held) (left : Option (List ℕ)) where
@@ -78,6 +92,25 @@ module _ (g : Setup) (state : State) (k : Kept) (held : Held) (left : Option (Li
   acts_by : (under : Option Under) → StandsBy g state k held left under → ActsTo (setting_of g) state.machine held.machine
   acts_by None stands = acts_between stands
   acts_by (Some under) stands = acts_within under stands
+
+  pub way_between : StandsBetween g state k held left → IsOnWay (setting_of g) state.machine held.machine
+  way_between stands = has_waited stands.between.machine_is stands.between.later
+
+  pub way_within : (under : Under) → StandsWithin g state k held left under → IsOnWay (setting_of g) state.machine held.machine
+  way_within under stands = told_way (setting_of g) state.machine stands.here stands.within.steps stands.within.quiet (step (setting_of g) stands.here) under.turn stands.segment.thread held refl stands.tells
+
+  way_by : (under : Option Under) → StandsBy g state k held left under → IsOnWay (setting_of g) state.machine held.machine
+  way_by None stands = way_between stands
+  way_by (Some under) stands = way_within under stands
+
+  pub way_now : Stands g state k held left → IsOnWay (setting_of g) state.machine held.machine
+  way_now stands = way_by k.under stands
+
+  pub onward_between : StandsBetween g state k held left → ActsTo (setting_of g) state.machine held.machine × IsOnWay (setting_of g) state.machine held.machine
+  onward_between stands = (acts_between stands, way_between stands)
+
+  pub onward_within : (under : Under) → StandsWithin g state k held left under → ActsTo (setting_of g) state.machine held.machine × IsOnWay (setting_of g) state.machine held.machine
+  onward_within under stands = (acts_within under stands, way_within under stands)
 
   pub acts_now : Stands g state k held left → ActsTo (setting_of g) state.machine held.machine
   acts_now stands = acts_by k.under stands
@@ -130,7 +163,7 @@ silent g state left k held after taken told stands = record {
   writes = subst (λ (l : List ℕ). Appends taken taken l) (sym no_line) (keeps_all taken);
 }
 
-pub no_part : (g : Setup) (state : State) (left : Option (List ℕ)) (held : Held) (taken : Option (List ℕ)) → IsOf g held → ActsTo (setting_of g) state.machine held.machine → FailsIn g state left held taken taken
+pub no_part : (g : Setup) (state : State) (left : Option (List ℕ)) (held : Held) (taken : Option (List ℕ)) → IsOf g held → ActsTo (setting_of g) state.machine held.machine × IsOnWay (setting_of g) state.machine held.machine → FailsIn g state left held taken taken
 no_part g state left held taken of acts = record {
   new = state;
   entries = [];
@@ -138,7 +171,8 @@ no_part g state left held taken of acts = record {
   count = 0;
   part = omega arith;
   writes = keeps_all taken;
-  acts = acts;
+  acts = acts.0;
+  way = acts.1;
   of = of;
 }
 
@@ -162,5 +196,6 @@ part_of g state new left k held taken written entry (Err failure) allowed acts s
   part = subst (λ (l : List ℕ). puts.0 ≤ length l) (sym (one_line entry)) puts.1;
   writes = subst (λ (l : List ℕ). Appends taken written (take puts.0 l)) (sym (one_line entry)) puts.2;
   acts = acts_on (setting_of g) state.machine new.machine held.machine acts (acts_now g new k held left stands);
+  way = way_now g new k held left stands;
   of = of_now g new k held left stands;
 }

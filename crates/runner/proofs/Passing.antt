@@ -11,7 +11,7 @@ use Rattle.runner.specs.Steps.{HaltsAt}
 use Rattle.thread_core.specs.Worlds.{Held}
 use Rattle.thread_core.specs.declared.turns.Turn.{Turn}
 use Rattle.runner.proofs.AsSource.{source_steps}
-use Rattle.runner.proofs.Parts.{acts_within}
+use Rattle.runner.proofs.Parts.{acts_within, way_within}
 use Rattle.runner.proofs.Told.{cut_is}
 
 pub cut_halts : (g : Setup) (state : State) (k : Kept) (held : Held) (left : Option (List ℕ)) (under : Under) (stands : StandsWithin g state k held left under) (stop : Stop) (cost : ℕ) → under.turn ≡ Turn.Cut stop cost → (taken : Option (List ℕ)) →
@@ -21,5 +21,6 @@ cut_halts g state k held left under stands stop cost turn_is taken = record {
   stops = λ told. cut_is g state k held left under stands (source_steps g state held stands.of stands.segment.thread) stop cost turn_is;
   graph = stands.past.graph_is;
   acts = acts_within g state k held left under stands;
+  way = way_within g state k held left under stands;
   writes = refl;
 }

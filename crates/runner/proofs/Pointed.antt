@@ -21,7 +21,7 @@ use Rattle.runner.specs.Waits.{WaitEnds}
 use Rattle.thread_core.specs.Making as making
 use Rattle.thread_core.specs.Making.{IsEventInRange, after_event}
 use Rattle.thread_core.specs.Worlds.{Held}
-use Rattle.runner.proofs.Parts.{acts_between, by_none, silent}
+use Rattle.runner.proofs.Parts.{acts_between, way_between, by_none, silent}
 
 known_event : (n : Next) (event : Event) → known n ≡ Some (Some event) → n ≡ Next.Event event
 known_event Next.Unread event e = absurd (cc)
@@ -64,6 +64,7 @@ module _ (g : Setup) (state : State) (k : Kept) (held : Held) (left : Option (Li
       stops = is.idle;
       graph = at.stands.past.graph_is;
       acts = acts_between g state k held left at.stands;
+      way = way_between g state k held left at.stands;
       writes = refl;
     }
 

@@ -16,6 +16,7 @@ use Rattle.runner.specs.Kept.{Kept}
 use Rattle.runner.specs.Lines.{failure_end, halt_end, end_lines}
 use Rattle.runner.specs.Looks.{Knows}
 use Rattle.runner.specs.Sound.{IsSound}
+use Rattle.runner.specs.Ways.{has_run}
 use Rattle.runner.specs.Stands.{StandsBetween, Stands, StandsSomehow, bytes_of}
 use Rattle.runner.specs.Steps.{HaltsAt, StepEnds, stop_line}
 use Rattle.schedule_log.specs.EntryText.{log_text}
@@ -122,7 +123,7 @@ module _ (first : Held) (monitor : MonitorState) (left_first taken_first : Optio
 pub run_memory : (first : Held) (monitor : MonitorState) (left taken : Option (List ℕ)) (reads writes : ℕ) → IsSound first.accepted → (g : Setup) → IsAtStart g first monitor → IsRunEnd g first left taken taken reads reads writes writes (failure_end Failure.Memory)
 run_memory first monitor left taken reads writes sound g at = (
   fell_leads g first monitor at sound left taken taken first (start_of g (bytes_of left) first.machine) [] (λ told. nowhere) 0 (omega arith)
-      (keeps_taken taken) (no_acts (setting_of g) first.machine first.machine refl),
+      (keeps_taken taken) (no_acts (setting_of g) first.machine first.machine refl) (has_run 0 refl),
   refl,
   refl,
 )

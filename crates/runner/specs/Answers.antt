@@ -18,6 +18,7 @@ use Rattle.schedule_log.specs.declared.entries.StopLine.{StopLine}
 use Rattle.thread_core.specs.Making.{IsPolicy, IsStart}
 use Rattle.thread_core.specs.Worlds.{Held}
 use Rattle.thread_core.specs.declared.policy.WorldPolicy.{WorldPolicy}
+use Rattle.runner.specs.Ways.{IsOnRun}
 use Rattle.runner.specs.declared.ends.RunEnd.{RunEnd}
 use Rattle.runner.specs.declared.ends.RunEnd.TheVariants as end
 
@@ -54,8 +55,8 @@ pub record CameTo (g : Setup) (after : Held) (left taken taken' : Option (List �
   pub end_is : IsEndAt stop answer
   pub writes : Appends taken taken' (log_text entries)
 
--- a run that could not go on: a beginning of its log was written, the whole of which is good, and some actions lead from its
--- start to the world as it is
+-- a run that could not go on: a beginning of its log was written, the whole of which is good, and the world is on that log's
+-- run; some actions lead from its start to it
 pub record FellShort (g : Setup) (after : Held) (left taken taken' : Option (List ℕ)) : Type 0 where
   pub entries : List Entry
   pub stop : StopLine
@@ -69,6 +70,7 @@ pub record FellShort (g : Setup) (after : Held) (left taken taken' : Option (Lis
   pub starts : start_machine g ≡ Some start
   pub actions : List Action
   pub machine : after_actions (setting_of g) actions start ≡ Some after.machine
+  pub on_run : IfSome left (λ bytes. IsOnRun g bytes start entries after.machine)
 
 -- a count rose, or stands at its end
 pub record HasRisen (old new : ℕ) : Type 0 where

@@ -10,3 +10,4 @@ pub mod Ranks
 pub mod Recorded
 pub mod Waits
 pub mod Sound
+pub mod Ways

@@ -15,6 +15,7 @@ use Rattle.schedule_log.specs.declared.entries.Entry.{Entry}
 use Rattle.schedule_log.specs.declared.entries.StopLine.{StopLine}
 use Rattle.thread_core.specs.Worlds.{Held}
 use Rattle.runner.specs.Kept.{Kept}
+use Rattle.runner.specs.Ways.{IsOnWay}
 use Rattle.runner.specs.Stands.{IsOf, Stands}
 
 -- the trace is told
@@ -50,6 +51,7 @@ pub record HaltsAt (g : Setup) (state : State) (before : Option (List ℕ)) (k :
   pub stops : IsTold before → IsStop g state (stop_line halt (length held.machine.areas.pool.free)) held.machine
   pub graph : IsGraphOf k.graph state.past
   pub acts : ActsTo (setting_of g) state.machine held.machine
+  pub way : IsOnWay (setting_of g) state.machine held.machine
   pub writes : written ≡ taken
 
 -- the run can't go on: a beginning of entries that are allowed was written, and the machine has made some steps
@@ -61,6 +63,7 @@ pub record FailsIn (g : Setup) (state : State) (before : Option (List ℕ)) (hel
   pub part : count ≤ length (log_text entries)
   pub writes : Appends taken written (take count (log_text entries))
   pub acts : ActsTo (setting_of g) state.machine held.machine
+  pub way : IsOnWay (setting_of g) new.machine held.machine
   pub of : IsOf g held
 
 abbrev pub StepEnds : Setup → State → Option (List ℕ) → Kept → Held → Option (List ℕ) → Option (List ℕ) → Option (List ℕ) → Result (Option Halt) Failure → Type 0

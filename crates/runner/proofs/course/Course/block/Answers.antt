@@ -12,7 +12,7 @@ use Rattle.runner.specs.Kept.{Kept, machine_uses}
 use Rattle.runner.specs.Stands.{StandsWithin}
 use Rattle.runner.specs.Steps.{PartEnds}
 use Rattle.runner.proofs.Ended.{block_cost, block_part, caps_held, eight_uses}
-use Rattle.runner.proofs.Parts.{acts_within, no_part}
+use Rattle.runner.proofs.Parts.{onward_within, no_part}
 use Rattle.runner.proofs.course.Course.block.Goals as goal
 
 pub returns-in_err-node-clause-ends : goal.returns-in_err-node-clause-ends
@@ -20,7 +20,7 @@ returns-in_err-node-clause-ends g c = λ s state left stands.
     let p = err_from_is_err_and c.from_residual.result c.from_residual.ensures.1 in
     let after : Kept = record { scheduler = c.self.inside.scheduler; graph = c.node_of.new.self; monitor = c.self.inside.monitor; reader = c.self.inside.reader; next = c.self.inside.next; under = c.self.inside.under } in
     subst (λ r. PartEnds s state left after c.args.world.now left (g.K.Sink.taken c.args.out.now) (g.K.Sink.taken c.args.out.now) r) (sym p.1)
-    (no_part s state left c.args.world.now (g.K.Sink.taken c.args.out.now) stands.of (acts_within s state c.args.self.now c.args.world.now left c.args.under stands))
+    (no_part s state left c.args.world.now (g.K.Sink.taken c.args.out.now) stands.of (onward_within s state c.args.self.now c.args.world.now left c.args.under stands))
 
 pub record-requires-clause-cost : goal.record-requires-clause-cost
 record-requires-clause-cost g c = block_cost c.requires.0 c.requires.1 c.args.self.now c.args.world.now c.requires.2 c.args.under c.requires.3 c.args.key.now c.args.cost c.requires.4
@@ -35,14 +35,14 @@ pub returns-in_err-record-clause-ends : goal.returns-in_err-record-clause-ends
 returns-in_err-record-clause-ends g c = λ s state left stands.
     let p = err_from_is_err_and c.from_residual-in_err-record.result c.from_residual-in_err-record.ensures.1 in
     subst (λ r. PartEnds s state left c.record.new.self c.args.world.now left (g.K.Sink.taken c.args.out.now) (g.K.Sink.taken c.args.out.now) r) (sym p.1)
-    (no_part s state left c.args.world.now (g.K.Sink.taken c.args.out.now) stands.of (acts_within s state c.args.self.now c.args.world.now left c.args.under stands))
+    (no_part s state left c.args.world.now (g.K.Sink.taken c.args.out.now) stands.of (onward_within s state c.args.self.now c.args.world.now left c.args.under stands))
 
 pub returns-in_err-enqueue-clause-ends : goal.returns-in_err-enqueue-clause-ends
 returns-in_err-enqueue-clause-ends g c = λ s state left stands.
     let p = err_from_is_err_and c.from_residual-in_err-enqueue.result c.from_residual-in_err-enqueue.ensures.1 in
     let after : Kept = record { scheduler = c.enqueue.new.self; graph = c.self-2.inside.graph; monitor = c.self-2.inside.monitor; reader = c.self-2.inside.reader; next = c.self-2.inside.next; under = c.self-2.inside.under } in
     subst (λ r. PartEnds s state left after c.args.world.now left (g.K.Sink.taken c.args.out.now) (g.K.Sink.taken c.args.out.now) r) (sym p.1)
-    (no_part s state left c.args.world.now (g.K.Sink.taken c.args.out.now) stands.of (acts_within s state c.args.self.now c.args.world.now left c.args.under stands))
+    (no_part s state left c.args.world.now (g.K.Sink.taken c.args.out.now) stands.of (onward_within s state c.args.self.now c.args.world.now left c.args.under stands))
 
 pub returns-clause-ends : goal.returns-clause-ends
 returns-clause-ends g c = λ s state left stands.

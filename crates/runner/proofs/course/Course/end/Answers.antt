@@ -7,7 +7,7 @@ use Rattle.schedule_log.specs.declared.entries.Entry.{Entry}
 use Rattle.runner.specs.Kept.{Kept}
 use Rattle.runner.specs.Steps.{PartEnds}
 use Rattle.runner.proofs.Ended.{end_cost, end_part, caps_held, eight_uses}
-use Rattle.runner.proofs.Parts.{acts_within, no_part}
+use Rattle.runner.proofs.Parts.{onward_within, no_part}
 use Rattle.runner.proofs.course.Course.end.Goals as goal
 
 pub record-requires-clause-cost : goal.record-requires-clause-cost
@@ -22,7 +22,7 @@ record-requires-clause-uses g c = eight_uses c.requires.0 c.requires.1 c.args.se
 pub returns-in_err-record-clause-ends : goal.returns-in_err-record-clause-ends
 returns-in_err-record-clause-ends g c = λ s state left stands.
     let p = err_from_is_err_and c.from_residual.result c.from_residual.ensures.1 in
-    subst (λ r. PartEnds s state left c.record.new.self c.args.world.now left (g.K.Sink.taken c.args.out.now) (g.K.Sink.taken c.args.out.now) r) (sym p.1) (no_part s state left c.args.world.now (g.K.Sink.taken c.args.out.now) stands.of (acts_within s state c.args.self.now c.args.world.now left c.args.under stands))
+    subst (λ r. PartEnds s state left c.record.new.self c.args.world.now left (g.K.Sink.taken c.args.out.now) (g.K.Sink.taken c.args.out.now) r) (sym p.1) (no_part s state left c.args.world.now (g.K.Sink.taken c.args.out.now) stands.of (onward_within s state c.args.self.now c.args.world.now left c.args.under stands))
 
 pub returns-clause-ends : goal.returns-clause-ends
 returns-clause-ends g c = λ s state left stands.

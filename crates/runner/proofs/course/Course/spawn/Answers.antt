@@ -7,7 +7,7 @@ use Rattle.runner.specs.Stands.{StandsWithin}
 use Rattle.runner.specs.Steps.{PartEnds}
 use Rattle.runner.specs.declared.ends.Failure.{Failure}
 use Rattle.scheduler.specs.State.{SchedulerState}
-use Rattle.runner.proofs.Parts.{acts_within, no_part, silent}
+use Rattle.runner.proofs.Parts.{onward_within, no_part, silent}
 use Rattle.runner.proofs.Putting.{may_proceed, spawned_inside}
 use Rattle.runner.proofs.course.Course.spawn.Goals as goal
 
@@ -15,7 +15,7 @@ pub returns-in_err-enqueue-clause-ends : goal.returns-in_err-enqueue-clause-ends
 returns-in_err-enqueue-clause-ends g c = λ s state left taken stands.
     let p = err_from_is_err_and c.from_residual.result c.from_residual.ensures.1 in
     let after : Kept = record { scheduler = c.enqueue.new.self; graph = c.self.inside.graph; monitor = c.self.inside.monitor; reader = c.self.inside.reader; next = c.self.inside.next; under = c.self.inside.under } in
-    subst (λ r. PartEnds s state left after c.args.world.now left taken taken r) (sym p.1) (no_part s state left c.args.world.now taken stands.of (acts_within s state c.args.self.now c.args.world.now left c.args.under stands))
+    subst (λ r. PartEnds s state left after c.args.world.now left taken taken r) (sym p.1) (no_part s state left c.args.world.now taken stands.of (onward_within s state c.args.self.now c.args.world.now left c.args.under stands))
 
 pub returns-in_err-enqueue-clause-only_memory : goal.returns-in_err-enqueue-clause-only_memory
 returns-in_err-enqueue-clause-only_memory g c =
