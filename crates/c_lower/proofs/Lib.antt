@@ -5,6 +5,8 @@ pub mod ChainCode
 pub mod ExprGlue
 pub mod CallGlue
 pub mod StmtGlue
+pub mod Patches
+pub mod StmtPuts
 pub mod Suits
 pub mod Formed
 pub mod Sites

@@ -3,4 +3,5 @@ pub mod ExprCode
 pub mod Chains
 pub mod CallCode
 pub mod StmtCode
+pub mod StmtSizes
 pub mod ProgramCode

@@ -7,8 +7,7 @@ ghost use Rattle.c_lower.specs.ExprCode.{expr_code};
 ghost use Rattle.c_lower.specs.Chains.{truth_code, operand_code};
 
 use crate::operators::{operator_for, put_unary};
-use crate::places::{place_after, put};
-use crate::sizes::size_of_expr;
+use crate::places::{patch, place_after, put, put_open};
 use c_tree::{Expr, Infix};
 use flat_code::Op;
 use std::alloc::AllocError;
@@ -79,12 +78,15 @@ pub fn put_expr(code: &mut Vec<Op>, k: u32, expr: &Expr) -> Result<(), AllocErro
             otherwise,
         } => {
             put_expr(code, k, condition)?;
-            let second = place_after(code, size_of_expr(then)?, 2)?;
-            put(code, Op::JumpZero { s: k, to: second })?;
+            let test = put_open(code)?;
             put_expr(code, k, then)?;
-            let end = place_after(code, size_of_expr(otherwise)?, 1)?;
-            put(code, Op::Jump { to: end })?;
-            put_expr(code, k, otherwise)
+            let second = place_after(code, 0, 1)?;
+            patch(code, test, Op::JumpZero { s: k, to: second });
+            let jump = put_open(code)?;
+            put_expr(code, k, otherwise)?;
+            let end = place_after(code, 0, 0)?;
+            patch(code, jump, Op::Jump { to: end });
+            Ok(())
         }
     }
 }
@@ -114,22 +116,22 @@ fn put_operand(
             )
         }
         Infix::LogicalAnd => {
-            let size = size_of_expr(operand)?;
-            let zero = place_after(code, size, 4)?;
-            let end = place_after(code, size, 5)?;
-            put(code, Op::JumpZero { s: k, to: zero })?;
+            let test = put_open(code)?;
             put_expr(code, k, operand)?;
+            let zero = place_after(code, 0, 3)?;
+            let end = place_after(code, 0, 4)?;
+            patch(code, test, Op::JumpZero { s: k, to: zero });
             put_truth(code, k, zero, end)
         }
         Infix::LogicalOr => {
-            let size = size_of_expr(operand)?;
             let right = place_after(code, 0, 2)?;
-            let one = place_after(code, size, 3)?;
-            let zero = place_after(code, size, 5)?;
-            let end = place_after(code, size, 6)?;
             put(code, Op::JumpZero { s: k, to: right })?;
-            put(code, Op::Jump { to: one })?;
+            let jump = put_open(code)?;
             put_expr(code, k, operand)?;
+            let one = place_after(code, 0, 1)?;
+            let zero = place_after(code, 0, 3)?;
+            let end = place_after(code, 0, 4)?;
+            patch(code, jump, Op::Jump { to: one });
             put_truth(code, k, zero, end)
         }
     }

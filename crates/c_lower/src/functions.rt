@@ -2,13 +2,15 @@
 
 ghost use Rattle.std.specs.Prelude.{◌≡◌, ◌<◌, ◌≤◌, ◌+◌, ◌^◌, ◌++◌, IfOk, OnOk, length};
 ghost use Rattle.c_tree.specs.Sizes.{scalars};
-ghost use Rattle.c_tree.specs.Temporaries.{function_temporaries};
-ghost use Rattle.c_tree.specs.Views.{function_tree};
+ghost use Rattle.c_tree.specs.Temporaries.{function_temporaries, stmts_temporaries};
+ghost use Rattle.c_tree.specs.Views.{function_tree, stmt_trees};
 ghost use Rattle.c_lower.specs.ProgramCode.{closing_code, function_ops, function_sizes, lowered_function};
+ghost use Rattle.c_lower.specs.StmtCode.{stmts_code};
 
 use crate::places::put;
+use crate::sizes::size_of_stmts;
 use crate::statements::{Context, put_stmts};
-use c_tree::Function;
+use c_tree::{Function, Stmt};
 use cap_word::Words;
 use flat_code::{FlatFunction, Op, Ops};
 use std::alloc::{AllocError, Global};
@@ -36,6 +38,23 @@ fn variables(alloc: Global, sizes: &[u32], temporaries: u32) -> Result<Words, Al
     Ok(Words::new(words))
 }
 
+// The code of a function's body, whose first temporary is variable t.
+fn body_code(alloc: Global, t: u32, body: &[Stmt]) -> Result<Vec<Op>, AllocError>
+    requires { t + stmts_temporaries (stmt_trees body.now) < 2 ^ 32 }
+    ensures { IfOk result (λ code. code.items ≡ stmts_code (stmt_trees body.now) 0 t 0 0) }
+{
+    let context = Context {
+        t,
+        leave: 0,
+        skip: 0,
+    };
+    let mut sizes = Vec::new(alloc);
+    size_of_stmts(&mut sizes, body)?;
+    let mut code = Vec::new(alloc);
+    put_stmts(alloc, &mut code, &mut sizes, context, body)?;
+    Ok(code)
+}
+
 // A function whose code has more operations than have numbers is a want of memory.
 pub fn lower_function(alloc: Global, function: &Function) -> Result<FlatFunction, AllocError>
     requires small { function_temporaries (function_tree function.now) ≤ 65536 }
@@ -44,13 +63,7 @@ pub fn lower_function(alloc: Global, function: &Function) -> Result<FlatFunction
     ensures numbered { IfOk result (λ flat. length flat.ops ≤ 2 ^ 32) }
 {
     let t = function.sizes.len() as u32;
-    let context = Context {
-        t,
-        leave: 0,
-        skip: 0,
-    };
-    let mut code = Vec::new(alloc);
-    put_stmts(alloc, &mut code, context, &function.body)?;
+    let mut code = body_code(alloc, t, &function.body)?;
     put_closing(&mut code, t, function.gives)?;
     if code.len() > 4_294_967_296 {
         return Err(AllocError);

@@ -1,6 +1,6 @@
 // Operations at the end of a function's code, and the numbers of those that jumps name.
 
-ghost use Rattle.std.specs.Prelude.{◌≡◌, ◌+◌, [], ◌∷◌, ◌++◌, IfOk, OnOk, length};
+ghost use Rattle.std.specs.Prelude.{◌≡◌, ◌<◌, ◌+◌, [], ◌∷◌, ◌++◌, IfOk, OnOk, length, slice_set};
 
 use flat_code::Op;
 use std::alloc::AllocError;
@@ -28,4 +28,22 @@ pub fn place_after(code: &Vec<Op>, size: u32, more: u32) -> Result<u32, AllocErr
         return Err(AllocError);
     };
     sum(sum(here, size)?, more)
+}
+
+// A jump that leads nowhere yet. The answer is its place.
+pub fn put_open(code: &mut Vec<Op>) -> Result<usize, AllocError>
+    ensures code { OnOk result (code.new.items ≡ code.old.items ++ Op.Jump 0 ∷ []) }
+    ensures place { IfOk result (λ at. at ≡ length code.old.items) }
+{
+    let at = code.len();
+    put(code, Op::Jump { to: 0 })?;
+    Ok(at)
+}
+
+// An operation in the place of one that is there.
+pub fn patch(code: &mut Vec<Op>, at: usize, op: Op)
+    requires { at < length code.old.items }
+    ensures { code.new.items ≡ slice_set code.old.items at op }
+{
+    code[at] = op;
 }

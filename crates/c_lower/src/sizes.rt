@@ -1,17 +1,19 @@
-// How many operations the code of a tree has, so that a jump over it can be written before it.
+// How many operations the code of a tree has. Each statement is counted once, before any code is there, and the sizes
+// of those that a jump passes over are kept in a list, so that the jump can be written before them.
 
-ghost use Rattle.std.specs.Prelude.{◌≡◌, IfOk, map, option_map};
+ghost use Rattle.std.specs.Prelude.{◌≡◌, ℕ, List, [], ◌∷◌, ◌++◌, IfOk, OnOk, map, option_map};
 ghost use Rattle.c_tree.specs.Views.{expr_tree, call_tree, right_tree, simple_tree, stmt_tree, stmt_trees};
 ghost use Rattle.c_lower.specs.ExprCode.{expr_size};
 ghost use Rattle.c_lower.specs.CallCode.{arguments_size, call_size, set_size, held_size};
 ghost use Rattle.c_lower.specs.StmtCode.{simple_size, simples_size, step_size, test_size, return_size, stmt_size, stmts_size};
+ghost use Rattle.c_lower.specs.StmtSizes.{stmt_sizes, stmts_sizes};
 
 use crate::operators::{size_of_infix, size_of_unary};
 use crate::places::sum;
 use c_tree::{Call, Expr, RightSide, Simple, Stmt};
 use std::alloc::AllocError;
 
-pub fn size_of_expr(expr: &Expr) -> Result<u32, AllocError>
+fn size_of_expr(expr: &Expr) -> Result<u32, AllocError>
     ensures { IfOk result (λ n. n ≡ expr_size (expr_tree expr.now)) }
 {
     match expr {
@@ -98,7 +100,7 @@ fn size_of_simple(simple: &Simple) -> Result<u32, AllocError>
     }
 }
 
-pub fn size_of_simples(simples: &[Simple]) -> Result<u32, AllocError>
+fn size_of_simples(simples: &[Simple]) -> Result<u32, AllocError>
     ensures { IfOk result (λ n. n ≡ simples_size (map simple_tree simples.now)) }
 {
     let mut size = 0;
@@ -135,27 +137,37 @@ fn size_of_return(value: &Option<RightSide>) -> Result<u32, AllocError>
     }
 }
 
+// The size of a statement. The sizes of those in it that jumps pass over are put at the end of `sizes`, from the last
+// to the first.
 #[cycle(sizes)]
-pub fn size_of_stmt(stmt: &Stmt) -> Result<u32, AllocError>
-    ensures { IfOk result (λ n. n ≡ stmt_size (stmt_tree stmt.now)) }
+fn size_of_stmt(sizes: &mut Vec<u32>, stmt: &Stmt) -> Result<u32, AllocError>
+    ensures size { IfOk result (λ n. n ≡ stmt_size (stmt_tree stmt.now)) }
+    ensures passed { OnOk result (sizes.new.items ≡ sizes.old.items ++ stmt_sizes (stmt_tree stmt.now)) }
 {
     match stmt {
         Stmt::Simple(simple) => size_of_simple(simple),
         Stmt::Empty => Ok(0),
-        Stmt::Block(stmts) => size_of_stmts(stmts),
+        Stmt::Block(stmts) => size_of_stmts(sizes, stmts),
         Stmt::If { condition, then } => {
-            sum(sum(size_of_expr(condition)?, size_of_stmt(then)?)?, 1)
+            let side = size_of_stmt(sizes, then)?;
+            sizes.push(side)?;
+            sum(sum(size_of_expr(condition)?, side)?, 1)
         }
         Stmt::IfElse {
             condition,
             then,
             otherwise,
         } => {
-            let sides = sum(size_of_stmt(then)?, size_of_stmt(otherwise)?)?;
-            sum(sum(size_of_expr(condition)?, sides)?, 2)
+            let second = size_of_stmt(sizes, otherwise)?;
+            sizes.push(second)?;
+            let first = size_of_stmt(sizes, then)?;
+            sizes.push(first)?;
+            sum(sum(size_of_expr(condition)?, sum(first, second)?)?, 2)
         }
         Stmt::While { condition, body } => {
-            sum(sum(size_of_expr(condition)?, size_of_stmt(body)?)?, 2)
+            let side = size_of_stmt(sizes, body)?;
+            sizes.push(side)?;
+            sum(sum(size_of_expr(condition)?, side)?, 2)
         }
         Stmt::For {
             init,
@@ -163,7 +175,9 @@ pub fn size_of_stmt(stmt: &Stmt) -> Result<u32, AllocError>
             step,
             body,
         } => {
-            let tested = sum(size_of_test(condition)?, size_of_stmt(body)?)?;
+            let side = size_of_stmt(sizes, body)?;
+            sizes.push(side)?;
+            let tested = sum(size_of_test(condition)?, side)?;
             let turn = sum(sum(tested, size_of_step(step)?)?, 1)?;
             sum(size_of_simples(init)?, turn)
         }
@@ -172,13 +186,24 @@ pub fn size_of_stmt(stmt: &Stmt) -> Result<u32, AllocError>
     }
 }
 
+// The same of statements one after another.
 #[cycle(sizes)]
-fn size_of_stmts(stmts: &[Stmt]) -> Result<u32, AllocError>
-    ensures { IfOk result (λ n. n ≡ stmts_size (stmt_trees stmts.now)) }
+pub fn size_of_stmts(sizes: &mut Vec<u32>, stmts: &[Stmt]) -> Result<u32, AllocError>
+    ensures size { IfOk result (λ n. n ≡ stmts_size (stmt_trees stmts.now)) }
+    ensures passed { OnOk result (sizes.new.items ≡ sizes.old.items ++ stmts_sizes (stmt_trees stmts.now)) }
 {
     let mut size = 0;
-    for stmt in stmts {
-        size = sum(size, size_of_stmt(stmt)?)?;
+    let mut index = stmts.len();
+    while index > 0 {
+        index -= 1;
+        size = sum(size_of_stmt(sizes, &stmts[index])?, size)?;
     }
     Ok(size)
+}
+
+// The last size, which is then gone.
+pub fn last_size(sizes: &mut Vec<u32>) -> u32
+    ensures { (rest : List ℕ) → (n : ℕ) → sizes.old.items ≡ rest ++ n ∷ [] → (result ≡ n) × (sizes.new.items ≡ rest) }
+{
+    sizes.pop().unwrap_or(0)
 }

@@ -1,16 +1,17 @@
 // The operations of statements.
 
-ghost use Rattle.std.specs.Prelude.{◌≡◌, ◌<◌, ◌+◌, ◌^◌, [], ◌∷◌, ◌++◌, IfOk, OnOk, length, option_map};
+ghost use Rattle.std.specs.Prelude.{◌≡◌, ℕ, ◌<◌, ◌+◌, ◌^◌, List, [], ◌∷◌, ◌++◌, IfOk, OnOk, length, option_map};
 ghost use Rattle.c_tree.specs.Temporaries.{expr_temporaries, stmt_temporaries, stmts_temporaries};
 ghost use Rattle.c_tree.specs.Views.{expr_tree, simple_tree, stmt_tree, stmt_trees};
 ghost use Rattle.flat_code.specs.declared.operations.Op.{Op};
 ghost use Rattle.c_lower.specs.ExprCode.{expr_size, expr_code};
 ghost use Rattle.c_lower.specs.StmtCode.{step_size, test_size, stmt_code, stmts_code};
+ghost use Rattle.c_lower.specs.StmtSizes.{stmt_sizes, stmts_sizes};
 
 use crate::expressions::put_expr;
 use crate::places::{place_after, put, sum};
 use crate::simples::{put_return, put_simple, put_simples, put_step, put_test};
-use crate::sizes::{size_of_step, size_of_stmt, size_of_test};
+use crate::sizes::{last_size, size_of_step, size_of_test};
 use c_tree::{Expr, Simple, Stmt};
 use flat_code::Op;
 use std::alloc::{AllocError, Global};
@@ -68,39 +69,41 @@ fn in_turn(
     Ok(Context { t, leave, skip })
 }
 
+// `sizes` ends with the sizes of the statements here that jumps pass over; these are gone then.
 #[cycle(statements)]
 fn put_stmt(
     alloc: Global,
     code: &mut Vec<Op>,
+    sizes: &mut Vec<u32>,
     context: Context,
     stmt: &Stmt,
 ) -> Result<(), AllocError>
     requires { context.t + stmt_temporaries (stmt_tree stmt.now) < 2 ^ 32 }
-    ensures { OnOk result (code.new.items ≡ code.old.items ++ stmt_code (stmt_tree stmt.now) (length code.old.items) context.t context.leave context.skip) }
+    ensures { OnOk result ((rest : List ℕ) → sizes.old.items ≡ rest ++ stmt_sizes (stmt_tree stmt.now) → (code.new.items ≡ code.old.items ++ stmt_code (stmt_tree stmt.now) (length code.old.items) context.t context.leave context.skip) × (sizes.new.items ≡ rest)) }
 {
     let t = context.t;
     match stmt {
         Stmt::Simple(simple) => put_simple(alloc, code, t, simple),
         Stmt::Empty => Ok(()),
-        Stmt::Block(stmts) => put_stmts(alloc, code, context, stmts),
+        Stmt::Block(stmts) => put_stmts(alloc, code, sizes, context, stmts),
         Stmt::If { condition, then } => {
-            put_condition(code, t, condition, size_of_stmt(then)?, 1)?;
-            put_stmt(alloc, code, context, then)
+            put_condition(code, t, condition, last_size(sizes), 1)?;
+            put_stmt(alloc, code, sizes, context, then)
         }
         Stmt::IfElse {
             condition,
             then,
             otherwise,
         } => {
-            put_condition(code, t, condition, size_of_stmt(then)?, 2)?;
-            put_stmt(alloc, code, context, then)?;
-            put_jump(code, size_of_stmt(otherwise)?)?;
-            put_stmt(alloc, code, context, otherwise)
+            put_condition(code, t, condition, last_size(sizes), 2)?;
+            put_stmt(alloc, code, sizes, context, then)?;
+            put_jump(code, last_size(sizes))?;
+            put_stmt(alloc, code, sizes, context, otherwise)
         }
         Stmt::While { condition, body } => {
             let skip = place_after(code, 0, 0)?;
-            let leave = put_condition(code, t, condition, size_of_stmt(body)?, 2)?;
-            put_stmt(alloc, code, Context { t, leave, skip }, body)?;
+            let leave = put_condition(code, t, condition, last_size(sizes), 2)?;
+            put_stmt(alloc, code, sizes, Context { t, leave, skip }, body)?;
             put(code, Op::Jump { to: skip })
         }
         Stmt::For {
@@ -111,9 +114,9 @@ fn put_stmt(
         } => {
             put_simples(alloc, code, t, init)?;
             let turn = place_after(code, 0, 0)?;
-            let inside = in_turn(code, t, condition, size_of_stmt(body)?, step)?;
+            let inside = in_turn(code, t, condition, last_size(sizes), step)?;
             put_test(code, t, inside.leave, condition)?;
-            put_stmt(alloc, code, inside, body)?;
+            put_stmt(alloc, code, sizes, inside, body)?;
             put_step(alloc, code, t, step)?;
             put(code, Op::Jump { to: turn })
         }
@@ -128,14 +131,15 @@ fn put_stmt(
 pub fn put_stmts(
     alloc: Global,
     code: &mut Vec<Op>,
+    sizes: &mut Vec<u32>,
     context: Context,
     stmts: &[Stmt],
 ) -> Result<(), AllocError>
     requires { context.t + stmts_temporaries (stmt_trees stmts.now) < 2 ^ 32 }
-    ensures { OnOk result (code.new.items ≡ code.old.items ++ stmts_code (stmt_trees stmts.now) (length code.old.items) context.t context.leave context.skip) }
+    ensures { OnOk result ((rest : List ℕ) → sizes.old.items ≡ rest ++ stmts_sizes (stmt_trees stmts.now) → (code.new.items ≡ code.old.items ++ stmts_code (stmt_trees stmts.now) (length code.old.items) context.t context.leave context.skip) × (sizes.new.items ≡ rest)) }
 {
     for stmt in stmts {
-        put_stmt(alloc, code, context, stmt)?;
+        put_stmt(alloc, code, sizes, context, stmt)?;
     }
     Ok(())
 }

@@ -1,9 +1,8 @@
 -- How a command ends, from what its last step did.
-use Rattle.std.proofs.Common.{◌≡◌, ◌≢◌, ℕ, ◌<◌, ◌≤◌, List, [], ◌∷◌, ◌++◌, length, take, Option, Some, None, Result, Ok, Err, refl, sym, ap, ◌∙◌, subst, arith, inl, inr, ⊎_elim}
+use Rattle.std.proofs.Common.{◌≡◌, ℕ, List, [], ◌∷◌, Option, Some, None, Result, Ok, Err, refl, sym, ◌∙◌, subst, inl, inr, ⊎_elim}
 use Rattle.std.proofs.lemmas.List.{append-nil}
-use Rattle.std.specs.Prelude.{MatchResult}
 use Rattle.std.specs.Io.KnownBytes.{Keeps, Appends}
-use Rattle.cap_io.specs.Files.{Files, KeepsFiles}
+use Rattle.cap_io.specs.Files.{Files, KeepsFiles, KeepsOthers}
 use Rattle.capriccio_cli.specs.declared.stops.Cause.{Cause}
 use Rattle.capriccio_cli.specs.declared.stops.Stop.{Stop}
 use Rattle.capriccio_cli.specs.declared.stops.Stop.TheVariants.{Refused, Failed}
@@ -11,9 +10,8 @@ use Rattle.capriccio_cli.specs.declared.faults.Fault.{Fault}
 use Rattle.capriccio_cli.specs.declared.faults.Fault.TheVariants.{Read, Write, Memory}
 use Rattle.capriccio_cli.specs.Outcome.{Outcome, printed}
 use Rattle.capriccio_cli.specs.CauseLines.{refusal}
-use Rattle.capriccio_cli.specs.FaultLines.{fault_status, fault_line}
-use Rattle.capriccio_cli.specs.Done.{Outside, WhereTold, AreStored, IsNothing, IsWhole, IsDone, IsExact, IsToldOf, IsTold, status_of, line_of}
-use Rattle.capriccio_cli.specs.Steps.{IsShelfStop, IsPrinted, EndsAs, IsFinished}
+use Rattle.capriccio_cli.specs.Done.{Outside, IsRisen, WhereTold, AreStored, AreCutShort, IsDone, IsExact, IsToldOf, IsTold}
+use Rattle.capriccio_cli.specs.Steps.{IsShelfStop, IsPrinted, AreStores, EndsAs, IsFinished}
 
 pub keeps-itself : (bytes : Option (List ℕ)) → Keeps bytes bytes
 keeps-itself None = tt
@@ -28,6 +26,44 @@ kept-are-stored : (old new : Option Files) → KeepsFiles old new → WhereTold 
 kept-are-stored None new h = tt
 kept-are-stored (Some old) None h = absurd h
 kept-are-stored (Some old) (Some new) h = h
+
+others-from : (old old2 new : Files) (name : List ℕ) → ((other : List ℕ) → old2 other ≡ old other) → KeepsOthers old2 new name → KeepsOthers old new name
+others-from old old2 new name same h = λ other differs. h other differs ∙ same other
+
+stored-from : (files : List (List ℕ × List ℕ)) (old old2 new : Files) → ((name : List ℕ) → old2 name ≡ old name) → AreStored files old2 new → AreStored files old new
+stored-from [] old old2 new same h = λ name. h name ∙ same name
+stored-from (file ∷ files) old old2 new same h =
+    let first = h.1 in
+    (h.0, record { holds = first.holds; others = others-from old old2 h.0 file.0 same first.others }, h.2)
+
+cut-from : (files : List (List ℕ × List ℕ)) (old old2 new : Files) → ((name : List ℕ) → old2 name ≡ old name) → AreCutShort files old2 new → AreCutShort files old new
+cut-from [] old old2 new same h = absurd h
+cut-from (file ∷ files) old old2 new same h =
+    ⊎_elim
+    (λ x. inl (record { holds = ⊎_elim (λ p. inl p) (λ e. inr (e ∙ same file.0)) x.holds; others = others-from old old2 new file.0 same x.others }))
+    (λ x. let first = x.1 in inr (x.0, record { holds = first.holds; others = others-from old old2 x.0 file.0 same first.others }, x.2))
+    h
+
+-- stores after steps that changed no file
+pub stored-after : (files : List (List ℕ × List ℕ)) (a b c : Option Files) → KeepsFiles a b → WhereTold (AreStored files) b c → WhereTold (AreStored files) a c
+stored-after files None b c h k = tt
+stored-after files (Some a) None c h k = absurd h
+stored-after files (Some a) (Some b) None h k = absurd k
+stored-after files (Some a) (Some b) (Some c) h k = stored-from files a b c h k
+
+pub cut-after : (files : List (List ℕ × List ℕ)) (a b c : Option Files) → KeepsFiles a b → WhereTold (AreCutShort files) b c → WhereTold (AreCutShort files) a c
+cut-after files None b c h k = tt
+cut-after files (Some a) None c h k = absurd h
+cut-after files (Some a) (Some b) None h k = absurd k
+cut-after files (Some a) (Some b) (Some c) h k = cut-from files a b c h k
+
+-- the same, however the stores end
+pub stores-after : (files : List (List ℕ × List ℕ)) (a b c : Option Files) (l m n : ℕ) (r : Result (Unit {0}) Stop) → KeepsFiles a b → m ≡ l → AreStores files b c m n r → AreStores files a c l n r
+stores-after files a b c l m n (Ok u) keeps same h = (stored-after files a b c keeps h.0, h.1 ∙ same)
+stores-after files a b c l m n (Err (Refused cause)) keeps same h = h
+stores-after files a b c l m n (Err (Failed Read)) keeps same h = h
+stores-after files a b c l m n (Err (Failed Write)) keeps same h = (cut-after files a b c keeps h.0, subst (λ k. IsRisen k n) same h.1)
+stores-after files a b c l m n (Err (Failed Memory)) keeps same h = (cut-after files a b c keeps h.0, h.1 ∙ same)
 
 -- a step that stops before anything is stored or printed
 pub stopped : (due : Outcome → Type 0) (before after : Outside) (stop : Stop) → KeepsFiles before.files after.files → after.stores ≡ before.stores → Keeps before.taken after.taken → after.writes ≡ before.writes →
@@ -51,6 +87,16 @@ printed-ends due before after o (Err (Failed Write)) is line files loads stores 
     (o, is, inr (record { files = files; out = h.0 }, record { loads = loads; stores = stores; writes = h.1 }))
 printed-ends due before after o (Err (Failed Memory)) is line files loads stores h =
     (inr (o, is, inr (record { files = files; out = h.0 })), record { loads = loads; stores = stores; writes = h.1 })
+
+-- a store of an outcome is cut short
+pub stores-cut : (due : Outcome → Type 0) (before after : Outside) (o : Outcome) (stop : Stop) → due o → Keeps before.taken after.taken → after.loads ≡ before.loads → after.writes ≡ before.writes →
+    AreStores o.stores before.files after.files before.stores after.stores (Err stop) → EndsAs due before after (Err stop)
+stores-cut due before after o (Refused cause) is taken loads writes h = absurd h
+stores-cut due before after o (Failed Read) is taken loads writes h = absurd h
+stores-cut due before after o (Failed Write) is taken loads writes h =
+    (o, is, inl (record { files = h.0; out = taken }, record { loads = loads; stores = h.1; writes = writes }))
+stores-cut due before after o (Failed Memory) is taken loads writes h =
+    (inr (o, is, inl (record { files = h.0; out = taken })), record { loads = loads; stores = h.1; writes = writes })
 
 pub printed-now : (due : Outcome → Type 0) (before after : Outside) (status : ℕ) (text : List ℕ) (r : Result ℕ Stop) → due (printed status text) → KeepsFiles before.files after.files → after.loads ≡ before.loads → after.stores ≡ before.stores →
     IsPrinted status text before.taken after.taken before.writes after.writes r → EndsAs due before after r

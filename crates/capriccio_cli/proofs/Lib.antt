@@ -18,4 +18,11 @@ pub mod Follows
 pub mod Ending
 pub mod Analyses
 pub mod Appended
+pub mod RisingLists
+pub mod OnePlan
+pub mod LoweredGraph
+pub mod OneBuild
 pub mod OneCase
+pub mod Sizes
+pub mod Limits
+pub mod Built

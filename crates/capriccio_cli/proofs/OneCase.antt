@@ -1,47 +1,46 @@
 -- The cases of what is due exclude one another: two outcomes that are due for the same words and files have one status and one
 -- line.
-use Rattle.std.proofs.Common.{◌≡◌, ℕ, ◌<◌, ◌≤◌, List, [], ◌∷◌, ◌++◌, length, Option, Some, None, Result, Ok, Err, refl, sym, ap, subst, ◌∙◌, arith, inl, inr, ⊎_elim}
-use Rattle.std.specs.Prelude.{IfSome}
+use Rattle.std.proofs.Common.{◌≡◌, ℕ, ◌<◌, List, [], ◌∷◌, ◌++◌, Option, Some, None, Result, Ok, Err, refl, sym, ap, subst, ◌∙◌, arith, inl, inr, ⊎_elim}
 use Rattle.std.proofs.lemmas.Bool.{cases_order}
-use Rattle.cap_io.specs.Faults.{Rose, Stayed}
+use Rattle.cap_io.specs.Faults.{Stayed}
 use Rattle.cap_io.specs.Files.{Files}
 use Rattle.c_tree.specs.Trees.{ProgramTree}
-use Rattle.c_scope.specs.SourceText.{ReadsAs, IsSourceErrorOf}
+use Rattle.c_tree.specs.WellScoped.{IsWellScoped}
 use Rattle.c_scope.specs.declared.source_errors.SourceError.{SourceError}
 use Rattle.c_lower.specs.ProgramCode.{lowered}
 use Rattle.flat_code.specs.Codes.{FlatCode}
-use Rattle.certificate_rules.specs.Validity.{IsValid, IsFirstFailure}
+use Rattle.codegen_link.specs.declared.options.Options.{Options}
+use Rattle.certificate_rules.specs.Validity.{IsFirstFailure}
 use Rattle.stack_image.specs.declared.images.Image.{Image}
 use Rattle.stack_image.specs.declared.refusals.ImageError.{ImageError}
 use Rattle.stack_image.specs.Refusal.{refusal_of}
 use Rattle.stack_image.specs.Reading.{image_of}
-use Rattle.stack_image.specs.Spelling as image
 use Rattle.stack_image.proofs.ReadAgain.{spelling_not_refused, image_of-spelling}
 use Rattle.stack_certificate.specs.declared.certificates.Certificate.{Certificate}
 use Rattle.stack_certificate.specs.FirstRefused.{IsFirstRefused}
-use Rattle.stack_certificate.specs.Text as certificate
 use Rattle.stack_certificate.proofs.Spellings.{spelling_unique, first_refused_unique, spelling_unrefused}
 use Rattle.stack_build.specs.Builds.{frame_refusal}
 use Rattle.stack_build.specs.declared.refusals.BuildError.TheVariants.{FrameTooLarge}
-use Rattle.command_words.specs.WordList.{IsWordList, Request, Serve, Run, Build, Check, Graph, Demo}
+use Rattle.command_words.specs.WordList.{Request, Serve, Run, Build, Check, Graph, Demo}
 use Rattle.command_words.proofs.OneRequest.{one_request}
 use Rattle.analysis_lines.specs.Lines.{name_at}
 use Rattle.capriccio_cli.specs.declared.documents.Document.{Document}
 use Rattle.capriccio_cli.specs.declared.documents.Document.TheVariants as document
-use Rattle.capriccio_cli.specs.declared.stops.Cause.{Cause}
 use Rattle.capriccio_cli.specs.declared.stops.Cause.TheVariants as cause
 use Rattle.capriccio_cli.specs.declared.faults.Fault.{Fault}
 use Rattle.capriccio_cli.specs.declared.faults.Fault.TheVariants.{Read, Write, Memory}
 use Rattle.capriccio_cli.specs.declared.check_command.Verdict.{Verdict}
 use Rattle.capriccio_cli.specs.declared.check_command.Verdict.TheVariants.{Accepted, Rejected}
 use Rattle.capriccio_cli.specs.Outcome.{Outcome, refused, printed}
-use Rattle.capriccio_cli.specs.CauseLines.{most_bytes, refusal, frame_words}
+use Rattle.capriccio_cli.specs.CauseLines.{refusal, frame_words}
 use Rattle.capriccio_cli.specs.Loads.{OfFile, AfterLoad, AfterThree, AfterSource, AfterImage, AfterCertificate, IsImageText, IsCertificateText}
-use Rattle.capriccio_cli.specs.Graphs.{Graphs, GraphsProgram, IsFrameRefused, names_of}
-use Rattle.capriccio_cli.specs.Checks.{Checks, ChecksBytes, ChecksPair, IsVerdict, verdict_outcome}
-use Rattle.capriccio_cli.specs.Due.{Does, IsDue}
-use Rattle.capriccio_cli.specs.Done.{Outside, IsRisen, IsDone, NoFault, IsExact, IsCase}
+use Rattle.capriccio_cli.specs.Graphs.{GraphsProgram, IsFrameRefused, names_of}
+use Rattle.capriccio_cli.specs.Checks.{ChecksBytes, ChecksPair, IsVerdict, verdict_outcome}
+use Rattle.capriccio_cli.specs.BuildsFiles.{BuildsCode, BuildsProgram, built}
+use Rattle.capriccio_cli.specs.Due.{Does, IsDue, sizes_of}
+use Rattle.capriccio_cli.specs.Done.{Outside, IsRisen, IsDone, IsExact, IsCase}
 use Rattle.c_scope.proofs.SourceTexts.{one_program, one_source_error, never}
+use Rattle.capriccio_cli.proofs.OneBuild.{words-are-one}
 
 alike : (a b o : Outcome) → a ≡ o → b ≡ o → IsCase a b
 alike a b o p q = (ap (λ (x : Outcome). x.status) (p ∙ sym q), ap (λ (x : Outcome). x.line) (p ∙ sym q))
@@ -71,14 +70,14 @@ three-case f s i c next a b one h k =
 
 -- Readers.
 
-source-case : (bytes : List ℕ) (next : ProgramTree → Outcome → Type 0) (a b : Outcome) → ((p : ProgramTree) → next p a → next p b → IsCase a b) → AfterSource bytes next a → AfterSource bytes next b → IsCase a b
+source-case : (bytes : List ℕ) (next : ProgramTree → Outcome → Type 0) (a b : Outcome) → ((p : ProgramTree) → IsWellScoped p → next p a → next p b → IsCase a b) → AfterSource bytes next a → AfterSource bytes next b → IsCase a b
 source-case bytes next a b one h k =
     ⊎_elim
     (λ x. ⊎_elim
-    (λ y. one y.0 (subst (λ (p : ProgramTree). next p a) (one_program bytes x.0 y.0 x.1 y.1) x.2) y.2)
-    (λ y. absurd (never bytes x.0 y.0 x.1 y.1)) k)
+    (λ y. let left = x.1 in let right = y.1 in one y.0 right.scoped (subst (λ (p : ProgramTree). next p a) (one_program bytes x.0 y.0 left.reads right.reads) x.2) y.2)
+    (λ y. let left = x.1 in absurd (never bytes x.0 y.0 left.reads y.1)) k)
     (λ x. ⊎_elim
-    (λ y. absurd (never bytes y.0 x.0 y.1 x.1))
+    (λ y. let right = y.1 in absurd (never bytes y.0 x.0 right.reads x.1))
     (λ y. alike a b (refusal (cause.Source y.0)) (x.2 ∙ ap (λ (e : SourceError). refusal (cause.Source e)) (one_source_error bytes x.0 y.0 x.1 y.1)) y.2) k)
     h
 
@@ -165,15 +164,38 @@ pair-case p i c a b h k = alike a b (verdict_outcome k.0) (h.2 ∙ ap verdict_ou
 bytes-case : (source image certificate : List ℕ) (a b : Outcome) → ChecksBytes source image certificate a → ChecksBytes source image certificate b → IsCase a b
 bytes-case source image certificate a b h k =
     source-case source (λ p. AfterImage image (λ i. AfterCertificate certificate (λ c. ChecksPair p i c))) a b
-    (λ p x y. image-case image (λ i. AfterCertificate certificate (λ c. ChecksPair p i c)) a b
+    (λ p scoped x y. image-case image (λ i. AfterCertificate certificate (λ c. ChecksPair p i c)) a b
     (λ i z w. certificate-case certificate (λ c. ChecksPair p i c) a b (λ c u v. pair-case p i c a b u v) z w) x y) h k
+
+same-built : (n m : List ℕ) (i j : Image) (c d : Certificate) (a b : Outcome) → a ≡ built n m i c → b ≡ built n m j d → IsCase a b
+same-built n m i j c d a b p q = (ap (λ (x : Outcome). x.status) p ∙ sym (ap (λ (x : Outcome). x.status) q), ap (λ (x : Outcome). x.line) p ∙ sym (ap (λ (x : Outcome). x.line) q))
+
+one-code : (options : Options) (n m : List ℕ) (p : ProgramTree) (a b : Outcome) → IsWellScoped p → BuildsCode options n m p a → BuildsCode options n m p b → IsCase a b
+one-code options n m p a b scoped h k =
+    ⊎_elim
+    (λ x. ⊎_elim
+    (λ y. alike a b (refusal (cause.Code y.0)) (x.2 ∙ ap (λ (words : ℕ). refusal (cause.Code words)) (words-are-one p scoped options x.0 y.0 x.1 y.1)) y.2)
+    (λ y. absurd (y.0 x.0 x.1)) k)
+    (λ x. ⊎_elim
+    (λ y. absurd (x.0 y.0 y.1))
+    (λ y. let left = x.1 in let right = y.1 in same-built n m left.0 right.0 left.1 right.1 a b left.3 right.3) k)
+    h
+
+built-case : (options : Options) (n m : List ℕ) (p : ProgramTree) (a b : Outcome) → IsWellScoped p → BuildsProgram options n m p a → BuildsProgram options n m p b → IsCase a b
+built-case options n m p a b scoped h k =
+    ⊎_elim
+    (λ x. ⊎_elim (λ y. same-frame p options.max_path a b x y) (λ y. absurd (frame-or-fit p options.max_path a x y.0)) k)
+    (λ x. ⊎_elim (λ y. absurd (frame-or-fit p options.max_path b y x.0)) (λ y. one-code options n m p a b scoped x.1 y.1) k)
+    h
 
 request-case : (request : Request) (f : Files) (a b : Outcome) → Does request (Some f) a → Does request (Some f) b → IsCase a b
 request-case (Graph source placement) f a b h k =
     load-case document.Source f source (λ bytes. AfterSource bytes (GraphsProgram placement.max_path)) a b
-    (λ bytes x y. source-case bytes (GraphsProgram placement.max_path) a b (λ p z w. program-case placement.max_path p a b z w) x y) h k
+    (λ bytes x y. source-case bytes (GraphsProgram placement.max_path) a b (λ p scoped z w. program-case placement.max_path p a b z w) x y) h k
 request-case (Check source i c) f a b h k = three-case f source i c ChecksBytes a b (λ s x y u v. bytes-case s x y a b u v) h k
-request-case (Build source i c placement) f a b h k = alike a b (refusal cause.NotBuilt) h k
+request-case (Build source i c placement) f a b h k =
+    load-case document.Source f source (λ bytes. AfterSource bytes (BuildsProgram (sizes_of placement) i c)) a b
+    (λ bytes x y. source-case bytes (BuildsProgram (sizes_of placement) i c) a b (λ p scoped z w. built-case (sizes_of placement) i c p a b scoped z w) x y) h k
 request-case (Serve source placement policy) f a b h k = alike a b (refusal cause.NotBuilt) h k
 request-case (Run source i c policy) f a b h k = alike a b (refusal cause.NotBuilt) h k
 request-case (Demo number) f a b h k = alike a b (refusal cause.NotBuilt) h k

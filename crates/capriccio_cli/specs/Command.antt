@@ -1,6 +1,6 @@
 -- What the command answers, by what it was handed: the words, the files, the trace, and the counts of faults.
 -- "Where told" is `IfSome`: of an object that does not tell its content nothing is said.
-use Rattle.std.specs.Prelude.{◌≡◌, ◌≢◌, ℕ, ◌<◌, ◌≤◌, ◌⊎◌, List, [], length, take, Option, IfSome, IsSomeAnd, Result, Ok, Err, Some, None}
+use Rattle.std.specs.Prelude.{◌≡◌, ◌≢◌, ℕ, ◌<◌, ◌≤◌, ◌⊎◌, List, [], length, Option, IfSome, IsSomeAnd, Result, Ok, Err, Some, None}
 use Rattle.std.specs.Io.KnownBytes.{Keeps, Appends}
 use Rattle.cap_io.specs.Faults.{Rose}
 use Rattle.cap_io.specs.Files.{Files}

@@ -8,6 +8,7 @@ use Rattle.capriccio_cli.specs.declared.stops.Cause.TheVariants as cause
 use Rattle.capriccio_cli.specs.Outcome.{Outcome}
 use Rattle.capriccio_cli.specs.CauseLines.{refusal}
 use Rattle.capriccio_cli.specs.Graphs.{Graphs}
+use Rattle.capriccio_cli.specs.BuildsFiles.{Builds}
 use Rattle.capriccio_cli.specs.Checks.{Checks}
 
 -- the sizes that the words give, for the generator
@@ -19,7 +20,7 @@ abbrev pub Does : Request → Option Files → Outcome → Type 0
 Does (Graph source placement) files = Graphs files source placement.max_path
 Does (Check source image certificate) files = Checks files source image certificate
 Does (Serve source placement policy) files = λ outcome. outcome ≡ refusal cause.NotBuilt
-Does (Build source image certificate placement) files = λ outcome. outcome ≡ refusal cause.NotBuilt
+Does (Build source image certificate placement) files = Builds files source image certificate (sizes_of placement)
 Does (Run source image certificate policy) files = λ outcome. outcome ≡ refusal cause.NotBuilt
 Does (Demo number) files = λ outcome. outcome ≡ refusal cause.NotBuilt
 

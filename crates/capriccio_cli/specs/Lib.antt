@@ -18,6 +18,7 @@ pub mod Outcome
 pub mod CauseLines
 pub mod Loads
 pub mod Graphs
+pub mod BuildsFiles
 pub mod Checks
 pub mod Due
 pub mod Done

@@ -3,6 +3,7 @@
 use Rattle.std.specs.Prelude.{ℕ, ◌≡◌, ◌<◌, ◌≤◌, ◌⊎◌, List, length, Option, IfSome, Some, None}
 use Rattle.cap_io.specs.Files.{Files}
 use Rattle.c_tree.specs.Trees.{ProgramTree}
+use Rattle.c_tree.specs.WellScoped.{IsWellScoped}
 use Rattle.c_scope.specs.SourceText.{ReadsAs, IsSourceErrorOf}
 use Rattle.c_scope.specs.declared.source_errors.SourceError.{SourceError}
 use Rattle.stack_image.specs.declared.images.Image.{Image}
@@ -36,10 +37,14 @@ AfterThree files source_name image_name certificate_name next =
     AfterLoad document.Image files image_name (λ image.
     AfterLoad document.Certificate files certificate_name (next source image)))
 
--- the bytes are read as a program
+-- the bytes are read as a program, which is well scoped
+pub record IsSourceText (bytes : List ℕ) (program : ProgramTree) : Type 0 where
+  pub reads : ReadsAs bytes program
+  pub scoped : IsWellScoped program
+
 abbrev pub AfterSource : List ℕ → (ProgramTree → Outcome → Type 0) → Outcome → Type 0
 AfterSource bytes next outcome =
-    ((program : ProgramTree) × ReadsAs bytes program × next program outcome)
+    ((program : ProgramTree) × IsSourceText bytes program × next program outcome)
     ⊎ ((error : SourceError) × IsSourceErrorOf bytes error × (outcome ≡ refusal (cause.Source error)))
 
 -- the bytes spell an image

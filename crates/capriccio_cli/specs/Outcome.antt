@@ -1,5 +1,5 @@
 -- What a command does, as its words and the files have it.
-use Rattle.std.specs.Prelude.{ℕ, List, [], ◌∷◌, ◌++◌}
+use Rattle.std.specs.Prelude.{ℕ, List, []}
 
 -- the status, the bytes that the output takes, the line that standard error takes, and the files that are stored, by name and
 -- bytes, in order

@@ -8,11 +8,10 @@ use Rattle.capriccio_cli.specs.declared.documents.Document.TheVariants as docume
 use Rattle.capriccio_cli.specs.declared.loading.LoadedFiles.{LoadedFiles}
 use Rattle.capriccio_cli.specs.declared.stops.Stop.{Stop}
 use Rattle.capriccio_cli.specs.declared.stops.Stop.TheVariants.{Refused, Failed}
-use Rattle.capriccio_cli.specs.declared.faults.Fault.{Fault}
 use Rattle.capriccio_cli.specs.declared.faults.Fault.TheVariants.{Read, Write, Memory}
 use Rattle.capriccio_cli.specs.Outcome.{Outcome, NoMore}
 use Rattle.capriccio_cli.specs.CauseLines.{most_bytes, refusal}
-use Rattle.capriccio_cli.specs.Done.{Outside, IsRisen, IsDone, IsTold}
+use Rattle.capriccio_cli.specs.Done.{Outside, WhereTold, AreStored, AreCutShort, IsRisen, IsDone, IsTold}
 use Rattle.capriccio_cli.specs.Prefixes.{TakesPrefix}
 use Rattle.capriccio_cli.specs.FaultLines.{fault_status, fault_line}
 use Rattle.capriccio_cli.specs.Loads.{AfterLoad, AfterThree}
@@ -57,6 +56,14 @@ IsPrinted status text old new writes writes' (Err (Failed Write)) = TakesPrefix 
 IsPrinted status text old new writes writes' (Err (Failed Memory)) = TakesPrefix old new text × (writes' ≡ writes)
 IsPrinted status text old new writes writes' (Err (Failed Read)) = ⊥
 IsPrinted status text old new writes writes' (Err (Refused cause)) = ⊥
+
+-- files were stored, or a store is cut short
+abbrev pub AreStores : List (List ℕ × List ℕ) → (old new : Option Files) → (stores stores' : ℕ) → Result (Unit {0}) Stop → Type 0
+AreStores files old new stores stores' (Ok _) = WhereTold (AreStored files) old new × (stores' ≡ stores)
+AreStores files old new stores stores' (Err (Failed Write)) = WhereTold (AreCutShort files) old new × IsRisen stores stores'
+AreStores files old new stores stores' (Err (Failed Memory)) = WhereTold (AreCutShort files) old new × (stores' ≡ stores)
+AreStores files old new stores stores' (Err (Failed Read)) = ⊥
+AreStores files old new stores stores' (Err (Refused cause)) = ⊥
 
 -- how a command ended, before standard error takes anything: with the status of what it printed, or with its last step
 abbrev pub EndsAs : (Outcome → Type 0) → (before after : Outside) → Result ℕ Stop → Type 0

@@ -5,22 +5,23 @@ use std::alloc::{AllocError, Global};
 use std::test::Fail;
 
 /// `int main() { put(7); return 0; }`, its image as words and its certificate, as the formats' vectors have them.
-const PUT_SEVEN: &[u8] = b"int main() { put(7); return 0; }";
+pub(crate) const PUT_SEVEN: &[u8] = b"int main() { put(7); return 0; }";
 
-const IMAGE_OF_SEVEN: [u32; 30] = [
+pub(crate) const IMAGE_OF_SEVEN: [u32; 30] = [
     0x31504143, 0x00000018, 0x00000000, 0x00000000, 0x00000001, 0x01e00893, 0x00000073, 0xff010113,
     0x00112623, 0x000002b7, 0x00728293, 0x00512023, 0x00012503, 0x00300893, 0x00000073, 0x000002b7,
     0x00028293, 0x00512023, 0x00012503, 0x00c12083, 0x01010113, 0x00008067, 0x000002b7, 0x00028293,
     0x00512023, 0x00012503, 0x00c12083, 0x01010113, 0x00008067, 0x00001008,
 ];
 
-const CERTIFICATE_OF_SEVEN: &[u8] =
+pub(crate) const CERTIFICATE_OF_SEVEN: &[u8] =
     b"capriccio certificate 1\nchunk 4096\nmax-path 2032\nfunctions 1\nfunction 4104 22 16 12 16 0\nsites 0\n";
 
 /// A program of two functions, and its image for chunks of 64 bytes and paths of 32.
-const TWO: &[u8] = b"int g(int x) { return x; } int main() { int a; int b; a = g(1); return a; }";
+pub(crate) const TWO: &[u8] =
+    b"int g(int x) { return x; } int main() { int a; int b; a = g(1); return a; }";
 
-const IMAGE_OF_TWO: [u32; 52] = [
+pub(crate) const IMAGE_OF_TWO: [u32; 52] = [
     0x31504143, 0x0000002d, 0x00000000, 0x00000000, 0x00000002, 0x01e00893, 0x00000073, 0xff010113,
     0x00112623, 0x00a12023, 0x00012283, 0x00512223, 0x00412503, 0x00c12083, 0x01010113, 0x00008067,
     0x000002b7, 0x00028293, 0x00512223, 0x00412503, 0x00c12083, 0x01010113, 0x00008067, 0xff010113,
@@ -30,10 +31,25 @@ const IMAGE_OF_TWO: [u32; 52] = [
     0x01010113, 0x00008067, 0x00001008, 0x00001048,
 ];
 
-const NONE: &[u8] = b"";
+/// The image of the same program where its call is linked.
+const IMAGE_OF_LINKED: [u32; 62] = [
+    0x31504143, 0x00000037, 0x00000000, 0x00000000, 0x00000002, 0x01e00893, 0x00000073, 0xff010113,
+    0x00112623, 0x00a12023, 0x00012283, 0x00512223, 0x00412503, 0x00c12083, 0x01010113, 0x00008067,
+    0x000002b7, 0x00028293, 0x00512223, 0x00412503, 0x00c12083, 0x01010113, 0x00008067, 0xff010113,
+    0x00112623, 0x000002b7, 0x00028293, 0x00512023, 0x000002b7, 0x00028293, 0x00512223, 0x000002b7,
+    0x00128293, 0x00512423, 0x00812503, 0x00000337, 0x01030313, 0x406102b3, 0x0042e663, 0xf81ff0ef,
+    0x0180006f, 0x00100893, 0x00000073, 0xf71ff0ef, 0x00200893, 0x00000073, 0x00a12023, 0x00012283,
+    0x00512423, 0x00812503, 0x00c12083, 0x01010113, 0x00008067, 0x000002b7, 0x00028293, 0x00512423,
+    0x00812503, 0x00c12083, 0x01010113, 0x00008067, 0x00001008, 0x00001048,
+];
+
+const CERTIFICATE_OF_LINKED: &[u8] =
+    b"capriccio certificate 1\nchunk 64\nmax-path 32\nfunctions 2\nfunction 4104 16 16 12 16 0 4\nfunction 4168 37 16 12 16 0 4 8\nsites 1\nsite 0 linked 16\n";
+
+pub(crate) const NONE: &[u8] = b"";
 
 /// The bytes of words, each lowest byte first.
-fn bytes_of(alloc: Global, words: &[u32]) -> Result<Vec<u8>, AllocError> {
+pub(crate) fn bytes_of(alloc: Global, words: &[u32]) -> Result<Vec<u8>, AllocError> {
     let mut bytes = Vec::new(alloc);
     for word in words {
         bytes.extend_from_slice(&word.to_le_bytes())?;
@@ -42,7 +58,7 @@ fn bytes_of(alloc: Global, words: &[u32]) -> Result<Vec<u8>, AllocError> {
 }
 
 /// Words of a command line.
-fn words_of(alloc: Global, words: &[&str]) -> Result<Vec<String>, AllocError> {
+pub(crate) fn words_of(alloc: Global, words: &[&str]) -> Result<Vec<String>, AllocError> {
     let mut all = Vec::new(alloc);
     for word in words {
         all.push(String::from_str(alloc, word)?)?;
@@ -51,7 +67,7 @@ fn words_of(alloc: Global, words: &[&str]) -> Result<Vec<String>, AllocError> {
 }
 
 /// The files P, I and C.
-fn files_of(
+pub(crate) fn files_of(
     alloc: Global,
     source: &[u8],
     image: &[u8],
@@ -160,11 +176,20 @@ fn checks(rt: HostRuntime) -> Result<(), Fail> {
     let mut long = seven.as_slice().to_vec(alloc)?;
     long.push(0)?;
     let two = bytes_of(alloc, &IMAGE_OF_TWO)?;
-    let table: [(&[u8], &[u8], &[u8], u8, &[u8], &[u8]); 7] = [
+    let linked = bytes_of(alloc, &IMAGE_OF_LINKED)?;
+    let table: [(&[u8], &[u8], &[u8], u8, &[u8], &[u8]); 8] = [
         (
             PUT_SEVEN,
             seven.as_slice(),
             CERTIFICATE_OF_SEVEN,
+            0,
+            b"accepted\n",
+            NONE,
+        ),
+        (
+            TWO,
+            linked.as_slice(),
+            CERTIFICATE_OF_LINKED,
             0,
             b"accepted\n",
             NONE,
@@ -202,9 +227,9 @@ fn checks(rt: HostRuntime) -> Result<(), Fail> {
             b"image: Long at 120\n",
         ),
         (
-            PUT_SEVEN,
-            seven.as_slice(),
-            b"capriccio certificate 1\nchunk 4096\nmax-path 2032\nmax-path 2032\nfunctions 1\nfunction 4104 22 16 12 16 0\nsites 0\n",
+            TWO,
+            linked.as_slice(),
+            b"capriccio certificate 1\nchunk 64\nmax-path 32\nmax-path 32\nfunctions 2\nfunction 4104 16 16 12 16 0 4\nfunction 4168 37 16 12 16 0 4 8\nsites 1\nsite 0 linked 16\n",
             4,
             NONE,
             b"certificate: Line 4\n",

@@ -1,17 +1,21 @@
 // The commands that read no trace, over the objects that they are handed.
 ghost use Rattle.std.specs.Prelude.{ℕ, List, ◌≡◌, map};
 ghost use Rattle.std.specs.String.{string_bytes};
-ghost use Rattle.command_words.specs.WordList.{request_of};
+ghost use Rattle.command_words.specs.WordList.{IsWordList, request_of};
+ghost use Rattle.codegen_link.specs.Plans.{AreInRange};
+ghost use Rattle.capriccio_cli.specs.BuildsFiles.{Builds};
 ghost use Rattle.capriccio_cli.specs.Checks.{Checks};
 ghost use Rattle.capriccio_cli.specs.Done.{Outside};
 ghost use Rattle.capriccio_cli.specs.Due.{Does, IsDue, sizes_of};
 ghost use Rattle.capriccio_cli.specs.Graphs.{Graphs};
 ghost use Rattle.capriccio_cli.specs.Steps.{EndsAs};
 
+use crate::build_command::build_source;
 use crate::check_command::check_files;
 use crate::faults::Fault;
 use crate::graph_command::graph_source;
 use crate::stops::{Cause, Stop};
+use crate::stores::store_both;
 use crate::telling::print;
 use cap_io::{Shelf, Sink};
 use codegen_link::Options;
@@ -43,6 +47,7 @@ fn do_command<F: Shelf, K: Sink>(
     out: &mut K,
     command: Command,
 ) -> Result<u8, Stop>
+    requires { (words : List (List ℕ)) × IsWordList words (request_of command) }
     ensures { let before : Outside = record { files = F.files shelf.old; loads = F.load_faults shelf.old; stores = F.store_faults shelf.old; taken = K.taken out.old; writes = K.faults out.old } in
         let after : Outside = record { files = F.files shelf.new; loads = F.load_faults shelf.new; stores = F.store_faults shelf.new; taken = K.taken out.new; writes = K.faults out.new } in
         EndsAs (Does (request_of command.entry) before.files) before after result }
@@ -58,7 +63,20 @@ fn do_command<F: Shelf, K: Sink>(
         } => check(alloc, shelf, out, source, image, certificate),
         Command::Serve { .. } => Err(Stop::Refused(Cause::NotBuilt)),
         Command::Run { .. } => Err(Stop::Refused(Cause::NotBuilt)),
-        Command::Build { .. } => Err(Stop::Refused(Cause::NotBuilt)),
+        Command::Build {
+            source,
+            image,
+            certificate,
+            placement,
+        } => build(
+            alloc,
+            shelf,
+            out,
+            source,
+            image,
+            certificate,
+            options_of(placement),
+        ),
         Command::Demo { .. } => Err(Stop::Refused(Cause::NotBuilt)),
     }
 }
@@ -87,6 +105,33 @@ fn graph<F: Shelf, K: Sink>(
 {
     let text = graph_source(alloc, shelf, source, options)?;
     print(out, text.as_slice(), 0)
+}
+
+/// The command `build`: the image is stored, then the certificate.
+fn build<F: Shelf, K: Sink>(
+    alloc: Global,
+    shelf: &mut F,
+    out: &mut K,
+    source: &str,
+    image: &str,
+    certificate: &str,
+    options: Options,
+) -> Result<u8, Stop>
+    requires { AreInRange options }
+    ensures { let before : Outside = record { files = F.files shelf.old; loads = F.load_faults shelf.old; stores = F.store_faults shelf.old; taken = K.taken out.old; writes = K.faults out.old } in
+        let after : Outside = record { files = F.files shelf.new; loads = F.load_faults shelf.new; stores = F.store_faults shelf.new; taken = K.taken out.new; writes = K.faults out.new } in
+        EndsAs (Builds before.files source.now image.now certificate.now options) before after result }
+{
+    let products = build_source(alloc, shelf, source, options)?;
+    store_both(
+        alloc,
+        shelf,
+        image,
+        products.image.as_slice(),
+        certificate,
+        products.certificate.as_slice(),
+    )?;
+    print(out, products.line.as_slice(), 0)
 }
 
 /// The command `check`.

@@ -2,9 +2,8 @@
 ghost use Rattle.std.specs.Prelude.{◌≡◌, ◌≤◌, length, MatchResult};
 ghost use Rattle.cap_io.specs.Files.{KeepsFiles};
 ghost use Rattle.c_tree.specs.ProgramView.{program_tree};
-ghost use Rattle.c_scope.specs.SourceText.{ReadsAs};
 ghost use Rattle.capriccio_cli.specs.Outcome.{NoMore};
-ghost use Rattle.capriccio_cli.specs.Loads.{AfterSource, AfterImage, AfterCertificate, IsImageText, IsCertificateText};
+ghost use Rattle.capriccio_cli.specs.Loads.{AfterSource, AfterImage, AfterCertificate, IsSourceText, IsImageText, IsCertificateText};
 ghost use Rattle.capriccio_cli.specs.Steps.{IsLoadAnswer, AreLoaded, IsStop};
 
 use crate::documents::Document;
@@ -73,7 +72,7 @@ pub(crate) fn load_three<F: Shelf>(
 /// The program that the bytes of a source are.
 pub(crate) fn read_source(alloc: Global, source: &[u8]) -> Result<Program, Stop>
     requires { length source.now ≤ 1048576 }
-    ensures { MatchResult result (λ program. ReadsAs source.now (program_tree program)) (IsStop (AfterSource source.now NoMore)) }
+    ensures { MatchResult result (λ program. IsSourceText source.now (program_tree program)) (IsStop (AfterSource source.now NoMore)) }
 {
     match read_program(alloc, source) {
         Ok(program) => Ok(program),

@@ -7,6 +7,7 @@
 // commands.rt has what they do, over what is due for the words and the files (specs/Due.antt).
 #![tactic(auto)]
 
+mod build_command;
 mod cause_lines;
 mod check_command;
 mod code;
@@ -29,6 +30,7 @@ mod segments;
 mod serve;
 mod steps;
 mod stops;
+mod stores;
 mod telling;
 mod words;
 
@@ -77,6 +79,8 @@ fn words_of<E: Env>(environment: &E, alloc: Global) -> Result<Vec<String>, Alloc
     }
 }
 
+#[cfg(test)]
+mod build_rows;
 #[cfg(test)]
 mod command_rows;
 #[cfg(test)]

@@ -29,3 +29,4 @@ pub use accepted::Accepted;
 pub use checking::{CheckError, check};
 pub use failures::Failure;
 pub use first::first_failure;
+pub use lookups::kind_of_operation;

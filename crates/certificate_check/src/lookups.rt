@@ -128,8 +128,9 @@ pub(crate) fn kind_of_site(facts: &[SiteFact], site: u32) -> LinkKind
     }
 }
 
-// How an operation links.
-pub(crate) fn kind_of_operation(certificate: &Certificate, op: &Op) -> LinkKind
+/// How the certificate has an operation linked: as its site links, and plainly where it has no site. The facts of the
+/// sites are in the order of their numbers; the work is the logarithm of their count.
+pub fn kind_of_operation(certificate: &Certificate, op: &Op) -> LinkKind
     requires { IsStrictlyIncreasing (fact_numbers certificate.now.sites) }
     ensures { result ≡ kind_of certificate.now op.now }
 {

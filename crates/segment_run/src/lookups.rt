@@ -1,17 +1,14 @@
 // What an accepted program holds at a number or an address.
 
-ghost use Rattle.std.specs.Prelude.{◌≡◌, ◌≢◌, ℕ, ◌^◌, ◌<◌, ◌≤◌, IfSome, IfNone, length, slice_index};
-ghost use Rattle.std.specs.List.Sorted.{IsStrictlyIncreasing};
+ghost use Rattle.std.specs.Prelude.{◌≡◌, ℕ, ◌^◌, ◌<◌, ◌≤◌, length};
 ghost use Rattle.flat_code.specs.Codes as codes;
 ghost use Rattle.flat_code.specs.ProgramView.{program_code};
-ghost use Rattle.certificate_rules.specs.Sites.{fact_numbers};
-ghost use Rattle.stack_certificate.specs.Certificates.{fact_at, kind_in};
-ghost use Rattle.stack_certificate.specs.Templates.{kind_of};
+ghost use Rattle.stack_certificate.specs.Certificates.{fact_at};
 ghost use Rattle.segment_run.specs.Lookups.{HasEntry, StandsIn};
 
 use certificate_check::Accepted;
 use flat_code::{FlatFunction, FlatProgram, Op};
-use stack_certificate::{Certificate, FunctionFact, LinkKind, SiteFact};
+use stack_certificate::{Certificate, FunctionFact};
 
 // What the certificate says of a function.
 pub(crate) fn fact_of(certificate: &Certificate, function: u32) -> &FunctionFact
@@ -58,54 +55,6 @@ pub(crate) fn function_at(accepted: &Accepted, address: u32) -> u32
         }
     }
     unreachable!()
-}
-
-// The place of a site's fact among facts whose numbers rise, by halving.
-fn find_site(facts: &[SiteFact], site: u32) -> Option<usize>
-    requires { IsStrictlyIncreasing (fact_numbers facts.now) }
-    ensures found { IfSome result (λ k. (k < length facts.now) × (slice_index (fact_numbers facts.now) k ≡ site)) }
-    ensures absent { IfNone result ((k : ℕ) → k < length facts.now → slice_index (fact_numbers facts.now) k ≢ site) }
-{
-    let mut low = 0;
-    let mut high = facts.len();
-    'halving: while low < high {
-        let middle = low + (high - low) / 2;
-        if facts[middle].number < site {
-            low = middle + 1;
-        } else {
-            high = middle;
-        }
-    }
-    if low < facts.len() && facts[low].number == site {
-        Some(low)
-    } else {
-        None
-    }
-}
-
-// How a site links, by its fact among facts whose numbers rise.
-fn kind_of_site(facts: &[SiteFact], site: u32) -> LinkKind
-    requires { IsStrictlyIncreasing (fact_numbers facts.now) }
-    ensures { result ≡ kind_in facts.now site }
-{
-    match find_site(facts, site) {
-        Some(k) => facts[k].kind,
-        None => LinkKind::Plain,
-    }
-}
-
-// How an operation links.
-pub(crate) fn kind_of_operation(certificate: &Certificate, op: &Op) -> LinkKind
-    requires { IsStrictlyIncreasing (fact_numbers certificate.now.sites) }
-    ensures { result ≡ kind_of certificate.now op.now }
-{
-    match op {
-        Op::Call { site, .. }
-        | Op::CallTable { site, .. }
-        | Op::Model { site, .. }
-        | Op::Spawn { site, .. } => kind_of_site(certificate.sites.as_slice(), *site),
-        _ => LinkKind::Plain,
-    }
 }
 
 // The site of an operation, where it is a call.

@@ -7,8 +7,8 @@ ghost use Rattle.machine_world.specs.Places.{InOperation, IsAt};
 ghost use Rattle.segment_run.specs.Contexts.{checked_of};
 ghost use Rattle.segment_run.specs.Walking.{IsInCall};
 
-use crate::lookups::{fact_of, function_at, function_of, kind_of_operation, site_of};
-use certificate_check::Accepted;
+use crate::lookups::{fact_of, function_at, function_of, site_of};
+use certificate_check::{Accepted, kind_of_operation};
 use stack_certificate::operation_size;
 
 // A call in the code: its function and the number of its site.

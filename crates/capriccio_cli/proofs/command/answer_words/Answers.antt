@@ -1,8 +1,6 @@
-use Rattle.std.proofs.Common.{map, Result}
+use Rattle.std.proofs.Common.{map}
 use Rattle.std.specs.String.{string_bytes}
-use Rattle.capriccio_cli.specs.declared.faults.Fault.{Fault}
 use Rattle.capriccio_cli.specs.Due.{IsDue}
-use Rattle.capriccio_cli.specs.Outcome.{Outcome}
 use Rattle.capriccio_cli.proofs.Ending.{told}
 use Rattle.capriccio_cli.proofs.OneCase.{exact}
 use Rattle.capriccio_cli.proofs.command.answer_words.Goals as goal

@@ -18,3 +18,6 @@ returns-in-Err-NotWords g c =
     let files = g.F.Shelf.files c.args.shelf.now in
     let none = c.in-Err-NotWords.ensures.refused (ap (λ (e : WordsError). Err e) c.in-Err-NotWords.field-0-is) in
     refused-at-once (IsDue (map (λ word. string_bytes word) c.args.words.now.items) files) _ Usage (inr (none, refl))
+
+pub do_command-requires : goal.do_command-requires
+do_command-requires g c = (map (λ word. string_bytes word) c.args.words.now.items, c.in-Ok.ensures.read)

@@ -1,0 +1,174 @@
+-- The choice of a thread: what it takes and what is written.
+use Rattle.std.proofs.Common.{◌≡◌, ℕ, ◌+◌, ◌-◌, ◌*◌, ◌<◌, ◌≤◌, ◌&&◌, Bool, true, false, List, [], ◌∷◌, ◌++◌, length, drop, Option, Some, None, Result, find, cond, refl, sym, ap, ◌∙◌, subst, arith}
+use Rattle.std.specs.Prelude.{IsTrue, slice_index}
+use Rattle.cap_io.specs.Writes.{Puts}
+use Rattle.c_mean.specs.ModelledCalls.{Exchange}
+use Rattle.event_trace.specs.Reader.{ReaderState}
+use Rattle.event_trace.specs.declared.events.Event.{Event}
+use Rattle.lawful_log.specs.Good.{checked_of}
+use Rattle.lawful_log.specs.Setup.{Setup, setting_of, all_caps}
+use Rattle.lawful_log.specs.State.{State, uses_of}
+use Rattle.lawful_log.specs.Trace.{Trace, IsNext}
+use Rattle.lawful_steps.proofs.Picked.{is_picked}
+use Rattle.machine_world.specs.Runs.{Pick, after_action}
+use Rattle.machine_world.specs.Threads.{World, Setting}
+use Rattle.machine_world.specs.WellFormed.{IsWellFormed}
+use Rattle.resource_monitor.specs.Monitor.{MonitorState, NoneAbove}
+use Rattle.runner.specs.declared.course.Under.{Under}
+use Rattle.runner.specs.declared.ends.Failure.{Failure}
+use Rattle.runner.specs.declared.looking.Next.{Next}
+use Rattle.runner.specs.Kept.{Kept, known, machine_uses}
+use Rattle.runner.specs.Ranks.{turn_rank, under_rank, long_rank}
+use Rattle.runner.specs.Stands.{IsTraceOf, StandsBetween, StandsWithin, Stands, StepsAsSource, IsAtChoice}
+use Rattle.runner.specs.Steps.{IsTold, ActsTo, PartEnds}
+use Rattle.schedule_log.specs.EntryText.{entry_text}
+use Rattle.schedule_log.specs.declared.entries.Entry.{Entry}
+use Rattle.scheduler.specs.LawfulChoice.{is_eligible, IsLawfulChoice}
+use Rattle.scheduler.specs.Scores.{score}
+use Rattle.scheduler.specs.State.{SchedulerState, queue_of, last_of, IsNoted}
+use Rattle.scheduler.specs.declared.choices.Choice.{Choice}
+use Rattle.thread_core.specs.Ready.{is_ready_in, is_at_accept_in, any_elsewhere_in}
+use Rattle.thread_core.specs.Turns.{Begins, KeepsSetting, MayBegin}
+use Rattle.thread_core.specs.Worlds.{Held, KeepsPlaces, used_in, cap_in}
+use Rattle.thread_core.specs.declared.turns.Turn.{Turn}
+use Rattle.world_source.specs.Reached.{IsReached}
+use Rattle.runner.proofs.Acting.{acts_on}
+use Rattle.runner.proofs.AsSource.{source_picks, source_steps, formed_now}
+use Rattle.runner.proofs.Began.{Lawful, chosen_as, chosen, began_state, began, run_is, there, tells_now, observed}
+use Rattle.runner.proofs.Caps.{uses_are, within_policy}
+use Rattle.runner.proofs.Costs.{goes_cost, told_cost, told_formed, falls}
+use Rattle.runner.proofs.Parts.{acts_between, pick_acts, by_some, part_of}
+
+-- ---- small things
+
+passes_by : {X : Type 0} (test : X → Bool) (x : X) (xs : List X) (y : X) → (find test xs ≡ Some y → test y ≡ true) → (b : Bool) → test x ≡ b → cond b (Some x) (find test xs) ≡ Some y → test y ≡ true
+passes_by test x xs y later true t f = let same : x ≡ y = cc in ap test (sym same) ∙ t
+passes_by test x xs y later false t f = later f
+
+found_passes : {X : Type 0} (test : X → Bool) (xs : List X) (y : X) → find test xs ≡ Some y → test y ≡ true
+found_passes test [] y e = absurd (cc)
+found_passes test (x ∷ xs) y e = passes_by test x xs y (λ f. found_passes test xs y f) (test x) refl e
+
+first_of_both : (a b : Bool) → (a && b) ≡ true → IsTrue a
+first_of_both true b e = refl
+first_of_both false b e = absurd (cc)
+
+next_by : (trace : Trace) (reader : ReaderState) (n : Next) (left : Option (List ℕ)) (next : Option Event) → IsTold left → IsTraceOf trace reader n left → known n ≡ Some next → IsNext trace next
+next_by trace reader n None next told is e = absurd told
+next_by trace reader Next.Unread (Some bytes) next told is e = absurd (cc)
+next_by trace reader (Next.Event event) (Some bytes) next told is e = let same : Some event ≡ next = cc in subst (IsNext trace) same is.0
+next_by trace reader Next.Over (Some bytes) next told is e = let same : None ≡ next = cc in subst (IsNext trace) same is
+
+pub next_known : (g : Setup) (state : State) (k : Kept) (held : Held) (left : Option (List ℕ)) (next : Option Event) → StandsBetween g state k held left → known k.next ≡ Some next → IsTold left → IsNext state.trace next
+next_known g state k held left next stands known_is told = next_by state.trace k.reader k.next left next told stands.read.trace_is known_is
+
+pub within_under : (g : Setup) (state : State) (k : Kept) (held : Held) (left : Option (List ℕ)) (of_it : Under) (under : Option Under) → StandsWithin g state k held left of_it → StandsWithin g state (record k { under = under }) held left of_it
+within_under g state k held left of_it under is = record {
+  of = is.of;
+  segment = is.segment;
+  waiting = is.waiting;
+  here = is.here;
+  within = is.within;
+  tells = is.tells;
+  reached = is.reached;
+  thread_is = is.thread_is;
+  node_is = is.node_is;
+  before_is = is.before_is;
+  within_caps = is.within_caps;
+  placed = is.placed;
+  queued = is.queued;
+  past = is.past;
+  gate = is.gate;
+  read = is.read;
+}
+
+module _ (g : Setup) (state : State) (k : Kept) (held : Held) (left : Option (List ℕ)) (next : Option Event) (at : IsAtChoice g state k held left next) where
+  pub stands : StandsBetween g state k held left
+  stands = at.point.stands
+
+  formed : IsWellFormed (checked_of g) (setting_of g) held.machine
+  formed = formed_now g state k held left stands
+
+  pub resting : held.machine.running ≡ None
+  resting = ap (λ (w : World). w.running) stands.between.machine_is ∙ stands.between.stands.between
+
+  -- ---- the uses
+
+  machine_same : machine_uses held.machine ≡ uses_of state
+  machine_same = ap machine_uses stands.between.machine_is
+      ∙ ap (λ (x : Exchange). (state.machine.areas.pool.count - length state.machine.areas.pool.free) ∷ drop 1 x.uses) stands.between.stands.exchange
+
+  pub uses_now : (uses : List ℕ) → length uses ≡ 8 → ((r : ℕ) → r < 8 → slice_index uses r ≡ used_in held.machine r) → uses ≡ uses_of state
+  uses_now uses eight same = uses_are held.machine uses eight formed.exchange.use_count same ∙ machine_same
+
+  pub caps_now : (uses : List ℕ) → ((r : ℕ) → r < 8 → slice_index uses r ≤ cap_in held r) → NoneAbove uses (all_caps g.policy)
+  caps_now uses within = within_policy g held uses stands.of within
+
+  module _ (uses : List ℕ) (uses_is : uses ≡ uses_of state) (within_caps : NoneAbove uses (all_caps g.policy)) where
+    abbrev pub LawfulNow : Option Choice → Type 0
+    LawfulNow o = Lawful g state k held left stands next at.point.known_is at.ready uses uses_is within_caps o
+
+    -- the choice that is made over the monitor after it has taken the uses
+    pub lawful_as : (m : MonitorState) → m ≡ observed k.monitor uses → (o : Option Choice) →
+        IsLawfulChoice (queue_of k.scheduler) (is_eligible (is_ready_in held) (is_at_accept_in held) (any_elsewhere_in held) m.is_open) (score m k.graph.edges) (last_of k.scheduler) o → LawfulNow o
+    lawful_as m e o is = subst (λ (n : MonitorState). IsLawfulChoice (queue_of k.scheduler) (is_eligible (is_ready_in held) (is_at_accept_in held) (any_elsewhere_in held) n.is_open) (score n k.graph.edges) (last_of k.scheduler) o) e is
+
+    pub some_choice : LawfulNow None → ⊥
+    some_choice lawful = chosen_as g state k held left stands next at.point.known_is at.ready uses uses_is within_caps None lawful
+
+    module _ (choice : Choice) (lawful : LawfulNow (Some choice)) where
+      pub may_begin : (stopped : Option Turn) → stopped ≡ None → MayBegin held choice.thread stopped
+      may_begin None e = (
+        first_of_both (is_ready_in held choice.thread) _
+            (found_passes (is_eligible (is_ready_in held) (is_at_accept_in held) (any_elsewhere_in held) (observed k.monitor uses).is_open) (queue_of k.scheduler choice.node) choice.thread lawful.first),
+        resting,
+      )
+      may_begin (Some turn) e = absurd (cc)
+
+      module _ (scheduler : SchedulerState) (noted : IsNoted k.scheduler scheduler choice) (new : Held) (keeps : KeepsSetting held new) (places : KeepsPlaces held new) (turn : Turn) (did : Begins held choice.thread.number turn new) where
+        abbrev under : Under
+        under = record { choice = choice; before = uses; turn = turn }
+
+        abbrev pub begun_kept : Kept
+        begun_kept = record k { scheduler = scheduler; monitor = observed k.monitor uses; under = Some under }
+
+        picks_law : (number : ℕ) (after : World) → after_action (setting_of g) held.machine (Pick number) ≡ Some after → IsReached (checked_of g) g.program (setting_of g) state.source number [] after
+        picks_law = source_picks g state k held left stands
+
+        law : (number : ℕ) → StepsAsSource g state number
+        law = source_steps g state held stands.of
+
+        abbrev new_state : State
+        new_state = began_state g state k held left stands next at.point.known_is at.ready uses uses_is within_caps choice lawful scheduler noted new keeps places turn did picks_law law
+
+        stands_new : Stands g new_state begun_kept new left
+        stands_new = by_some g new_state begun_kept new left under refl
+            (within_under g new_state (record k { scheduler = scheduler; monitor = observed k.monitor uses }) new left under (Some under)
+            (began g state k held left stands next at.point.known_is at.ready uses uses_is within_caps choice lawful scheduler noted new keeps places turn did picks_law law))
+
+        acts : ActsTo (setting_of g) state.machine did.picked
+        acts = acts_on (setting_of g) state.machine held.machine did.picked (acts_between g state k held left stands)
+            (subst (λ (s : Setting). ActsTo s held.machine did.picked) stands.of.setting (pick_acts held.setting held.machine did.picked choice.thread.number did.picks))
+
+        pub choose_part : (taken written : Option (List ℕ)) (result : Result (Unit {0}) Failure) → Puts taken written (entry_text (Entry.Run held.machine.clock choice.thread.number choice.node) ++ 10 ∷ []) result →
+            PartEnds g state left begun_kept new left taken written result
+        choose_part taken written result puts = part_of g state new_state left begun_kept new taken written (Entry.Run held.machine.clock choice.thread.number choice.node) result
+            (λ told. run_is g state k held left stands next at.point.known_is at.ready uses uses_is within_caps choice lawful scheduler noted new keeps places turn did picks_law law
+            at.point.live (next_known g state k held left next stands at.point.known_is told) at.not_due) acts stands_new puts
+
+        pub choose_falls : long_rank begun_kept new < long_rank k held
+        choose_falls =
+            let number : ℕ = (chosen g state k held left stands next at.point.known_is at.ready uses uses_is within_caps choice lawful scheduler noted new keeps places turn did picks_law law).waiter.thread in
+            let is_there = there g state k held left stands next at.point.known_is at.ready uses uses_is within_caps choice lawful scheduler noted new keeps places turn did picks_law law in
+            let tells = tells_now g state k held left stands next at.point.known_is at.ready uses uses_is within_caps choice lawful scheduler noted new keeps places turn did picks_law law in
+            let start : did.picked.cost ≡ held.machine.cost = (is_picked held.setting held.machine choice.thread.number did.picked did.picks).cost in
+            let way : did.picked.cost ≤ did.made.at.cost = goes_cost held.setting did.made.steps did.picked did.made.at did.made.goes_on in
+            let cost = told_cost (setting_of g) did.made.at turn number new tells in
+            let most = (told_formed (checked_of g) (setting_of g) did.made.at new turn number is_there.within.formed tells).cost in
+            let fell : 3 * (g.policy.fuel - new.machine.cost) + turn_rank turn < 3 * (g.policy.fuel - held.machine.cost) + 1 = falls turn g.policy.fuel held.machine.cost did.made.at.cost new.machine.cost 1 (omega (arith, start, way)) cost most (omega arith) in
+            let old_fuel : held.setting.fuel ≡ g.policy.fuel = ap (λ (s : Setting). s.fuel) stands.of.setting in
+            let new_fuel : new.setting.fuel ≡ g.policy.fuel = ap (λ (s : Setting). s.fuel) keeps.setting ∙ old_fuel in
+            let rank_old : under_rank k.under ≡ 1 = ap under_rank at.point.between in
+            subst (λ (n : ℕ). 3 * (new.setting.fuel - new.machine.cost) + turn_rank turn < 3 * (held.setting.fuel - held.machine.cost) + n) (sym rank_old)
+            (subst (λ (n : ℕ). 3 * (new.setting.fuel - new.machine.cost) + turn_rank turn < 3 * (n - held.machine.cost) + 1) (sym old_fuel)
+            (subst (λ (n : ℕ). 3 * (n - new.machine.cost) + turn_rank turn < 3 * (g.policy.fuel - held.machine.cost) + 1) (sym new_fuel) fell))

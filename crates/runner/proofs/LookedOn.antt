@@ -1,0 +1,143 @@
+-- A step of a choice point: it stops, or goes on behind a look at the next line.
+use Rattle.std.proofs.Common.{◌≡◌, ◌≢◌, ℕ, ◌+◌, ◌*◌, ◌<◌, ◌≤◌, ◌||◌, Bool, true, false, List, [], Option, Some, None, Result, Ok, Err, refl, sym, ap, ◌∙◌, subst, arith, ⊎_elim}
+use Rattle.std.specs.Prelude.{if◌then◌else◌}
+use Rattle.event_trace.specs.declared.events.Event.{Event}
+use Rattle.lawful_log.specs.Setup.{Setup}
+use Rattle.lawful_log.specs.State.{State}
+use Rattle.lawful_steps.specs.Beside.{IsGraphOf}
+use Rattle.blocking_graph.specs.Graph.{GraphState}
+use Rattle.machine_world.specs.Threads.{World}
+use Rattle.thread_core.specs.Ready.{any_ready_in}
+use Rattle.thread_core.specs.Worlds.{Held}
+use Rattle.runner.specs.declared.course.Under.{Under}
+use Rattle.runner.specs.declared.ends.Failure.{Failure}
+use Rattle.runner.specs.declared.ends.Halt.{Halt}
+use Rattle.runner.specs.declared.looking.Looked.{Looked}
+use Rattle.runner.specs.declared.looking.Next.{Next}
+use Rattle.runner.specs.Counts.{CountsLook, CountsPart, CountsStep}
+use Rattle.runner.specs.Kept.{Kept}
+use Rattle.runner.specs.Looks.{Sees, Refuses, Nears}
+use Rattle.runner.specs.Ranks.{due_at, long_rank, lines_rank, stuck_rank, rank, FallsTo}
+use Rattle.runner.specs.Stands.{StandsBetween, StandsSomehow, IsAtPoint}
+use Rattle.runner.specs.Steps.{IsTold, HaltsAt, FailsIn, StepEnds}
+use Rattle.runner.proofs.Parts.{acts_between, way_between, onward_between, no_part, to_between}
+use Rattle.runner.proofs.Waited.{clock_same}
+
+-- what is known of the trace may be left out
+pub forget : (g : Setup) (state : State) (k : Kept) (held : Held) (left : Option (List ℕ)) → StandsBetween g state k held left → StandsBetween g state k held None
+forget g state k held left is = record {
+  of = is.of;
+  going = is.going;
+  between = is.between;
+  ended = is.ended;
+  settled = is.settled;
+  queued = is.queued;
+  past = is.past;
+  gate = is.gate;
+  read = record { trace_is = tt; unrefused = is.read.unrefused; fits = is.read.fits };
+}
+
+pub unrefused : (k : Kept) (held : Held) → k.under ≡ None → StandsSomehow k held → k.reader.refused ≡ None
+unrefused k held e s = (to_between s.0 s.1 k held s.2 e s.3).read.unrefused
+
+module _ (g : Setup) (state : State) (k : Kept) (held : Held) (left : Option (List ℕ)) (stands : StandsBetween g state k held left) where
+  threads_same : held.machine.threads ≡ state.machine.threads
+  threads_same = ap (λ (w : World). w.threads) stands.between.machine_is
+
+  pub done_halts : (taken : Option (List ℕ)) → held.machine.threads ≡ [] → HaltsAt g state left k held Halt.Done taken taken
+  done_halts taken none = record {
+    of = stands.of;
+    stops = λ told. record {
+      between = stands.between.between;
+      nobody = sym threads_same ∙ none;
+      machine_is = clock_same state held.machine stands.between.machine_is (stands.ended none);
+    };
+    graph = stands.past.graph_is;
+    acts = acts_between g state k held left stands;
+    way = way_between g state k held left stands;
+    writes = refl;
+  }
+
+  pub refused_halts : (new : Kept) (line : ℕ) (taken : Option (List ℕ)) → new.graph ≡ k.graph → held.machine.threads ≢ [] → Refuses g state left held line → HaltsAt g state left new held (Halt.BadTrace line) taken taken
+  refused_halts new line taken same live is = record {
+    of = stands.of;
+    stops = λ told. record {
+      between = stands.between.between;
+      live = λ none. live (threads_same ∙ none);
+      refused = is.refused told;
+      machine_is = is.machine_is;
+    };
+    graph = subst (λ (x : GraphState). IsGraphOf x state.past) (sym same) stands.past.graph_is;
+    acts = acts_between g state k held left stands;
+    way = way_between g state k held left stands;
+    writes = refl;
+  }
+
+  pub read_fails : (taken : Option (List ℕ)) → FailsIn g state left held taken taken
+  read_fails taken = no_part g state left held taken stands.of (onward_between g state k held left stands)
+
+pub at_point : (g : Setup) (state : State) (left : Option (List ℕ)) (k : Kept) (held : Held) (told : Option (List ℕ)) (event : Option Event) (sees : Sees g state left k held told event) → k.under ≡ None → held.machine.threads ≢ [] →
+    IsAtPoint g state k held sees.left event
+at_point g state left k held told event sees under live = record { stands = sees.stands; between = under; known_is = sees.next_is; live = live }
+
+-- the step behind a look, from where it was looked
+pub from_before : (g : Setup) (state : State) (before here : Option (List ℕ)) (k : Kept) (held : Held) (left taken written : Option (List ℕ)) (result : Result (Option Halt) Failure) → (IsTold before → IsTold here) →
+    StepEnds g state here k held left taken written result → StepEnds g state before k held left taken written result
+from_before g state before here k held left taken written (Ok None) told is = record {
+  new = is.new;
+  entries = is.entries;
+  told = λ t. is.told (told t);
+  leads = λ t. is.leads (told t);
+  acts = is.acts;
+  stands = is.stands;
+  writes = is.writes;
+}
+from_before g state before here k held left taken written (Ok (Some halt)) told is = record { of = is.of; stops = λ t. is.stops (told t); graph = is.graph; acts = is.acts; way = is.way; writes = is.writes }
+from_before g state before here k held left taken written (Err failure) told is = record {
+  new = is.new;
+  entries = is.entries;
+  leads = λ t. is.leads (told t);
+  count = is.count;
+  part = is.part;
+  writes = is.writes;
+  acts = is.acts;
+  way = is.way;
+  of = is.of;
+}
+
+-- ---- counts
+
+pub look_failed : (failure : Failure) (reads reads' writes : ℕ) → CountsLook {V = Looked} (Err failure) reads reads' → CountsStep {V = Option Halt} (Err failure) reads reads' writes writes
+look_failed Failure.Read reads reads' writes is = (is, refl)
+look_failed Failure.Write reads reads' writes is = absurd is
+look_failed Failure.Memory reads reads' writes is = absurd is
+
+pub part_counts : (result : Result (Option Halt) Failure) (reads reads' writes writes' : ℕ) → reads' ≡ reads → CountsPart result writes writes' → CountsStep result reads reads' writes writes'
+part_counts (Ok v) reads reads' writes writes' e is = (e, is)
+part_counts (Err Failure.Read) reads reads' writes writes' e is = absurd is
+part_counts (Err Failure.Write) reads reads' writes writes' e is = (e, is)
+part_counts (Err Failure.Memory) reads reads' writes writes' e is = (e, is)
+
+-- ---- the measure
+
+pub stuck_small : (next : Next) (held : Held) → stuck_rank next held ≤ 1
+stuck_small next held = by (due_at next held.machine.clock || any_ready_in held) where
+  by : (b : Bool) → (if b then 0 else 1) ≤ 1
+  by true = omega arith
+  by false = omega arith
+
+nearer : (long long' lines lines' stuck stuck' : ℕ) → long' ≡ long → lines' < lines → stuck' ≤ 1 → 6000010 * long' + (2 * lines' + stuck') ≤ 6000010 * long + (2 * lines + stuck)
+nearer long long' lines lines' stuck stuck' same less small = omega (arith, same, less, small)
+
+pub look_falls : (old new : Kept) (held : Held) (event : Option Event) → new.under ≡ old.under → Nears old new (Ok (Looked.Comes event)) → rank new held ≤ rank old held
+look_falls old new held event under near = ⊎_elim
+    (λ (same : new ≡ old). subst (λ (k : Kept). rank k held ≤ rank old held) (sym same) (omega arith))
+    (λ (less : lines_rank new < lines_rank old).
+    nearer (long_rank old held) (long_rank new held) (lines_rank old) (lines_rank new) (stuck_rank old.next held) (stuck_rank new.next held)
+    (ap (λ (u : Option Under). long_rank (record old { under = u }) held) under) less (stuck_small new.next held))
+    near
+
+pub falls_from : (old here new : ℕ) (result : Result (Option Halt) Failure) → here ≤ old → FallsTo here result new → FallsTo old result new
+falls_from old here new (Ok None) h falls = let less : new < here = falls in omega (arith, h, less)
+falls_from old here new (Ok (Some halt)) h falls = tt
+falls_from old here new (Err failure) h falls = tt

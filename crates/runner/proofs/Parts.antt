@@ -1,0 +1,201 @@
+-- What a part of a step comes to: a line was written, whole or in part; or nothing was.
+use Rattle.std.proofs.Common.{◌≡◌, ℕ, zero, suc, ◌≤◌, Bool, true, ◌&&◌, List, [], ◌∷◌, ◌++◌, length, take, Option, Some, None, Result, Ok, Err, refl, sym, ap, ◌∙◌, subst, append-nil, arith}
+use Rattle.std.specs.Prelude.{nat_le, is_none, if◌then◌else◌}
+use Rattle.std.specs.Io.KnownBytes.{Appends}
+use Rattle.std.proofs.lemmas.Bool.Decides.{nat_tests}
+use Rattle.cap_io.specs.Writes.{Puts}
+use Rattle.lawful_log.specs.Lawful.{IsAllowed, nowhere, by_entry}
+use Rattle.lawful_log.specs.Segments.{quiet_world, after_quiet}
+use Rattle.lawful_log.specs.Setup.{Setup, setting_of}
+use Rattle.lawful_log.specs.State.{State}
+use Rattle.machine_world.specs.Runs.{Action, Advance, Deliver, Pick, advanced, delivered, world_of, and_then, after_action, after_actions}
+use Rattle.machine_world.specs.Threads.{World, Setting, Move, Goes, Puts as Puts_word, Spawns, Blocks, Ends, Stops, Wrong, step}
+use Rattle.c_mean.specs.ModelledCalls.{Delivery}
+use Rattle.runner.specs.declared.course.Under.{Under}
+use Rattle.runner.specs.declared.ends.Failure.{Failure}
+use Rattle.runner.specs.Kept.{Kept}
+use Rattle.runner.specs.Stands.{IsOf, StandsBetween, StandsWithin, StandsBy, Stands}
+use Rattle.runner.specs.Steps.{IsTold, ActsTo, GoesTo, FailsIn, PartEnds}
+use Rattle.schedule_log.specs.EntryText.{entry_text, log_text}
+use Rattle.schedule_log.specs.declared.entries.Entry.{Entry}
+use Rattle.thread_core.specs.Turns.{Tells}
+use Rattle.thread_core.specs.Worlds.{Held}
+use Rattle.thread_core.specs.declared.turns.Turn.{Turn}
+use Rattle.runner.specs.Ways.{IsOnWay, has_waited, has_run, has_told}
+use Rattle.runner.proofs.Acting.{acts_on, one_step, told_acts}
+
+-- ---- one action
+
+pub no_acts : (s : Setting) (w v : World) → v ≡ w → ActsTo s w v
+no_acts s w v e = record { actions = []; leads = ap Some (sym e) }
+
+one_action : (s : Setting) (w after : World) (action : Action) → after_action s w action ≡ Some after → ActsTo s w after
+one_action s w after action e = record { actions = action ∷ []; leads = ap (λ (o : Option World). and_then o (after_actions s [])) e }
+
+le_true : (a b : ℕ) → a ≤ b → nat_le a b ≡ true
+le_true a b h = grind (arith, nat_tests, h)
+
+pub advance_acts : (s : Setting) (w : World) (clock : ℕ) → w.running ≡ None → w.clock ≤ clock → ActsTo s w (advanced w clock)
+advance_acts s w clock between later = one_action s w (advanced w clock) (Advance clock)
+    (ap (λ (o : Option ℕ). if is_none o && nat_le w.clock clock then Some (advanced w clock) else None) between
+    ∙ ap (λ (b : Bool). if b then Some (advanced w clock) else None) (le_true w.clock clock later))
+
+pub deliver_acts : (s : Setting) (w : World) (delivery : Delivery) → w.running ≡ None → ActsTo s w (delivered s w delivery)
+deliver_acts s w delivery between = one_action s w (delivered s w delivery) (Deliver delivery)
+    (ap (λ (o : Option ℕ). if is_none o then Some (delivered s w delivery) else None) between)
+
+pub pick_acts : (s : Setting) (w after : World) (number : ℕ) → after_action s w (Pick number) ≡ Some after → ActsTo s w after
+pick_acts s w after number e = one_action s w after (Pick number) e
+
+-- ---- silent steps
+
+quiet_step : (m : Move) (o : Option World) → quiet_world m ≡ o → (after : World) → o ≡ Some after → world_of m ≡ Some after
+quiet_step (Goes w) o e after f = e ∙ f
+quiet_step (Spawns number w) o e after f = e ∙ f
+quiet_step (Puts_word value w) o e after f = absurd (let no : None ≡ Some after = e ∙ f in cc)
+quiet_step (Blocks w) o e after f = absurd (let no : None ≡ Some after = e ∙ f in cc)
+quiet_step (Ends w) o e after f = absurd (let no : None ≡ Some after = e ∙ f in cc)
+quiet_step (Stops stop) o e after f = absurd (let no : None ≡ Some after = e ∙ f in cc)
+quiet_step Wrong o e after f = absurd (let no : None ≡ Some after = e ∙ f in cc)
+
+quiet_by : (s : Setting) (n : ℕ) (w at : World) → ((v : World) → after_quiet s n v ≡ Some at → ActsTo s v at) → (o : Option World) → quiet_world (step s w) ≡ o → and_then o (after_quiet s n) ≡ Some at → ActsTo s w at
+quiet_by s n w at rest None f e = absurd (let no : None ≡ Some at = e in cc)
+quiet_by s n w at rest (Some v) f e = acts_on s w v at (one_step s w v (quiet_step (step s w) (Some v) f v refl)) (rest v e)
+
+pub quiet_acts : (s : Setting) (n : ℕ) (w at : World) → after_quiet s n w ≡ Some at → ActsTo s w at
+quiet_acts s zero w at e = no_acts s w at (let same : Some w ≡ Some at = e in cc)
+quiet_acts s (suc n) w at e = quiet_by s n w at (λ v f. quiet_acts s n v at f) (quiet_world (step s w)) refl e
+
+-- ---- the way to the next entry
+
+told_way : (s : Setting) (from at : World) (n : ℕ) → after_quiet s n from ≡ Some at → (move : Move) (turn : Turn) (number : ℕ) (new : Held) → step s at ≡ move → Tells move turn number at new → IsOnWay s from new.machine
+told_way s from at n quiet (Puts_word value after) (Turn.Out told) number new e t = has_told n at quiet (ap world_of e ∙ ap Some (sym t.1))
+told_way s from at n quiet (Spawns started after) (Turn.Spawned thread) number new e t = has_told n at quiet (ap world_of e ∙ ap Some (sym t.2))
+told_way s from at n quiet (Spawns started after) Turn.Memory number new e t = has_run n (quiet ∙ ap Some (sym t.0))
+told_way s from at n quiet (Blocks after) (Turn.Blocked key cost) number new e t = has_told n at quiet (ap world_of e ∙ ap Some (sym t.2))
+told_way s from at n quiet (Ends after) (Turn.Ended cost) number new e t = has_told n at quiet (ap world_of e ∙ ap Some (sym t.1))
+told_way s from at n quiet (Stops stop) (Turn.Cut told cost) number new e t = has_run n (quiet ∙ ap Some (sym t.2))
+told_way s from at n quiet _ _ number new e t = absurd t
+
+-- ---- where the run stands
+
+module _ (g : Setup) (state : State) (k : Kept) (held : Held) (left : Option (List ℕ)) where
+  pub acts_between : StandsBetween g state k held left → ActsTo (setting_of g) state.machine held.machine
+  acts_between stands = subst (λ (w : World). ActsTo (setting_of g) state.machine w) (sym stands.between.machine_is)
+      (advance_acts (setting_of g) state.machine held.machine.clock stands.between.stands.between stands.between.later)
+
+  pub acts_within : (under : Under) → StandsWithin g state k held left under → ActsTo (setting_of g) state.machine held.machine
+  acts_within under stands = acts_on (setting_of g) state.machine stands.here held.machine
+      (quiet_acts (setting_of g) stands.within.steps state.machine stands.here stands.within.quiet)
+      (told_acts (setting_of g) stands.here (step (setting_of g) stands.here) under.turn stands.segment.thread held refl stands.tells)
+
+  acts_by : (under : Option Under) → StandsBy g state k held left under → ActsTo (setting_of g) state.machine held.machine
+  acts_by None stands = acts_between stands
+  acts_by (Some under) stands = acts_within under stands
+
+  pub way_between : StandsBetween g state k held left → IsOnWay (setting_of g) state.machine held.machine
+  way_between stands = has_waited stands.between.machine_is stands.between.later
+
+  pub way_within : (under : Under) → StandsWithin g state k held left under → IsOnWay (setting_of g) state.machine held.machine
+  way_within under stands = told_way (setting_of g) state.machine stands.here stands.within.steps stands.within.quiet (step (setting_of g) stands.here) under.turn stands.segment.thread held refl stands.tells
+
+  way_by : (under : Option Under) → StandsBy g state k held left under → IsOnWay (setting_of g) state.machine held.machine
+  way_by None stands = way_between stands
+  way_by (Some under) stands = way_within under stands
+
+  pub way_now : Stands g state k held left → IsOnWay (setting_of g) state.machine held.machine
+  way_now stands = way_by k.under stands
+
+  pub onward_between : StandsBetween g state k held left → ActsTo (setting_of g) state.machine held.machine × IsOnWay (setting_of g) state.machine held.machine
+  onward_between stands = (acts_between stands, way_between stands)
+
+  pub onward_within : (under : Under) → StandsWithin g state k held left under → ActsTo (setting_of g) state.machine held.machine × IsOnWay (setting_of g) state.machine held.machine
+  onward_within under stands = (acts_within under stands, way_within under stands)
+
+  pub acts_now : Stands g state k held left → ActsTo (setting_of g) state.machine held.machine
+  acts_now stands = acts_by k.under stands
+
+  of_by : (under : Option Under) → StandsBy g state k held left under → IsOf g held
+  of_by None stands = stands.of
+  of_by (Some under) stands = stands.of
+
+  pub of_now : Stands g state k held left → IsOf g held
+  of_now stands = of_by k.under stands
+
+  pub by_none : k.under ≡ None → StandsBetween g state k held left → Stands g state k held left
+  by_none e stands = by k.under e where
+    by : (under : Option Under) → under ≡ None → StandsBy g state k held left under
+    by None f = stands
+    by (Some u) f = absurd (cc)
+
+  pub by_some : (under : Under) → k.under ≡ Some under → StandsWithin g state k held left under → Stands g state k held left
+  by_some under e stands = subst (λ (o : Option Under). StandsBy g state k held left o) (sym e) stands
+
+  pub to_between : k.under ≡ None → Stands g state k held left → StandsBetween g state k held left
+  to_between e stands = subst (λ (o : Option Under). StandsBy g state k held left o) e stands
+
+  pub to_within : (under : Under) → k.under ≡ Some under → Stands g state k held left → StandsWithin g state k held left under
+  to_within under e stands = subst (λ (o : Option Under). StandsBy g state k held left o) e stands
+
+-- ---- what was written
+
+pub one_line : (entry : Entry) → log_text (entry ∷ []) ≡ entry_text entry ++ 10 ∷ []
+unfolding log_text
+one_line entry = append-nil (entry_text entry ++ 10 ∷ [])
+
+pub no_line : log_text [] ≡ []
+unfolding log_text
+no_line = refl
+
+keeps_all : (taken : Option (List ℕ)) → Appends taken taken []
+keeps_all None = tt
+keeps_all (Some bytes) = sym (append-nil bytes)
+
+-- nothing was written
+pub silent : (g : Setup) (state : State) (left : Option (List ℕ)) (k : Kept) (held : Held) (after taken : Option (List ℕ)) → (IsTold left → IsTold after) → Stands g state k held after → GoesTo g state left k held after taken taken
+silent g state left k held after taken told stands = record {
+  new = state;
+  entries = [];
+  told = told;
+  leads = λ t. nowhere;
+  acts = no_acts (setting_of g) state.machine state.machine refl;
+  stands = stands;
+  writes = subst (λ (l : List ℕ). Appends taken taken l) (sym no_line) (keeps_all taken);
+}
+
+pub no_part : (g : Setup) (state : State) (left : Option (List ℕ)) (held : Held) (taken : Option (List ℕ)) → IsOf g held → ActsTo (setting_of g) state.machine held.machine × IsOnWay (setting_of g) state.machine held.machine → FailsIn g state left held taken taken
+no_part g state left held taken of acts = record {
+  new = state;
+  entries = [];
+  leads = λ t. nowhere;
+  count = 0;
+  part = omega arith;
+  writes = keeps_all taken;
+  acts = acts.0;
+  way = acts.1;
+  of = of;
+}
+
+-- a line was written, whole or in part, by whether the write failed
+pub part_of : (g : Setup) (state new : State) (left : Option (List ℕ)) (k : Kept) (held : Held) (taken written : Option (List ℕ)) (entry : Entry) (result : Result (Unit {0}) Failure) → (IsTold left → IsAllowed g state entry new) →
+    ActsTo (setting_of g) state.machine new.machine → Stands g new k held left → Puts taken written (entry_text entry ++ 10 ∷ []) result → PartEnds g state left k held left taken written result
+part_of g state new left k held taken written entry (Ok v) allowed acts stands puts = record {
+  new = new;
+  entries = entry ∷ [];
+  told = λ told. told;
+  leads = λ told. by_entry (allowed told) nowhere;
+  acts = acts;
+  stands = stands;
+  writes = subst (λ (l : List ℕ). Appends taken written l) (sym (one_line entry)) puts;
+}
+part_of g state new left k held taken written entry (Err failure) allowed acts stands puts = record {
+  new = new;
+  entries = entry ∷ [];
+  leads = λ told. by_entry (allowed told) nowhere;
+  count = puts.0;
+  part = subst (λ (l : List ℕ). puts.0 ≤ length l) (sym (one_line entry)) puts.1;
+  writes = subst (λ (l : List ℕ). Appends taken written (take puts.0 l)) (sym (one_line entry)) puts.2;
+  acts = acts_on (setting_of g) state.machine new.machine held.machine acts (acts_now g new k held left stands);
+  way = way_now g new k held left stands;
+  of = of_now g new k held left stands;
+}

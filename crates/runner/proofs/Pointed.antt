@@ -1,0 +1,99 @@
+-- A choice point that goes on: what its parts are given.
+use Rattle.std.proofs.Common.{◌≡◌, ℕ, ◌+◌, ◌-◌, ◌*◌, ◌<◌, ◌≤◌, Bool, true, false, List, Option, Some, None, Ok, refl, sym, ap, ◌∙◌, subst, arith, if◌then◌else◌}
+use Rattle.std.specs.Prelude.{nat_le}
+use Rattle.std.proofs.lemmas.Bool.Decides.{nat_tests}
+use Rattle.event_trace.specs.Lines.{FitsEvent, FitsKind}
+use Rattle.event_trace.specs.declared.events.Event.{Event}
+use Rattle.event_trace.specs.declared.events.EventKind.{EventKind}
+use Rattle.lawful_log.specs.Clock.{is_due}
+use Rattle.lawful_log.specs.Setup.{Setup}
+use Rattle.lawful_log.specs.State.{State}
+use Rattle.c_mean.specs.ModelledCalls.{Exchange, is_dropped, with_delivery}
+use Rattle.machine_world.specs.Threads.{World}
+use Rattle.runner.specs.Answers.{KeepsRun}
+use Rattle.runner.specs.declared.ends.Halt.{Halt}
+use Rattle.runner.specs.declared.looking.Next.{Next}
+use Rattle.runner.specs.Kept.{Kept, known}
+use Rattle.runner.specs.Ranks.{long_rank, lines_rank, next_rank, under_rank}
+use Rattle.runner.specs.Stands.{FitsNext, IsAtPoint}
+use Rattle.runner.specs.Steps.{HaltsAt, StepEnds}
+use Rattle.runner.specs.Waits.{WaitEnds}
+use Rattle.thread_core.specs.Making as making
+use Rattle.thread_core.specs.Making.{IsEventInRange, after_event}
+use Rattle.thread_core.specs.Worlds.{Held}
+use Rattle.runner.proofs.Parts.{acts_between, way_between, by_none, silent}
+
+known_event : (n : Next) (event : Event) → known n ≡ Some (Some event) → n ≡ Next.Event event
+known_event Next.Unread event e = absurd (cc)
+known_event (Next.Event other) event e = let same : other ≡ event = cc in ap Next.Event same
+known_event Next.Over event e = absurd (cc)
+
+range_by : (kind : EventKind) → FitsKind kind → IsEventInRange kind
+range_by (EventKind.Arrive value) fits = tt
+range_by (EventKind.Message channel value) fits = let most = fits.0 in omega (arith, most)
+
+due_by : (event : Event) (clock : ℕ) → (event.time ≤ clock → ⊥) → nat_le event.time clock ≡ false
+due_by event clock none = by (nat_le event.time clock) refl where
+  by : (b : Bool) → nat_le event.time clock ≡ b → nat_le event.time clock ≡ false
+  by false e = e
+  by true e = absurd (none (grind (arith, nat_tests, e)))
+
+module _ (g : Setup) (state : State) (k : Kept) (held : Held) (left : Option (List ℕ)) (next : Option Event) (at : IsAtPoint g state k held left next) where
+  pub resting : held.machine.running ≡ None
+  resting = ap (λ (w : World). w.running) at.stands.between.machine_is ∙ at.stands.between.stands.between
+
+  pub next_event : (event : Event) → next ≡ Some event → k.next ≡ Next.Event event
+  next_event event e = known_event k.next event (at.known_is ∙ ap Some e)
+
+  pub in_range : (event : Event) → next ≡ Some event → IsEventInRange event.kind
+  in_range event e = range_by event.kind (let fits : FitsEvent event = subst FitsNext (next_event event e) at.stands.read.fits in fits.kind)
+
+  pub not_due_none : next ≡ None → is_due next held.machine.clock ≡ false
+  not_due_none e = ap (λ (o : Option Event). is_due o held.machine.clock) e
+
+  pub not_due_event : (event : Event) → next ≡ Some event → (event.time ≤ held.machine.clock → ⊥) → is_due next held.machine.clock ≡ false
+  not_due_event event e none = ap (λ (o : Option Event). is_due o held.machine.clock) e ∙ due_by event held.machine.clock none
+
+  -- the clock has moved, or the run is idle
+  pub waited : (new : Held) (result : Option Halt) (taken : Option (List ℕ)) → WaitEnds g state k held new left result → StepEnds g state left k new left taken taken (Ok result)
+  waited new None taken is = silent g state left k new left taken (λ told. told) (by_none g state k new left at.between is.stands)
+  waited new (Some halt) taken is = subst (λ (h : Held). HaltsAt g state left k h halt taken taken) (sym is.same) (subst (λ (stop : Halt). HaltsAt g state left k held stop taken taken) (sym is.halt_is) idle) where
+    idle : HaltsAt g state left k held Halt.Idle taken taken
+    idle = record {
+      of = at.stands.of;
+      stops = is.idle;
+      graph = at.stands.past.graph_is;
+      acts = acts_between g state k held left at.stands;
+      way = way_between g state k held left at.stands;
+      writes = refl;
+    }
+
+-- ---- a delivery
+
+cost_by : (b : Bool) (w : World) (x : Exchange) → (if b then w else record w { exchange = x }).cost ≡ w.cost
+cost_by true w x = refl
+cost_by false w x = refl
+
+count_by : (b : Bool) (w : World) (x : Exchange) → (if b then w else record w { exchange = x }).areas.pool.count ≡ w.areas.pool.count
+count_by true w x = refl
+count_by false w x = refl
+
+module _ (held new : Held) (kind : EventKind) (is : new ≡ after_event held kind) where
+  abbrev drops : Bool
+  drops = is_dropped held.setting.backlog held.machine.exchange (making.delivery_of kind)
+
+  cost_same : new.machine.cost ≡ held.machine.cost
+  cost_same = ap (λ (h : Held). h.machine.cost) is ∙ cost_by drops held.machine (with_delivery held.machine.exchange (making.delivery_of kind))
+
+  pub keeps_event : KeepsRun held new
+  keeps_event = record {
+    accepted = ap (λ (h : Held). h.accepted) is;
+    setting = ap (λ (h : Held). h.setting) is;
+    chunks = ap (λ (h : Held). h.machine.areas.pool.count) is ∙ count_by drops held.machine (with_delivery held.machine.exchange (making.delivery_of kind));
+  }
+
+  pub long_event : (k : Kept) → long_rank (record k { next = Next.Unread }) new ≡ long_rank k held
+  long_event k = ap (λ (n : ℕ). 3 * (new.setting.fuel - n) + under_rank k.under) cost_same ∙ ap (λ (h : Held). 3 * (h.setting.fuel - held.machine.cost) + under_rank k.under) is
+
+pub lines_event : (k : Kept) (event : Event) → k.next ≡ Next.Event event → lines_rank (record k { next = Next.Unread }) < lines_rank k
+lines_event k event e = let two : next_rank k.next ≡ 2 = ap next_rank e in omega (arith, two)

@@ -1,0 +1,201 @@
+-- What is told within a segment: a value, a thread that started, and a cut.
+use Rattle.std.proofs.Common.{◌≡◌, ◌≢◌, ℕ, ◌+◌, ◌-◌, ◌≤◌, List, [], ◌∷◌, ◌++◌, Option, None, Bool, cond, ⊎_elim, refl, sym, ap, ◌∙◌, subst, append-nil}
+use Rattle.std.specs.Prelude.{length}
+use Rattle.std.proofs.lemmas.Bool.{cases_eq, eq-eqb, ne_eqb}
+use Rattle.cap_word.specs.Word.{signed}
+use Rattle.cap_word.specs.declared.stops.Stop.{Stop}
+use Rattle.cap_word.specs.declared.threads.ThreadId.{ThreadId}
+use Rattle.lawful_log.specs.Good.{checked_of}
+use Rattle.lawful_log.specs.Segments.{IsOut, IsCut}
+use Rattle.lawful_log.specs.Setup.{Setup, setting_of}
+use Rattle.lawful_log.specs.State.{Waiter, State}
+use Rattle.lawful_log.specs.Stops.{IsStopped, IsCutBy}
+use Rattle.lawful_steps.specs.Waiting.{IsPlaced, IsQueue, AreQueued, at_node}
+use Rattle.lawful_steps.specs.Within.{IsWithin}
+use Rattle.lawful_steps.proofs.Entries.{stops_here}
+use Rattle.lawful_steps.proofs.Queues.{at_node-append, queue_append}
+use Rattle.lawful_steps.proofs.Within.{within_spawns, put_segment, put_state, out_allowed, within_puts}
+use Rattle.machine_world.specs.Threads.{World, Move, Goes, Puts, Spawns, Blocks, Ends, Stops, Wrong, step}
+use Rattle.scheduler.specs.State.{SchedulerState, queue_of, IsJoined}
+use Rattle.thread_core.specs.Turns.{Tells}
+use Rattle.thread_core.specs.Worlds.{Held, IsThread, segment_cost}
+use Rattle.thread_core.specs.declared.turns.Turn.{Turn}
+use Rattle.world_source.specs.Reached.{IsReached, StepReaches}
+use Rattle.runner.specs.declared.course.Under.{Under}
+use Rattle.runner.specs.Kept.{Kept}
+use Rattle.runner.specs.Stands.{StandsInside, StandsWithin, StepsAsSource}
+
+-- ---- which step a turn tells
+
+pub record TellsPut (move : Move) (value : ℕ) (new : Held) : Type 0 where
+  pub after : World
+  pub step_is : move ≡ Puts value after
+  pub machine : new.machine ≡ after
+  pub going : new.stopped ≡ None
+
+pub tells_put : (move : Move) (value number : ℕ) (at : World) (new : Held) → Tells move (Turn.Out value) number at new → TellsPut move value new
+tells_put (Puts word after) value number at new t = record { after = after; step_is = ap (λ (v : ℕ). Puts v after) (sym t.0); machine = t.1; going = t.2 }
+tells_put (Goes after) value number at new t = absurd t
+tells_put (Spawns started after) value number at new t = absurd t
+tells_put (Blocks after) value number at new t = absurd t
+tells_put (Ends after) value number at new t = absurd t
+tells_put (Stops stop) value number at new t = absurd t
+tells_put Wrong value number at new t = absurd t
+
+record TellsSpawn (move : Move) (thread : ThreadId) (new : Held) : Type 0 where
+  pub after : World
+  pub step_is : move ≡ Spawns thread.number after
+  pub machine : new.machine ≡ after
+  placed : IsThread new thread
+  pub going : new.stopped ≡ None
+
+tells_spawn : (move : Move) (thread : ThreadId) (number : ℕ) (at : World) (new : Held) → Tells move (Turn.Spawned thread) number at new → TellsSpawn move thread new
+tells_spawn (Spawns started after) thread number at new t =
+    record { after = after; step_is = ap (λ (n : ℕ). Spawns n after) (sym t.0); machine = t.2; placed = t.1; going = t.3 }
+tells_spawn (Puts word after) thread number at new t = absurd t
+tells_spawn (Goes after) thread number at new t = absurd t
+tells_spawn (Blocks after) thread number at new t = absurd t
+tells_spawn (Ends after) thread number at new t = absurd t
+tells_spawn (Stops stop) thread number at new t = absurd t
+tells_spawn Wrong thread number at new t = absurd t
+
+record TellsCut (move : Move) (stop : Stop) (cost : ℕ) (at : World) (new : Held) : Type 0 where
+  pub step_is : move ≡ Stops stop
+  cost_is : cost ≡ segment_cost new
+  pub machine : new.machine ≡ at
+
+tells_cut : (move : Move) (stop : Stop) (cost number : ℕ) (at : World) (new : Held) → Tells move (Turn.Cut stop cost) number at new → TellsCut move stop cost at new
+tells_cut (Stops told) stop cost number at new t = record { step_is = ap (λ (s : Stop). Stops s) (sym t.0); cost_is = t.1; machine = t.2 }
+tells_cut (Puts word after) stop cost number at new t = absurd t
+tells_cut (Goes after) stop cost number at new t = absurd t
+tells_cut (Spawns started after) stop cost number at new t = absurd t
+tells_cut (Blocks after) stop cost number at new t = absurd t
+tells_cut (Ends after) stop cost number at new t = absurd t
+tells_cut Wrong stop cost number at new t = absurd t
+
+-- ---- a thread joins node 0
+
+at_own : (x : Waiter) (node : ℕ) → x.node ≡ node → at_node (x ∷ []) node ≡ x ∷ []
+at_own x node e = ap (λ (b : Bool). cond b (x ∷ []) []) (eq-eqb x.node node e)
+
+at_other : (x : Waiter) (node : ℕ) → x.node ≢ node → at_node (x ∷ []) node ≡ []
+at_other x node apart = ap (λ (b : Bool). cond b (x ∷ []) []) (ne_eqb x.node node apart)
+
+pub queued_more : (places : List (Option ℕ)) (old new : SchedulerState) (node : ℕ) (thread : ThreadId) (waiting : List Waiter) (since : ℕ) → IsPlaced places thread → IsJoined old new node thread → AreQueued places old waiting →
+    AreQueued places new (waiting ++ record { thread = thread.number; node = node; since = since } ∷ [])
+queued_more places old new node thread waiting since placed joined queued = record {
+  queue = λ other.
+      let x : Waiter = record { thread = thread.number; node = node; since = since } in
+      ⊎_elim
+      (λ (same : node ≡ other).
+      let one : IsQueue places (queue_of old node ++ thread ∷ []) (at_node waiting node ++ x ∷ []) =
+      queue_append places (queue_of old node) (thread ∷ []) (at_node waiting node) (x ∷ []) (queued.queue node) (refl, (placed, tt)) in
+      let here : IsQueue places (queue_of new node) (at_node (waiting ++ x ∷ []) node) =
+      subst (λ (l : List Waiter). IsQueue places (queue_of new node) l)
+      (sym (at_node-append waiting (x ∷ []) node ∙ ap (λ (l : List Waiter). at_node waiting node ++ l) (at_own x node refl)))
+      (subst (λ (l : List ThreadId). IsQueue places l (at_node waiting node ++ x ∷ [])) (sym joined.queue) one) in
+      subst (λ (n : ℕ). IsQueue places (queue_of new n) (at_node (waiting ++ x ∷ []) n)) same here)
+      (λ apart.
+      subst (λ (l : List Waiter). IsQueue places (queue_of new other) l)
+      (sym (at_node-append waiting (x ∷ []) other ∙ ap (λ (l : List Waiter). at_node waiting other ++ l) (at_other x other apart) ∙ append-nil (at_node waiting other)))
+      (subst (λ (l : List ThreadId). IsQueue places l (at_node waiting other)) (sym (joined.others other (λ e. apart (sym e)))) (queued.queue other)))
+      (cases_eq node other);
+}
+
+module _ (g : Setup) (state : State) (k : Kept) (held : Held) (left : Option (List ℕ)) (under : Under) (stands : StandsWithin g state k held left under) (law : StepsAsSource g state stands.segment.thread) where
+  -- ---- a value
+
+  module _ (value : ℕ) (turn_is : under.turn ≡ Turn.Out value) where
+    pub put_told : TellsPut (step (setting_of g) stands.here) value held
+    put_told = tells_put (step (setting_of g) stands.here) value stands.segment.thread stands.here held
+        (subst (λ (t : Turn). Tells (step (setting_of g) stands.here) t stands.segment.thread stands.here held) turn_is stands.tells)
+
+    abbrev pub out_state : State
+    out_state = put_state g state stands.segment held.begun stands.here stands.waiting stands.within value put_told.after
+
+    pub out_is : IsOut g state under.choice.thread.number (signed value) out_state
+    out_is = subst (λ (n : ℕ). IsOut g state n (signed value) out_state) (sym stands.thread_is)
+        (out_allowed g state stands.segment held.begun stands.here stands.waiting stands.within value put_told.after put_told.step_is)
+
+    pub out_inside : StandsInside g out_state k held left under.choice under.before
+    out_inside = record {
+      of = stands.of;
+      going = put_told.going;
+      segment = put_segment g state stands.segment held.begun stands.here stands.waiting stands.within value;
+      waiting = stands.waiting;
+      within = subst (λ (w : World). IsWithin g out_state (put_segment g state stands.segment held.begun stands.here stands.waiting stands.within value) held.begun w stands.waiting) (sym put_told.machine)
+          (within_puts g state stands.segment held.begun stands.here stands.waiting stands.within value put_told.after put_told.step_is);
+      reached = subst (λ (w : World). IsReached (checked_of g) g.program (setting_of g) state.source stands.segment.thread (stands.segment.puts ++ value ∷ []) w) (sym put_told.machine)
+          (subst (StepReaches (checked_of g) g.program (setting_of g) state.source stands.segment.thread stands.segment.puts) put_told.step_is (law stands.segment.puts stands.here stands.within.formed stands.reached));
+      thread_is = stands.thread_is;
+      node_is = stands.node_is;
+      before_is = stands.before_is;
+      within_caps = stands.within_caps;
+      placed = stands.placed;
+      queued = stands.queued;
+      past = stands.past;
+      gate = stands.gate;
+      read = stands.read;
+    }
+
+  -- ---- a thread that started
+
+  module _ (thread : ThreadId) (turn_is : under.turn ≡ Turn.Spawned thread) (scheduler : SchedulerState) (joined : IsJoined k.scheduler scheduler 0 thread) where
+    spawn_told : TellsSpawn (step (setting_of g) stands.here) thread held
+    spawn_told = tells_spawn (step (setting_of g) stands.here) thread stands.segment.thread stands.here held
+        (subst (λ (t : Turn). Tells (step (setting_of g) stands.here) t stands.segment.thread stands.here held) turn_is stands.tells)
+
+    pub spawn_inside : StandsInside g state (record k { scheduler = scheduler }) held left under.choice under.before
+    spawn_inside = record {
+      of = stands.of;
+      going = spawn_told.going;
+      segment = stands.segment;
+      waiting = stands.waiting ++ record { thread = thread.number; node = 0; since = 0 } ∷ [];
+      within = subst (λ (w : World). IsWithin g state stands.segment held.begun w (stands.waiting ++ record { thread = thread.number; node = 0; since = 0 } ∷ [])) (sym spawn_told.machine)
+          (within_spawns g state stands.segment held.begun stands.here stands.waiting stands.within thread.number spawn_told.after spawn_told.step_is);
+      reached = subst (λ (w : World). IsReached (checked_of g) g.program (setting_of g) state.source stands.segment.thread stands.segment.puts w) (sym spawn_told.machine)
+          (subst (StepReaches (checked_of g) g.program (setting_of g) state.source stands.segment.thread stands.segment.puts) spawn_told.step_is (law stands.segment.puts stands.here stands.within.formed stands.reached));
+      thread_is = stands.thread_is;
+      node_is = stands.node_is;
+      before_is = stands.before_is;
+      within_caps = stands.within_caps;
+      placed = stands.placed;
+      queued = queued_more held.places k.scheduler scheduler 0 thread stands.waiting 0 spawn_told.placed joined stands.queued;
+      past = record {
+        lasts = λ node. joined.lasts node ∙ stands.past.lasts node;
+        graph_is = stands.past.graph_is;
+        monitor_is = stands.past.monitor_is;
+        taken = joined.noted ∙ stands.past.taken;
+        noted = subst (λ (n : ℕ). n ≤ held.begun + 1) (sym joined.noted) stands.past.noted;
+        records = stands.past.records;
+        keys = stands.past.keys;
+      };
+      gate = stands.gate;
+      read = stands.read;
+    }
+
+  -- ---- a cut
+
+  module _ (stop : Stop) (cost : ℕ) (turn_is : under.turn ≡ Turn.Cut stop cost) where
+    cut_told : TellsCut (step (setting_of g) stands.here) stop cost stands.here held
+    cut_told = tells_cut (step (setting_of g) stands.here) stop cost stands.segment.thread stands.here held
+        (subst (λ (t : Turn). Tells (step (setting_of g) stands.here) t stands.segment.thread stands.here held) turn_is stands.tells)
+
+    cut_here : IsCut g state stands.segment
+    cut_here = record { reached = stands.reached.cut; cut = stands.reached.is_cut; puts = stands.reached.cut_outputs }
+
+    cut_by : (s : Stop) → StepReaches (checked_of g) g.program (setting_of g) state.source stands.segment.thread stands.segment.puts (Stops s) → IsCutBy g state stands.segment s
+    cut_by (Stop.Trap kind) r = (r.0, record { runs = r.1.runs; puts = r.1.outputs })
+    cut_by Stop.NoChunk r = cut_here
+    cut_by Stop.Fuel r = cut_here
+    cut_by Stop.Threads r = cut_here
+
+    pub cut_is : IsStopped g state under.choice.thread.number stop cost (length held.machine.areas.pool.free) held.machine
+    cut_is =
+        let puts = cut_by stop (subst (StepReaches (checked_of g) g.program (setting_of g) state.source stands.segment.thread stands.segment.puts) cut_told.step_is (law stands.segment.puts stands.here stands.within.formed stands.reached)) in
+        let there : IsStopped g state stands.segment.thread stop (stands.here.cost - held.begun) (length stands.here.areas.pool.free) stands.here =
+        stops_here g state stands.segment held.begun stands.here stands.waiting stop stands.within cut_told.step_is puts in
+        let now : IsStopped g state stands.segment.thread stop (held.machine.cost - held.begun) (length held.machine.areas.pool.free) held.machine =
+        subst (λ (w : World). IsStopped g state stands.segment.thread stop (w.cost - held.begun) (length w.areas.pool.free) w) (sym cut_told.machine) there in
+        subst (λ (n : ℕ). IsStopped g state n stop cost (length held.machine.areas.pool.free) held.machine) (sym stands.thread_is)
+        (subst (λ (n : ℕ). IsStopped g state stands.segment.thread stop n (length held.machine.areas.pool.free) held.machine) (sym cut_told.cost_is) now)

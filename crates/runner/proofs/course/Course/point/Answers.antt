@@ -1,0 +1,96 @@
+use Rattle.std.proofs.Common.{◌≡◌, ◌∙◌, List, None, Option, Err, length, refl, sym, ap, subst}
+use Rattle.std.proofs.lemmas.List.{nil_from_length}
+use Rattle.std.proofs.lemmas.Result.{err_from_is_err_and}
+use Rattle.machine_world.specs.Threads.{Thread}
+use Rattle.runner.specs.declared.ends.Failure.{Failure}
+use Rattle.runner.specs.declared.ends.Halt.{Halt}
+use Rattle.runner.specs.Counts.{CountsStep}
+use Rattle.runner.specs.Kept.{Kept}
+use Rattle.runner.specs.Ranks.{rank, FallsTo}
+use Rattle.runner.specs.Steps.{StepEnds}
+use Rattle.runner.proofs.LookedOn.{forget, unrefused, done_halts, refused_halts, read_fails, at_point, from_before, look_failed, part_counts, look_falls, falls_from}
+use Rattle.runner.proofs.Parts.{to_between}
+use Rattle.runner.proofs.Stepping.{keeps_same}
+use Rattle.runner.proofs.course.Course.point.Goals as goal
+
+pub returns-then-live-eq0-clause-ends : goal.returns-then-live-eq0-clause-ends
+returns-then-live-eq0-clause-ends g c = λ s state left knows stands.
+    (left, knows, done_halts s state c.args.self.now c.args.world.now left stands (g.K.Sink.taken c.args.out.now) (nil_from_length c.args.world.now.machine.threads (sym c.live.ensures ∙ c.if-live-eq0.true)))
+
+pub returns-then-live-eq0-clause-counts : goal.returns-then-live-eq0-clause-counts
+returns-then-live-eq0-clause-counts g c = (refl, refl)
+
+pub returns-then-live-eq0-clause-keeps : goal.returns-then-live-eq0-clause-keeps
+returns-then-live-eq0-clause-keeps g c = keeps_same c.args.world.now
+
+pub look-requires : goal.look-requires
+look-requires g c = record { unrefused = unrefused c.args.self.now c.args.world.now c.requires.between c.requires.stands }
+
+pub returns-in_err-line-clause-ends : goal.returns-in_err-line-clause-ends
+returns-in_err-line-clause-ends g c = λ s state left knows stands.
+    let p = err_from_is_err_and c.from_residual.result c.from_residual.ensures.1 in
+    (None, tt, subst (λ r. StepEnds s state left c.look.new.self c.args.world.now None (g.K.Sink.taken c.args.out.now) (g.K.Sink.taken c.args.out.now) r) (sym p.1) (read_fails s state c.args.self.now c.args.world.now left stands (g.K.Sink.taken c.args.out.now)))
+
+pub returns-in_err-line-clause-counts : goal.returns-in_err-line-clause-counts
+returns-in_err-line-clause-counts g c =
+    let p = err_from_is_err_and c.from_residual.result c.from_residual.ensures.1 in
+    let same : p.0 ≡ c.in_err-line.field-0.0 = p.2 in
+    subst (λ r. CountsStep r (g.S.Source.faults c.args.trace.now) (g.S.Source.faults c.look.new.trace) (g.K.Sink.faults c.args.out.now) (g.K.Sink.faults c.args.out.now)) (sym p.1)
+    (subst (λ (f : Failure). CountsStep {V = Option Halt} (Err f) (g.S.Source.faults c.args.trace.now) (g.S.Source.faults c.look.new.trace) (g.K.Sink.faults c.args.out.now) (g.K.Sink.faults c.args.out.now)) (sym same)
+    (look_failed c.in_err-line.field-0.0 (g.S.Source.faults c.args.trace.now) (g.S.Source.faults c.look.new.trace) (g.K.Sink.faults c.args.out.now) c.in_err-line.ensures.counts))
+
+pub returns-in_err-line-clause-falls : goal.returns-in_err-line-clause-falls
+returns-in_err-line-clause-falls g c =
+    let p = err_from_is_err_and c.from_residual.result c.from_residual.ensures.1 in
+    subst (λ r. FallsTo (rank c.args.self.now c.args.world.now) r (rank c.look.new.self c.args.world.now)) (sym p.1) tt
+
+pub returns-in_err-line-clause-keeps : goal.returns-in_err-line-clause-keeps
+returns-in_err-line-clause-keeps g c = keeps_same c.args.world.now
+
+pub go_on-requires : goal.go_on-requires
+go_on-requires g c =
+    let p = c.requires.stands in
+    let stands = forget p.0 p.1 c.args.self.now c.args.world.now p.2 (to_between p.0 p.1 c.args.self.now c.args.world.now p.2 c.requires.between p.3) in
+    let sees = rw c.in-Comes.is at (c.in_ok-line.ensures.looks p.0 p.1 c.args.world.now None tt stands) in (
+      p.0,
+      p.1,
+      sees.left,
+      at_point p.0 p.1 None c.look.new.self c.args.world.now _ _ sees (ap (λ (k : Kept). k.under) c.look.ensures.rest ∙ c.requires.between) (λ e. c.if-live-eq0.false (c.live.ensures ∙ ap (λ (l : List Thread). length l) e)),
+    )
+
+pub returns-in-Refused-clause-ends : goal.returns-in-Refused-clause-ends
+returns-in-Refused-clause-ends g c = λ s state left knows stands.
+    let refuses = rw c.in-Refused.is at (c.in_ok-line.ensures.looks s state c.args.world.now left knows stands) in (
+      None,
+      tt,
+      refused_halts s state c.args.self.now c.args.world.now left stands c.look.new.self _ (g.K.Sink.taken c.args.out.now) (ap (λ (k : Kept). k.graph) c.look.ensures.rest)
+          (λ e. c.if-live-eq0.false (c.live.ensures ∙ ap (λ (l : List Thread). length l) e)) refuses,
+    )
+
+pub returns-in-Refused-clause-counts : goal.returns-in-Refused-clause-counts
+returns-in-Refused-clause-counts g c = (c.in_ok-line.ensures.counts, refl)
+
+pub returns-in-Refused-clause-keeps : goal.returns-in-Refused-clause-keeps
+returns-in-Refused-clause-keeps g c = keeps_same c.args.world.now
+
+pub returns-in-Comes-clause-ends : goal.returns-in-Comes-clause-ends
+returns-in-Comes-clause-ends g c = λ s state left knows stands.
+    let sees = rw c.in-Comes.is at (c.in_ok-line.ensures.looks s state c.args.world.now left knows stands) in
+    let at = at_point s state left c.look.new.self c.args.world.now _ _ sees (ap (λ (k : Kept). k.under) c.look.ensures.rest ∙ c.requires.between) (λ e. c.if-live-eq0.false (c.live.ensures ∙ ap (λ (l : List Thread). length l) e)) in (
+      sees.left,
+      sees.knows,
+      from_before s state left sees.left c.go_on.new.self c.go_on.new.world sees.left (g.K.Sink.taken c.args.out.now) (g.K.Sink.taken c.go_on.new.out) c.go_on.result sees.still_told (c.go_on.ensures.ends s state sees.left at),
+    )
+
+pub returns-in-Comes-clause-counts : goal.returns-in-Comes-clause-counts
+returns-in-Comes-clause-counts g c =
+    part_counts c.go_on.result (g.S.Source.faults c.args.trace.now) (g.S.Source.faults c.look.new.trace) (g.K.Sink.faults c.args.out.now) (g.K.Sink.faults c.go_on.new.out) c.in_ok-line.ensures.counts c.go_on.ensures.counts
+
+pub returns-in-Comes-clause-falls : goal.returns-in-Comes-clause-falls
+returns-in-Comes-clause-falls g c =
+    let near = rw c.in-Comes.is at c.in_ok-line.ensures.nears in
+    falls_from (rank c.args.self.now c.args.world.now) (rank c.look.new.self c.args.world.now) (rank c.go_on.new.self c.go_on.new.world) c.go_on.result
+    (look_falls c.args.self.now c.look.new.self c.args.world.now c.in-Comes.event (ap (λ (k : Kept). k.under) c.look.ensures.rest) near) c.go_on.ensures.falls
+
+pub returns-in-Comes-clause-keeps : goal.returns-in-Comes-clause-keeps
+returns-in-Comes-clause-keeps g c = c.go_on.ensures.keeps

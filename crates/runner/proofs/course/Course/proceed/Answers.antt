@@ -1,0 +1,22 @@
+use Rattle.std.proofs.Common.{sym, subst}
+use Rattle.runner.specs.Kept.{Kept}
+use Rattle.runner.specs.Stands.{StandsInside}
+use Rattle.runner.proofs.Acting.{turn_acts}
+use Rattle.runner.specs.Ranks.{under_rank}
+use Rattle.runner.proofs.Proceeding.{proceeded, proceeded_falls}
+use Rattle.runner.proofs.course.Course.proceed.Goals as goal
+
+pub returns-clause-goes_on : goal.returns-clause-goes_on
+returns-clause-goes_on g c = λ s state left inside.
+    let is = subst (λ (k : Kept). StandsInside s state k c.args.world.now left c.args.under.choice c.args.under.before) (sym c.self.view_is) inside in
+    proceeded s state _ c.args.world.now c.proceed-turn.new.self left c.args.under.choice c.args.under.before c.proceed-turn.result is c.proceed-turn.ensures.setting c.proceed-turn.ensures.places (c.proceed-turn.ensures.proceeds inside.going)
+
+pub returns-clause-acts : goal.returns-clause-acts
+returns-clause-acts g c = λ going.
+    let did = c.proceed-turn.ensures.proceeds going in
+    turn_acts c.args.world.now did.number c.args.world.now.machine c.proceed-turn.result c.proceed-turn.new.self did.made
+
+pub returns-clause-falls : goal.returns-clause-falls
+returns-clause-falls g c = λ s state left inside some.
+    proceeded_falls s state c.args.self.now c.args.world.now c.proceed-turn.new.self left c.args.under.choice c.args.under.before c.proceed-turn.result (under_rank c.args.self.now.under) inside c.proceed-turn.ensures.setting c.proceed-turn.ensures.places
+    (c.proceed-turn.ensures.proceeds inside.going) some

@@ -1,0 +1,90 @@
+-- What a run is given, and what it answers.
+use Rattle.std.specs.Prelude.{ℕ, ◌≡◌, ◌≤◌, IsTrue, List, length, take, Option, IfSome, Some}
+use Rattle.std.specs.Io.KnownBytes.{Appends}
+use Rattle.cap_io.specs.Faults.{Rose}
+use Rattle.cap_word.specs.declared.stops.Stop.TheVariants as cut
+use Rattle.cap_word.specs.declared.threads.ThreadId.{ThreadId}
+use Rattle.certificate_check.specs.Accepting.{accepted_tree}
+use Rattle.lawful_log.specs.Good.{IsGoodLog}
+use Rattle.lawful_log.specs.Lawful.{IsLawfulLog}
+use Rattle.lawful_log.specs.Setup.{Setup, setting_of, start_machine}
+use Rattle.machine_world.specs.Runs.{Action, after_actions}
+use Rattle.machine_world.specs.Threads.{World}
+use Rattle.resource_monitor.specs.Monitor.{MonitorState}
+use Rattle.lawful_steps.specs.Beside.{IsMonitorOf}
+use Rattle.schedule_log.specs.EntryText.{log_text}
+use Rattle.schedule_log.specs.declared.entries.Entry.{Entry}
+use Rattle.schedule_log.specs.declared.entries.StopLine.{StopLine}
+use Rattle.thread_core.specs.Making.{IsPolicy, IsStart}
+use Rattle.thread_core.specs.Worlds.{Held}
+use Rattle.thread_core.specs.declared.policy.WorldPolicy.{WorldPolicy}
+use Rattle.runner.specs.Ways.{IsOnRun}
+use Rattle.runner.specs.declared.ends.RunEnd.{RunEnd}
+use Rattle.runner.specs.declared.ends.RunEnd.TheVariants as end
+
+abbrev pub world_policy : Setup → WorldPolicy
+world_policy g = record { chunks = g.policy.chunks; backlog = g.policy.backlog; caps = g.policy.caps }
+
+-- the world was just made from the program, image and certificate under the policy, and the monitor is that of the policy,
+-- with its gate open
+pub record IsAtStart (g : Setup) (held : Held) (monitor : MonitorState) : Type 0 where
+  pub program : accepted_tree held.accepted ≡ g.program
+  pub image : held.accepted.image ≡ g.image
+  pub certificate : held.accepted.certificate ≡ g.certificate
+  pub ranges : IsPolicy held.accepted (world_policy g) g.policy.fuel
+  pub made : IsStart held.accepted (world_policy g) g.policy.fuel held
+  pub monitor_is : IsMonitorOf g monitor
+  pub gate : IsTrue monitor.is_open
+
+-- how a run ended that came to this stop
+abbrev pub IsEndAt : StopLine → RunEnd → Type 0
+IsEndAt StopLine.Done answer = answer ≡ end.Done
+IsEndAt StopLine.Idle answer = answer ≡ end.Idle
+IsEndAt (StopLine.Trace line) answer = answer ≡ end.BadTrace line
+IsEndAt (StopLine.Cut number (cut.Trap kind) cost free) answer = (thread : ThreadId) × (thread.number ≡ number) × (answer ≡ end.Trap thread kind)
+IsEndAt (StopLine.Cut number cut.NoChunk cost free) answer = (thread : ThreadId) × (thread.number ≡ number) × (answer ≡ end.NoChunk thread)
+IsEndAt (StopLine.Cut number cut.Fuel cost free) answer = (thread : ThreadId) × (thread.number ≡ number) × (answer ≡ end.Fuel thread)
+IsEndAt (StopLine.Cut number cut.Threads cost free) answer = (thread : ThreadId) × (thread.number ≡ number) × (answer ≡ end.Threads thread)
+
+-- a run that came to its stop: the whole of its log was written, the log is good, and the world is as it was at the stop
+pub record CameTo (g : Setup) (after : Held) (left taken taken' : Option (List ℕ)) (answer : RunEnd) : Type 0 where
+  pub entries : List Entry
+  pub stop : StopLine
+  pub lawful : IfSome left (λ bytes. IsLawfulLog g bytes entries stop after.machine)
+  pub good : IfSome left (λ bytes. IsGoodLog g entries)
+  pub end_is : IsEndAt stop answer
+  pub writes : Appends taken taken' (log_text entries)
+
+-- a run that could not go on: a beginning of its log was written, the whole of which is good, and the world is on that log's
+-- run; some actions lead from its start to it
+pub record FellShort (g : Setup) (after : Held) (left taken taken' : Option (List ℕ)) : Type 0 where
+  pub entries : List Entry
+  pub stop : StopLine
+  pub end : World
+  pub lawful : IfSome left (λ bytes. IsLawfulLog g bytes entries stop end)
+  pub good : IfSome left (λ bytes. IsGoodLog g entries)
+  pub count : ℕ
+  pub part : count ≤ length (log_text entries)
+  pub writes : Appends taken taken' (take count (log_text entries))
+  pub start : World
+  pub starts : start_machine g ≡ Some start
+  pub actions : List Action
+  pub machine : after_actions (setting_of g) actions start ≡ Some after.machine
+  pub on_run : IfSome left (λ bytes. IsOnRun g bytes start entries after.machine)
+
+-- a count rose, or stands at its end
+pub record HasRisen (old new : ℕ) : Type 0 where
+  pub rose : Rose old new
+  pub never_falls : old ≤ new
+
+abbrev pub IsRunEnd : Setup → (after : Held) → (left taken taken' : Option (List ℕ)) → (reads reads' writes writes' : ℕ) → RunEnd → Type 0
+IsRunEnd g after left taken taken' reads reads' writes writes' end.ReadFault = FellShort g after left taken taken' × HasRisen reads reads' × (writes' ≡ writes)
+IsRunEnd g after left taken taken' reads reads' writes writes' end.WriteFault = FellShort g after left taken taken' × (reads' ≡ reads) × HasRisen writes writes'
+IsRunEnd g after left taken taken' reads reads' writes writes' end.Memory = FellShort g after left taken taken' × (reads' ≡ reads) × (writes' ≡ writes)
+IsRunEnd g after left taken taken' reads reads' writes writes' answer = CameTo g after left taken taken' answer × (reads' ≡ reads) × (writes' ≡ writes)
+
+-- the run goes on in the same program under the same policy
+pub record KeepsRun (before after : Held) : Type 0 where
+  pub accepted : after.accepted ≡ before.accepted
+  pub setting : after.setting ≡ before.setting
+  pub chunks : after.machine.areas.pool.count ≡ before.machine.areas.pool.count

@@ -1,0 +1,13 @@
+pub mod Kept
+pub mod Times
+pub mod Stands
+pub mod Steps
+pub mod Answers
+pub mod Lines
+pub mod Looks
+pub mod Counts
+pub mod Ranks
+pub mod Recorded
+pub mod Waits
+pub mod Sound
+pub mod Ways

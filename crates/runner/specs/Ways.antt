@@ -1,0 +1,25 @@
+-- Where a machine world is in the run of a log.
+use Rattle.std.specs.Prelude.{◌≡◌, ℕ, ◌≤◌, List, ◌++◌, Some}
+use Rattle.lawful_log.specs.Lawful.{Leads}
+use Rattle.lawful_log.specs.Segments.{after_quiet}
+use Rattle.lawful_log.specs.Setup.{Setup, setting_of}
+use Rattle.lawful_log.specs.State.{State, start_of}
+use Rattle.machine_world.specs.Runs.{advanced, world_of}
+use Rattle.machine_world.specs.Threads.{World, Setting, step}
+use Rattle.schedule_log.specs.declared.entries.Entry.{Entry}
+
+-- on the way from the machine world of a log's state towards the next entry: the clock has gone on, or steps of which the log
+-- has no entry were made, and maybe one step more
+pub data IsOnWay (s : Setting) (from after : World) : Type 0 where
+  has_waited : after ≡ advanced from after.clock → from.clock ≤ after.clock → IsOnWay s from after
+  has_run : (steps : ℕ) → after_quiet s steps from ≡ Some after → IsOnWay s from after
+  has_told : (steps : ℕ) (here : World) → after_quiet s steps from ≡ Some here → world_of (step s here) ≡ Some after → IsOnWay s from after
+
+-- the entries begin with some that lead to a state, and the machine world is on the way from there
+pub record IsOnRun (g : Setup) (bytes : List ℕ) (start : World) (entries : List Entry) (after : World) : Type 0 where
+  pub done : List Entry
+  pub rest : List Entry
+  pub joined : entries ≡ done ++ rest
+  pub state : State
+  pub leads : Leads g (start_of g bytes start) done state
+  pub way : IsOnWay (setting_of g) state.machine after

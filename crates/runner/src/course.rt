@@ -1,0 +1,212 @@
+ghost use Rattle.std.specs.Prelude.{◌≡◌, ◌<◌, ◌≤◌, IfOk, List, None, Option, Some, ℕ};
+ghost use Rattle.thread_core.specs.Making.{IsEventInRange};
+ghost use Rattle.lawful_log.specs.Setup.{Setup};
+ghost use Rattle.lawful_log.specs.State.{State, start_of};
+
+use crate::deliveries::coming_entry;
+use crate::ends::{Failure, Halt};
+use crate::lines::write_line;
+use crate::looking::{Looked, Next};
+use crate::uses::uses_of;
+use crate::waiting::wait;
+use blocking_graph::Graph;
+use cap_io::{Sink, Source};
+use event_trace::{Event, TraceReader};
+use resource_monitor::{Measure, Monitor};
+use schedule_log::Entry;
+use scheduler::{Choice, Scheduler};
+use std::alloc::{AllocError, Global};
+use std::marker::Model;
+use thread_core::{Turn, World};
+
+/// A segment that is under way: the choice that took its thread, the uses then, and what the thread did last.
+#[derive(Clone, Copy)]
+pub(crate) struct Under {
+    pub(crate) choice: Choice,
+    pub(crate) before: [u32; 8],
+    pub(crate) turn: Turn,
+}
+
+/// What a run keeps beside its world.
+#[derive(Drop)]
+pub(crate) struct Course<C: Measure> {
+    pub(crate) scheduler: Scheduler,
+    pub(crate) graph: Graph,
+    pub(crate) monitor: Monitor<C>,
+    pub(crate) reader: TraceReader,
+    pub(crate) next: Next,
+    pub(crate) under: Option<Under>,
+}
+
+impl<C: Measure> Model for Course<C> {
+    ghost use Rattle.runner.specs.Kept.{Kept};
+
+    ghost Value = { Kept };
+
+    ghost view = { λ c. record { scheduler = c.scheduler; graph = c.graph; monitor = c.monitor; reader = c.reader; next = c.next; under = c.under } };
+}
+
+impl<C: Measure + Drop> Course<C> {
+    ghost use Rattle.runner.specs.Answers.{IsAtStart, KeepsRun};
+    ghost use Rattle.runner.specs.Counts.{CountsPart, CountsStep};
+    ghost use Rattle.runner.specs.Looks.{Knows};
+    ghost use Rattle.runner.specs.Ranks.{FallsTo, lines_rank, long_rank, rank};
+    ghost use Rattle.runner.specs.Sound.{IsSound};
+    ghost use Rattle.runner.specs.Stands.{ChoiceStands, IsAtChoice, IsAtPoint, PointStands, Stands, StandsBetween, StandsSomehow, bytes_of};
+    ghost use Rattle.runner.specs.Steps.{PartEnds, StepEnds};
+
+    /// The start of a run: thread 0 waits at node 0.
+    pub(crate) fn new(
+        alloc: Global,
+        world: &World,
+        monitor: Monitor<C>,
+    ) -> Result<Course<C>, AllocError>
+        requires { IsSound world.now.accepted }
+        ensures { IfOk result (λ course. (g : Setup) (left : Option (List ℕ)) → IsAtStart g world.now monitor → (course.under ≡ None) × StandsBetween g (start_of g (bytes_of left) world.now.machine) course world.now left) }
+    {
+        let reader = TraceReader::new(alloc)?;
+        let graph = Graph::new(alloc);
+        let mut scheduler = Scheduler::new(alloc);
+        scheduler.enqueue(0, world.main_thread())?;
+        Ok(Course {
+            scheduler,
+            graph,
+            monitor,
+            reader,
+            next: Next::Unread,
+            under: None,
+        })
+    }
+
+    /// One step of a run: the next thing in a segment, or at a choice point.
+    pub(crate) fn step<S: Source, K: Sink>(
+        &mut self,
+        alloc: Global,
+        world: &mut World,
+        trace: &mut S,
+        out: &mut K,
+    ) -> Result<Option<Halt>, Failure>
+        requires { StandsSomehow self.old world.old }
+        ensures ends { (g : Setup) (state : State) (left : Option (List ℕ)) → Knows left (S.left trace.old) → Stands g state self.old world.old left →
+            (after : Option (List ℕ)) × Knows after (S.left trace.new) × StepEnds g state left self.new world.new after (K.taken out.old) (K.taken out.new) result }
+        ensures counts { CountsStep result (S.faults trace.old) (S.faults trace.new) (K.faults out.old) (K.faults out.new) }
+        ensures falls { FallsTo (rank self.old world.old) result (rank self.new world.new) }
+        ensures keeps { KeepsRun world.old world.new }
+    {
+        match self.under {
+            Some(under) => self.pass(alloc, world, under, out),
+            None => self.point(alloc, world, trace, out),
+        }
+    }
+
+    /// One step of a choice point: the run stops, an event is delivered, the clock moves, or a segment begins.
+    fn point<S: Source, K: Sink>(
+        &mut self,
+        alloc: Global,
+        world: &mut World,
+        trace: &mut S,
+        out: &mut K,
+    ) -> Result<Option<Halt>, Failure>
+        requires stands { StandsSomehow self.old world.old }
+        requires between { self.old.under ≡ None }
+        ensures ends { (g : Setup) (state : State) (left : Option (List ℕ)) → Knows left (S.left trace.old) → StandsBetween g state self.old world.old left →
+            (after : Option (List ℕ)) × Knows after (S.left trace.new) × StepEnds g state left self.new world.new after (K.taken out.old) (K.taken out.new) result }
+        ensures counts { CountsStep result (S.faults trace.old) (S.faults trace.new) (K.faults out.old) (K.faults out.new) }
+        ensures falls { FallsTo (rank self.old world.old) result (rank self.new world.new) }
+        ensures keeps { KeepsRun world.old world.new }
+    {
+        if world.live() == 0 {
+            return Ok(Some(Halt::Done));
+        }
+        match self.look(trace)? {
+            Looked::Refused { line } => Ok(Some(Halt::BadTrace { line })),
+            Looked::Comes { event } => self.go_on(alloc, world, event, out),
+        }
+    }
+
+    /// The step goes on where the next line is good: the event of it, or None where the trace is over.
+    fn go_on<K: Sink>(
+        &mut self,
+        alloc: Global,
+        world: &mut World,
+        next: Option<Event>,
+        out: &mut K,
+    ) -> Result<Option<Halt>, Failure>
+        requires { PointStands self.old world.old next }
+        ensures ends { (g : Setup) (state : State) (left : Option (List ℕ)) → IsAtPoint g state self.old world.old left next → StepEnds g state left self.new world.new left (K.taken out.old) (K.taken out.new) result }
+        ensures counts { CountsPart result (K.faults out.old) (K.faults out.new) }
+        ensures falls { FallsTo (rank self.old world.old) result (rank self.new world.new) }
+        ensures keeps { KeepsRun world.old world.new }
+    {
+        if let Some(event) = next {
+            if event.time <= world.clock() {
+                self.deliver(alloc, world, event, out)?;
+                return Ok(None);
+            }
+        }
+        if world.any_ready() {
+            self.choose(alloc, world, out)?;
+            return Ok(None);
+        }
+        Ok(wait(world, next))
+    }
+
+    /// The event that is due joins its queue, or is dropped.
+    fn deliver<K: Sink>(
+        &mut self,
+        alloc: Global,
+        world: &mut World,
+        event: Event,
+        out: &mut K,
+    ) -> Result<(), Failure>
+        requires between { world.old.machine.running ≡ None }
+        requires in_range { IsEventInRange event.kind }
+        ensures ends { (g : Setup) (state : State) (left : Option (List ℕ)) → IsAtPoint g state self.old world.old left (Some event) → event.time ≤ world.old.machine.clock → PartEnds g state left self.new world.new left (K.taken out.old) (K.taken out.new) result }
+        ensures counts { CountsPart result (K.faults out.old) (K.faults out.new) }
+        ensures long_rank { long_rank self.new world.new ≡ long_rank self.old world.old }
+        ensures lines_rank { self.old.next ≡ Next.Event event → lines_rank self.new < lines_rank self.old }
+        ensures keeps { KeepsRun world.old world.new }
+    {
+        let delivered = world.deliver(event);
+        self.next = Next::Unread;
+        write_line(
+            alloc,
+            out,
+            &coming_entry(world.clock(), event.kind, delivered),
+        )
+    }
+
+    /// A thread is chosen, and its segment begins.
+    fn choose<K: Sink>(
+        &mut self,
+        alloc: Global,
+        world: &mut World,
+        out: &mut K,
+    ) -> Result<(), Failure>
+        requires { ChoiceStands self.old world.old }
+        ensures ends { (g : Setup) (state : State) (left : Option (List ℕ)) (next : Option Event) → IsAtChoice g state self.old world.old left next → PartEnds g state left self.new world.new left (K.taken out.old) (K.taken out.new) result }
+        ensures counts { CountsPart result (K.faults out.old) (K.faults out.new) }
+        ensures falls { long_rank self.new world.new < long_rank self.old world.old }
+        ensures keeps { KeepsRun world.old world.new }
+    {
+        let before = uses_of(world);
+        self.monitor.observe(before);
+        let Some(choice) = self.scheduler.choose(&self.graph, &self.monitor, world) else {
+            unreachable!()
+        };
+        self.scheduler.note_choice(&choice);
+        let entry = Entry::Run {
+            clock: world.clock(),
+            thread: choice.thread.number,
+            node: choice.node,
+        };
+        let turn = world.begin(choice.thread);
+        let under = Under {
+            choice,
+            before,
+            turn,
+        };
+        self.under = Some(under);
+        write_line(alloc, out, &entry)
+    }
+}

@@ -1,0 +1,88 @@
+ghost use Rattle.std.specs.Prelude.{◌<◌, ◌≡◌, length, pos, slice_index_or};
+ghost use Rattle.cap_io.specs.Writes.{Puts};
+ghost use Rattle.lawful_log.specs.Lawful as log;
+ghost use Rattle.runner.specs.Counts.{CountsPart};
+ghost use Rattle.runner.specs.Lines.{edge_line, edge_lines, end_lines};
+ghost use Rattle.runner.specs.Steps.{stop_line};
+ghost use Rattle.schedule_log.specs.EntryText.{log_text};
+
+use crate::ends::{Failure, Halt};
+use crate::lines::write_line;
+use blocking_graph::{EdgeLine, Graph};
+use cap_io::Sink;
+use schedule_log::{Averages, Entry};
+use std::alloc::Global;
+use thread_core::World;
+
+/// Writes the end of a log: the edges of the graph, and the stop.
+pub(crate) fn write_end<K: Sink>(
+    alloc: Global,
+    world: &World,
+    graph: &Graph,
+    halt: Halt,
+    out: &mut K,
+) -> Result<(), Failure>
+    ensures bytes { Puts (K.taken out.old) (K.taken out.new) (log_text (end_lines world.now.setting.caps graph.now.edges (stop_line halt (length world.now.machine.areas.pool.free)))) result }
+    ensures counts { CountsPart result (K.faults out.old) (K.faults out.new) }
+{
+    let Ok(edges) = graph.edges() else {
+        return Err(Failure::Memory);
+    };
+    write_edges(alloc, world, &edges, out)?;
+    let line = halt.line(world.free());
+    write_line(alloc, out, &Entry::Stop(line))
+}
+
+/// Writes the line of each edge.
+fn write_edges<K: Sink>(
+    alloc: Global,
+    world: &World,
+    edges: &[EdgeLine],
+    out: &mut K,
+) -> Result<(), Failure>
+    ensures bytes { Puts (K.taken out.old) (K.taken out.new) (log_text (edge_lines world.now.setting.caps edges.now)) result }
+    ensures counts { CountsPart result (K.faults out.old) (K.faults out.new) }
+{
+    for edge in edges {
+        let entry = edge_entry(world, edge);
+        write_line(alloc, out, &entry)?;
+    }
+    Ok(())
+}
+
+/// The line of an edge.
+fn edge_entry(world: &World, edge: &EdgeLine) -> Entry
+    ensures { result ≡ edge_line world.now.setting.caps edge.now }
+{
+    Entry::Edge {
+        from: edge.from,
+        to: edge.to,
+        count: edge.count,
+        cost: edge.cost,
+        changes: shown(world, &edge.change),
+    }
+}
+
+/// The averages that an edge's line shows: that of resource 0, and those of the resources that are given.
+fn shown(world: &World, change: &[i128; 8]) -> Averages
+    ensures { result ≡ log.shown world.now.setting.caps change.now }
+{
+    let mut places = [0; 8];
+    places[0] = change[0];
+    let mut used: usize = 1;
+    for resource in 1..8u32 {
+        if world.cap(resource) != 0 {
+            places[used] = average_at(change, resource);
+            used += 1;
+        }
+    }
+    Averages::new(&places[..used])
+}
+
+/// The average of a resource.
+fn average_at(change: &[i128; 8], resource: u32) -> i128
+    requires { resource < 8 }
+    ensures { result ≡ slice_index_or change.now resource (pos 0) }
+{
+    change[resource as usize]
+}

@@ -1,0 +1,78 @@
+ghost use Rattle.std.specs.Prelude.{◌≡◌, List, None, Option, ℕ};
+ghost use Rattle.lawful_log.specs.Setup.{Setup};
+ghost use Rattle.lawful_log.specs.State.{State};
+ghost use Rattle.runner.specs.Counts.{CountsLook};
+ghost use Rattle.runner.specs.Looks.{Knows, LooksAt, Nears};
+ghost use Rattle.runner.specs.Stands.{StandsBetween};
+ghost use Rattle.thread_core.specs.Worlds.{Held};
+
+use crate::course::Course;
+use crate::ends::Failure;
+use cap_io::Source;
+use event_trace::{Event, TraceError};
+use resource_monitor::Measure;
+
+/// The next line of the trace.
+#[derive(Clone, Copy)]
+pub(crate) enum Next {
+    /// It hasn't been looked at.
+    Unread,
+    /// It is that of an event.
+    Event(Event),
+    /// There is none.
+    Over,
+}
+
+/// What the next line of the trace is.
+#[derive(Clone, Copy)]
+pub(crate) enum Looked {
+    /// That of an event, or there is none.
+    Comes { event: Option<Event> },
+    /// It is refused.
+    Refused { line: u64 },
+}
+
+impl<C: Measure + Drop> Course<C> {
+    /// Looks at the next line of the trace, which stays until it is delivered.
+    pub(crate) fn look<S: Source>(&mut self, trace: &mut S) -> Result<Looked, Failure>
+        requires unrefused { self.old.reader.refused ≡ None }
+        ensures looks { (g : Setup) (state : State) (held : Held) (left : Option (List ℕ)) → Knows left (S.left trace.old) → StandsBetween g state self.old held left → LooksAt g state left self.new held (S.left trace.new) result }
+        ensures rest { self.new ≡ record self.old { reader = self.new.reader; next = self.new.next } }
+        ensures nears { Nears self.old self.new result }
+        ensures counts { CountsLook result (S.faults trace.old) (S.faults trace.new) }
+    {
+        match self.next {
+            Next::Event(event) => Ok(Looked::Comes { event: Some(event) }),
+            Next::Over => Ok(Looked::Comes { event: None }),
+            Next::Unread => self.read(trace),
+        }
+    }
+
+    /// Reads the next line.
+    fn read<S: Source>(&mut self, trace: &mut S) -> Result<Looked, Failure>
+        requires unrefused { self.old.reader.refused ≡ None }
+        requires unread { self.old.next ≡ Next.Unread }
+        ensures looks { (g : Setup) (state : State) (held : Held) (left : Option (List ℕ)) → Knows left (S.left trace.old) → StandsBetween g state self.old held left → LooksAt g state left self.new held (S.left trace.new) result }
+        ensures rest { self.new ≡ record self.old { reader = self.new.reader; next = self.new.next } }
+        ensures nears { Nears self.old self.new result }
+        ensures counts { CountsLook result (S.faults trace.old) (S.faults trace.new) }
+    {
+        match self.reader.next(trace) {
+            Ok(None) => {
+                self.next = Next::Over;
+                Ok(Looked::Comes { event: None })
+            }
+            Ok(Some(event)) => {
+                self.next = Next::Event(event);
+                Ok(Looked::Comes { event: Some(event) })
+            }
+            Err(TraceError::Line { number }) => Ok(Looked::Refused {
+                line: u64::from(number),
+            }),
+            Err(TraceError::Order { number, .. }) => Ok(Looked::Refused {
+                line: u64::from(number),
+            }),
+            Err(TraceError::ReadFault) => Err(Failure::Read),
+        }
+    }
+}
