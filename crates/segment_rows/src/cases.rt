@@ -1,0 +1,60 @@
+// What a source comes to, and the recursions that several tests run.
+
+ghost use Rattle.codegen_link.specs.Plans.{AreInRange};
+
+use crate::{Outcome, accepted_of, begin, run_on};
+use certificate_check::Accepted;
+use codegen_link::Options;
+use std::alloc::{AllocError, Global};
+
+/// A recursion of 100 calls, which puts 100.
+pub(crate) const DEEP: &[u8] =
+    b"int f(int n) { int r; if (n < 1) return 0; r = f(n - 1); return r + 1; } int main() { int r; r = f(100); put(r); return 0; }";
+
+/// A recursion of one call, which puts 1.
+pub(crate) const ONCE: &[u8] =
+    b"int f(int n) { int r; if (n < 1) return 0; r = f(n - 1); return r + 1; } int main() { int r; r = f(1); put(r); return 0; }";
+
+/// The least chunks, of which 100 are linked for the deep recursion.
+pub(crate) const NARROW: Options = Options {
+    chunk: 64,
+    max_path: 48,
+};
+
+/// The fuel of a case.
+pub(crate) const FUEL: u64 = 10_000;
+
+/// What is left of the fuel once so many instructions have retired.
+pub(crate) fn left_after(retired: u64) -> u64 {
+    FUEL.saturating_sub(retired)
+}
+
+/// Whether a source comes to just this, with paths and chunks of these sizes, over so many chunks.
+pub(crate) fn comes_to(
+    alloc: Global,
+    source: &[u8],
+    options: Options,
+    chunks: u32,
+    want: Outcome,
+) -> Result<bool, AllocError>
+    requires { AreInRange options }
+{
+    match accepted_of(alloc, source, options) {
+        Some(accepted) => leads_to(alloc, &accepted, chunks, FUEL, want),
+        None => Ok(false),
+    }
+}
+
+/// Whether a program's `main` comes to just this, over so many chunks and with so much fuel.
+pub(crate) fn leads_to(
+    alloc: Global,
+    accepted: &Accepted,
+    chunks: u32,
+    left: u64,
+    want: Outcome,
+) -> Result<bool, AllocError> {
+    match begin(alloc, accepted, chunks)? {
+        Some(begun) => Ok(run_on(accepted, begun, left) == want),
+        None => Ok(false),
+    }
+}

@@ -1,0 +1,164 @@
+// A program from its text, and its first thread run to a stop.
+
+ghost use Rattle.std.specs.Prelude.{◌<◌, IfOk, IfSome};
+ghost use Rattle.codegen_link.specs.Plans.{AreInRange};
+ghost use Rattle.flat_code.specs.declared.operations.Op.{Op};
+ghost use Rattle.segment_run.specs.Contexts.{checked_of, code_of, local_of, AreOf, IsOwned, IsReady};
+ghost use Rattle.segment_run.specs.Safe.{RestsAtCall};
+
+use c_scope::read_program;
+use cap_word::{Ask, SiteKey, add};
+use certificate_check::Accepted;
+use chunk_pool::ChunkPool;
+use codegen_link::Options;
+use segment_run::{
+    Areas, Context, Fuel, Segment, reply, retire, run_segment, sizes_law, start, walk,
+};
+use stack_build::build;
+use std::alloc::{AllocError, Global};
+
+/// A thread over areas of its own.
+#[derive(Drop)]
+pub struct Begun {
+    pub areas: Areas,
+    pub context: Context,
+}
+
+/// How far a thread came: its first answer and its last one, the sum of what it put, the key of the call at which it
+/// blocked, the fuel that is left and how many chunks are free.
+#[derive(Clone, Copy, PartialEq, Eq)]
+pub struct Outcome {
+    pub first: Option<Segment>,
+    pub last: Option<Segment>,
+    pub sum: u32,
+    pub key: Option<SiteKey>,
+    pub left: u64,
+    pub free: u32,
+}
+
+/// The accepted program that `build` makes of a source, or None where it makes none.
+pub fn accepted_of(alloc: Global, source: &[u8], options: Options) -> Option<Accepted>
+    requires { AreInRange options }
+{
+    if source.len() > 1_048_576 {
+        return None;
+    }
+    let Ok(program) = read_program(alloc, source) else {
+        return None;
+    };
+    match build(alloc, program, options) {
+        Ok(accepted) => Some(accepted),
+        Err(_) => None,
+    }
+}
+
+/// A thread at the start of a program's `main`, over so many chunks; None where no pool has so many.
+pub fn begin(alloc: Global, accepted: &Accepted, chunks: u32) -> Result<Option<Begun>, AllocError>
+    ensures areas { IfOk result (λ some. IfSome some (λ begun. AreOf accepted.now begun.areas)) }
+    ensures ready { IfOk result (λ some. IfSome some (λ begun. IsReady (checked_of accepted.now) (code_of accepted.now) (local_of begun.areas begun.context))) }
+{
+    sizes_law(accepted);
+    let bytes = accepted.certificate().chunk;
+    if chunks == 0 || chunks > 65_536 || u64::from(chunks) * u64::from(bytes) > 67_108_864 {
+        return Ok(None);
+    }
+    let pool = ChunkPool::new(alloc, chunks, bytes)?;
+    let mut areas = Areas::new(alloc, accepted.image(), pool)?;
+    let main = accepted.flat().main_number();
+    if main as usize >= accepted.certificate().functions.len() {
+        return Ok(None);
+    }
+    match start(accepted, &mut areas, main, 0) {
+        Some(context) => Ok(Some(Begun { areas, context })),
+        None => Ok(None),
+    }
+}
+
+/// Runs a thread with so much fuel until it blocks, ends or can't go on. Each call that is answered at once is passed, and
+/// so is the one at which it blocks.
+pub fn run_on(accepted: &Accepted, begun: Begun, left: u64) -> Outcome
+    requires areas { AreOf accepted.now begun.areas }
+    requires ready { IsReady (checked_of accepted.now) (code_of accepted.now) (local_of begun.areas begun.context) }
+{
+    let Begun {
+        mut areas,
+        mut context,
+    } = begun;
+    let mut fuel = Fuel { left };
+    let mut outcome = nothing_yet();
+    for _ in 0..1_000_000u32 {
+        let segment = run_segment(accepted, &mut areas, &mut context, &mut fuel);
+        outcome = with_answer(outcome, segment);
+        match segment {
+            Segment::Asks { ask } => {
+                pass(accepted, &areas, &mut context, &mut fuel, result_of(ask));
+            }
+            Segment::Blocks { .. } => {
+                outcome.key = Some(walk(accepted, areas.pool(), &context));
+                pass(accepted, &areas, &mut context, &mut fuel, None);
+                break;
+            }
+            _ => break,
+        }
+    }
+    outcome.left = fuel.left;
+    outcome.free = areas.pool().free();
+    outcome
+}
+
+fn nothing_yet() -> Outcome {
+    Outcome {
+        first: None,
+        last: None,
+        sum: 0,
+        key: None,
+        left: 0,
+        free: 0,
+    }
+}
+
+// An outcome with one more answer.
+fn with_answer(outcome: Outcome, segment: Segment) -> Outcome {
+    let value = match segment {
+        Segment::Asks {
+            ask: Ask::Put { value },
+        } => value,
+        _ => 0,
+    };
+    Outcome {
+        first: outcome.first.or(Some(segment)),
+        last: Some(segment),
+        sum: add(outcome.sum, value),
+        ..outcome
+    }
+}
+
+// What a call that is answered at once results in here: the thread has the number 5, and the next one 6.
+fn result_of(ask: Ask) -> Option<u32> {
+    match ask {
+        Ask::SelfNumber => Some(5),
+        Ask::Spawn { .. } => Some(6),
+        Ask::Put { .. } | Ask::Give { .. } => None,
+    }
+}
+
+// Passes the call at whose ECALL a thread stands, with what it results in, if anything.
+fn pass(
+    accepted: &Accepted,
+    areas: &Areas,
+    context: &mut Context,
+    fuel: &mut Fuel,
+    answer: Option<u32>,
+)
+    requires stands { (op : Op) × RestsAtCall (checked_of accepted.now) (local_of areas.now context.old) op }
+    requires owned { IsOwned areas.now.pool (local_of areas.now context.old).core.chain }
+    requires fuel { 0 < fuel.old.left }
+    ensures { IsReady (checked_of accepted.now) (code_of accepted.now) (local_of areas.now context.new) }
+{
+    // What the image's call tells: the pair is valid.
+    let _image = accepted.image();
+    retire(context, fuel);
+    if let Some(value) = answer {
+        reply(context, value);
+    }
+}
