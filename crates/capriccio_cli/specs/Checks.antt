@@ -10,12 +10,8 @@ use Rattle.stack_certificate.specs.declared.certificates.Certificate.{Certificat
 use Rattle.capriccio_cli.specs.declared.check_command.Verdict.{Verdict}
 use Rattle.capriccio_cli.specs.declared.check_command.Verdict.TheVariants.{Accepted, Rejected}
 use Rattle.capriccio_cli.specs.Outcome.{Outcome, printed}
+use Rattle.capriccio_cli.specs.CauseLines.{rejected_words}
 use Rattle.capriccio_cli.specs.Loads.{AfterThree, AfterSource, AfterImage, AfterCertificate}
-
--- `rejected VN function F index I`
-abbrev pub rejected_words : ℕ → ℕ → ℕ → List ℕ
-rejected_words rule function index =
-    ((((codes "rejected V" ++ canonical_decimal rule) ++ codes " function ") ++ canonical_decimal function) ++ codes " index ") ++ canonical_decimal index
 
 -- the status of a verdict, and its line
 abbrev pub verdict_status : Verdict → ℕ

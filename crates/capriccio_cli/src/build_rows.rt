@@ -1,9 +1,9 @@
 // The command `build` over files in memory, with ample memory.
 use super::capriccio;
-use super::command_rows::{
-    CERTIFICATE_OF_SEVEN, IMAGE_OF_SEVEN, IMAGE_OF_TWO, NONE, PUT_SEVEN, TWO, bytes_of, files_of,
-    words_of,
+use crate::command_rows::{
+    CERTIFICATE_OF_SEVEN, IMAGE_OF_SEVEN, IMAGE_OF_TWO, NONE, PUT_SEVEN, TWO, bytes_of,
 };
+use crate::rows::{files_of, words_of};
 use cap_io::{CleanShelf, CleanSink, CleanSource, MemShelf, MemSink, Shelf, ShelfError};
 use std::alloc::{AllocError, Global};
 use std::test::Fail;
@@ -36,11 +36,17 @@ fn file_of<F: Shelf>(alloc: Global, shelf: &mut F, name: &str) -> Result<Vec<u8>
 /// What the words leave, where P is the source.
 fn built(alloc: Global, words: &[&str], source: &[u8]) -> Result<Left, AllocError> {
     let words = words_of(alloc, words)?;
-    let mut shelf = CleanShelf::new(alloc, files_of(alloc, source, OLD, OLD)?);
+    let mut shelf = CleanShelf::new(
+        alloc,
+        files_of(alloc, &[("P", source), ("I", OLD), ("C", OLD)])?,
+    );
     let mut trace = CleanSource::new(Vec::new(alloc));
     let mut out = CleanSink::new(alloc);
     let mut err = CleanSink::new(alloc);
-    let status = capriccio(alloc, &words, &mut shelf, &mut trace, &mut out, &mut err);
+    let mut last = None;
+    let status = capriccio(
+        alloc, &words, &mut shelf, &mut trace, &mut out, &mut err, &mut last,
+    );
     Ok(Left {
         status,
         out: out.bytes().to_vec(alloc)?,
@@ -138,12 +144,15 @@ fn failing(alloc: Global, call: u64, bytes: u32, write: u64) -> Result<Left, All
     if write > 0 {
         writes.push(write)?;
     }
-    let files = files_of(alloc, PUT_SEVEN, OLD, OLD)?;
+    let files = files_of(alloc, &[("P", PUT_SEVEN), ("I", OLD), ("C", OLD)])?;
     let mut shelf = MemShelf::new(alloc, files, calls);
     let mut trace = CleanSource::new(Vec::new(alloc));
     let mut out = MemSink::new(alloc, 4, writes);
     let mut err = CleanSink::new(alloc);
-    let status = capriccio(alloc, &words, &mut shelf, &mut trace, &mut out, &mut err);
+    let mut last = None;
+    let status = capriccio(
+        alloc, &words, &mut shelf, &mut trace, &mut out, &mut err, &mut last,
+    );
     Ok(Left {
         status,
         out: out.bytes().to_vec(alloc)?,

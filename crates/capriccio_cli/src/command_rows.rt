@@ -1,8 +1,10 @@
-// The commands `graph` and `check` over files in memory, with ample memory.
+// The commands `graph`, `check`, `build` and `run` over files in memory, with ample memory.
 use super::capriccio;
-use cap_io::{CleanShelf, CleanSink, CleanSource, MemShelf, MemSink};
+use crate::rows::{call, files_of, is_answer, is_row, shelf_of, words_of};
+use cap_io::{CleanShelf, CleanSink, CleanSource, MemShelf, MemSink, Shelf};
 use std::alloc::{AllocError, Global};
 use std::test::Fail;
+use thread_core::World;
 
 /// `int main() { put(7); return 0; }`, its image as words and its certificate, as the formats' vectors have them.
 pub(crate) const PUT_SEVEN: &[u8] = b"int main() { put(7); return 0; }";
@@ -31,7 +33,7 @@ pub(crate) const IMAGE_OF_TWO: [u32; 52] = [
     0x01010113, 0x00008067, 0x00001008, 0x00001048,
 ];
 
-/// The image of the same program where its call is linked.
+/// The same program with a pair whose call is linked, put together by hand from the table of templates.
 const IMAGE_OF_LINKED: [u32; 62] = [
     0x31504143, 0x00000037, 0x00000000, 0x00000000, 0x00000002, 0x01e00893, 0x00000073, 0xff010113,
     0x00112623, 0x00a12023, 0x00012283, 0x00512223, 0x00412503, 0x00c12083, 0x01010113, 0x00008067,
@@ -43,8 +45,8 @@ const IMAGE_OF_LINKED: [u32; 62] = [
     0x00812503, 0x00c12083, 0x01010113, 0x00008067, 0x00001008, 0x00001048,
 ];
 
-const CERTIFICATE_OF_LINKED: &[u8] =
-    b"capriccio certificate 1\nchunk 64\nmax-path 32\nfunctions 2\nfunction 4104 16 16 12 16 0 4\nfunction 4168 37 16 12 16 0 4 8\nsites 1\nsite 0 linked 16\n";
+/// The log of a run of the first.
+const LOG_OF_SEVEN: &[u8] = b"run 0 0 0\nout 0 7\nend 0 17 1024\nedge 0 1 1 4352 -256\nstop done\n";
 
 pub(crate) const NONE: &[u8] = b"";
 
@@ -57,46 +59,13 @@ pub(crate) fn bytes_of(alloc: Global, words: &[u32]) -> Result<Vec<u8>, AllocErr
     Ok(bytes)
 }
 
-/// Words of a command line.
-pub(crate) fn words_of(alloc: Global, words: &[&str]) -> Result<Vec<String>, AllocError> {
-    let mut all = Vec::new(alloc);
+/// The bytes of words, each lowest byte first.
+pub(crate) fn bytes_of(alloc: Global, words: &[u32]) -> Result<Vec<u8>, AllocError> {
+    let mut bytes = Vec::new(alloc);
     for word in words {
-        all.push(String::from_str(alloc, word)?)?;
+        bytes.extend_from_slice(&word.to_le_bytes())?;
     }
-    Ok(all)
-}
-
-/// The files P, I and C.
-pub(crate) fn files_of(
-    alloc: Global,
-    source: &[u8],
-    image: &[u8],
-    certificate: &[u8],
-) -> Result<Vec<(String, Vec<u8>)>, AllocError> {
-    let mut files = Vec::new(alloc);
-    files.push((String::from_str(alloc, "P")?, source.to_vec(alloc)?))?;
-    files.push((String::from_str(alloc, "I")?, image.to_vec(alloc)?))?;
-    files.push((String::from_str(alloc, "C")?, certificate.to_vec(alloc)?))?;
-    Ok(files)
-}
-
-/// The status, and what the output and standard error took, over objects that never fail.
-fn answer(
-    alloc: Global,
-    words: &[&str],
-    files: Vec<(String, Vec<u8>)>,
-) -> Result<(u8, Vec<u8>, Vec<u8>), AllocError> {
-    let words = words_of(alloc, words)?;
-    let mut shelf = CleanShelf::new(alloc, files);
-    let mut trace = CleanSource::new(Vec::new(alloc));
-    let mut out = CleanSink::new(alloc);
-    let mut err = CleanSink::new(alloc);
-    let status = capriccio(alloc, &words, &mut shelf, &mut trace, &mut out, &mut err);
-    Ok((
-        status,
-        out.bytes().to_vec(alloc)?,
-        err.bytes().to_vec(alloc)?,
-    ))
+    Ok(bytes)
 }
 
 #[test]
@@ -158,9 +127,8 @@ fn graphs(rt: HostRuntime) -> Result<(), Fail> {
         ),
     ];
     for (words, source, status, out, err) in table {
-        let given = answer(alloc, words, files_of(alloc, source, NONE, NONE)?)?;
         assert!(rt;
-            given.0 == status && given.1.as_slice() == out && given.2.as_slice() == err,
+            is_row(alloc, &(words, source, NONE, status, out, err))?,
             "{source:?}"
         );
     }
@@ -177,7 +145,7 @@ fn checks(rt: HostRuntime) -> Result<(), Fail> {
     long.push(0)?;
     let two = bytes_of(alloc, &IMAGE_OF_TWO)?;
     let linked = bytes_of(alloc, &IMAGE_OF_LINKED)?;
-    let table: [(&[u8], &[u8], &[u8], u8, &[u8], &[u8]); 8] = [
+    let table: [(&[u8], &[u8], &[u8], u8, &[u8], &[u8]); 9] = [
         (
             PUT_SEVEN,
             seven.as_slice(),
@@ -189,10 +157,18 @@ fn checks(rt: HostRuntime) -> Result<(), Fail> {
         (
             TWO,
             linked.as_slice(),
-            CERTIFICATE_OF_LINKED,
+            b"capriccio certificate 1\nchunk 64\nmax-path 32\nfunctions 2\nfunction 4104 16 16 12 16 0 4\nfunction 4168 37 16 12 16 0 4 8\nsites 1\nsite 0 linked 16\n",
             0,
             b"accepted\n",
             NONE,
+        ),
+        (
+            TWO,
+            linked.as_slice(),
+            b"capriccio certificate 1\nchunk 64\nmax-path 32\nmax-path 32\nfunctions 2\nfunction 4104 16 16 12 16 0 4\nfunction 4168 37 16 12 16 0 4 8\nsites 1\nsite 0 linked 16\n",
+            4,
+            NONE,
+            b"certificate: Line 4\n",
         ),
         (
             TWO,
@@ -227,9 +203,9 @@ fn checks(rt: HostRuntime) -> Result<(), Fail> {
             b"image: Long at 120\n",
         ),
         (
-            TWO,
-            linked.as_slice(),
-            b"capriccio certificate 1\nchunk 64\nmax-path 32\nmax-path 32\nfunctions 2\nfunction 4104 16 16 12 16 0 4\nfunction 4168 37 16 12 16 0 4 8\nsites 1\nsite 0 linked 16\n",
+            PUT_SEVEN,
+            seven.as_slice(),
+            b"capriccio certificate 1\nchunk 4096\nmax-path 2032\nmax-path 2032\nfunctions 1\nfunction 4104 22 16 12 16 0\nsites 0\n",
             4,
             NONE,
             b"certificate: Line 4\n",
@@ -244,11 +220,9 @@ fn checks(rt: HostRuntime) -> Result<(), Fail> {
         ),
     ];
     for (source, image, certificate, status, out, err) in table {
-        let given = answer(alloc, words, files_of(alloc, source, image, certificate)?)?;
-        assert!(rt;
-            given.0 == status && given.1.as_slice() == out && given.2.as_slice() == err,
-            "{err:?}"
-        );
+        let mut shelf = shelf_of(alloc, &[("P", source), ("I", image), ("C", certificate)])?;
+        let given = call(alloc, words, &mut shelf, NONE)?;
+        assert!(rt; is_answer(&given, status, out, err), "{err:?}");
     }
     Ok(())
 }
@@ -266,12 +240,21 @@ fn failing(alloc: Global, load: u64, write: u64) -> Result<(u8, Vec<u8>), AllocE
     if write > 0 {
         writes.push(write)?;
     }
-    let files = files_of(alloc, PUT_SEVEN, image.as_slice(), CERTIFICATE_OF_SEVEN)?;
+    let files = files_of(
+        alloc,
+        &[
+            ("P", PUT_SEVEN),
+            ("I", image.as_slice()),
+            ("C", CERTIFICATE_OF_SEVEN),
+        ],
+    )?;
     let mut shelf = MemShelf::new(alloc, files, loads);
     let mut trace = CleanSource::new(Vec::new(alloc));
     let mut out = MemSink::new(alloc, 4, writes);
     let mut err = CleanSink::new(alloc);
-    let status = capriccio(alloc, &words, &mut shelf, &mut trace, &mut out, &mut err);
+    let status = capriccio(
+        alloc, &words, &mut shelf, &mut trace, &mut out, &mut err, &mut None,
+    );
     Ok((status, out.bytes().to_vec(alloc)?))
 }
 
@@ -292,5 +275,70 @@ fn failing_checks(rt: HostRuntime) -> Result<(), Fail> {
             "{load} {write}"
         );
     }
+    Ok(())
+}
+
+/// Whether the world is that of the log at its end: 17 instructions, all of 1,024 chunks free again, no thread, and in chunk
+/// 0 the saved return address and the number of the next free chunk.
+fn is_at_end(last: &Option<World>) -> bool {
+    match last {
+        None => false,
+        Some(world) => {
+            world.cost() == 17
+                && world.free() == 1024
+                && world.live() == 0
+                && word(world, 1023) == Some(4096)
+                && word(world, 0) == Some(1)
+        }
+    }
+}
+
+/// A word of chunk 0.
+fn word(world: &World, word: u32) -> Option<u32> {
+    if world.cap(0) > 0 && word < world.chunk_words() {
+        Some(world.word_at(0, word))
+    } else {
+        None
+    }
+}
+
+/// Whether a file of the shelf has these bytes.
+fn holds(alloc: Global, shelf: &mut CleanShelf, name: &str, bytes: &[u8]) -> bool {
+    match shelf.load(alloc, name, 1000) {
+        Ok(given) => given.as_slice() == bytes,
+        Err(_) => false,
+    }
+}
+
+#[test]
+fn builds_checks_and_runs(rt: HostRuntime) -> Result<(), Fail> {
+    let alloc = rt.alloc();
+    let mut shelf = shelf_of(alloc, &[("P", PUT_SEVEN)])?;
+    let serve = call(alloc, &["serve", "P"], &mut shelf, NONE)?;
+    assert!(rt; is_answer(&serve, 0, LOG_OF_SEVEN, NONE) && is_at_end(&serve.last));
+    let build = call(alloc, &["build", "P", "I", "C"], &mut shelf, NONE)?;
+    assert!(rt;
+        is_answer(&build, 0, b"built code 24 globals 0 tables 0\n", NONE) && build.last.is_none()
+    );
+    let image = bytes_of(alloc, &IMAGE_OF_SEVEN)?;
+    assert!(rt;
+        holds(alloc, &mut shelf, "I", image.as_slice())
+            && holds(alloc, &mut shelf, "C", CERTIFICATE_OF_SEVEN)
+    );
+    let check = call(alloc, &["check", "P", "I", "C"], &mut shelf, NONE)?;
+    assert!(rt; is_answer(&check, 0, b"accepted\n", NONE) && check.last.is_none());
+    let run = call(alloc, &["run", "P", "I", "C"], &mut shelf, NONE)?;
+    assert!(rt; is_answer(&run, 0, LOG_OF_SEVEN, NONE) && is_at_end(&run.last));
+    let large = call(
+        alloc,
+        &["run", "P", "I", "C", "--chunks", "65536"],
+        &mut shelf,
+        NONE,
+    )?;
+    assert!(rt;
+        is_answer(&large, 5, NONE, b"limit: pool is 268435456 bytes\n") && large.last.is_none()
+    );
+    let missing = call(alloc, &["run", "P", "I", "D"], &mut shelf, NONE)?;
+    assert!(rt; is_answer(&missing, 9, NONE, b"absent: certificate\n") && missing.last.is_none());
     Ok(())
 }
