@@ -99,14 +99,14 @@ printed-ends due before after o (Err (Failed Memory)) is line none files left lo
     (inr (o, is, inr (record { files = files; trace = trace; out = h.0 })), record { loads = loads; stores = stores; reads = reads; writes = h.1 })
 
 -- a store of an outcome was cut short
-pub stores-cut : (due : Outcome → Type 0) (before after : Outside) (o : Outcome) (stop : Stop) → due o → Keeps before.left after.left → Keeps before.taken after.taken → after.loads ≡ before.loads → after.reads ≡ before.reads → after.writes ≡ before.writes →
+pub stores-cut : (due : Outcome → Type 0) (before after : Outside) (o : Outcome) (stop : Stop) → due o → o.stores ≢ [] → Keeps before.left after.left → Keeps before.taken after.taken → after.loads ≡ before.loads → after.reads ≡ before.reads → after.writes ≡ before.writes →
     AreStores o.stores before.files after.files before.stores after.stores (Err stop) → EndsAs due before after (Err stop)
-stores-cut due before after o (Refused cause) is left taken loads reads writes h = absurd h
-stores-cut due before after o (Failed Read) is left taken loads reads writes h = absurd h
-stores-cut due before after o (Failed Write) is left taken loads reads writes h =
-    (o, is, inl (record { files = h.0; trace = left; out = taken }, record { loads = loads; stores = h.1; reads = reads; writes = writes }))
-stores-cut due before after o (Failed Memory) is left taken loads reads writes h =
-    (inr (o, is, inl (record { files = h.0; trace = left; out = taken })), record { loads = loads; stores = h.1; reads = reads; writes = writes })
+stores-cut due before after o (Refused cause) is some left taken loads reads writes h = absurd h
+stores-cut due before after o (Failed Read) is some left taken loads reads writes h = absurd h
+stores-cut due before after o (Failed Write) is some left taken loads reads writes h =
+    (o, is, inl (record { some = some; files = h.0; trace = left; out = taken }, record { loads = loads; stores = h.1; reads = reads; writes = writes }))
+stores-cut due before after o (Failed Memory) is some left taken loads reads writes h =
+    (inr (o, is, inl (record { some = some; files = h.0; trace = left; out = taken })), record { loads = loads; stores = h.1; reads = reads; writes = writes })
 
 pub printed-now : (due : Outcome → Type 0) (before after : Outside) (status : ℕ) (text : List ℕ) (r : Result Ended Stop) → due (printed status text) → KeepsFiles before.files after.files → Keeps before.left after.left → after.loads ≡ before.loads → after.stores ≡ before.stores → after.reads ≡ before.reads →
     IsPrinted status text before.taken after.taken before.writes after.writes r → EndsAs due before after r

@@ -4,6 +4,7 @@ pub mod Ending
 pub mod Analyses
 pub mod Appended
 pub mod OneCase
+pub mod GoodRun
 pub mod Stopped
 pub mod Limits
 pub mod Built

@@ -43,7 +43,7 @@ use Rattle.codegen_link.specs.declared.options.Options.{Options}
 use Rattle.command_words.specs.declared.options.Policy.{Policy as RunOptions}
 use Rattle.capriccio_cli.specs.BuildsFiles.{Builds, BuildsProgram, HasFittingCode, IsUnbuilt, built}
 use Rattle.capriccio_cli.specs.Runs.{RunsOn, IsRunPolicy, Serves, ServesProgram, Runs, RunsBytes, RunsPair, setup_of}
-use Rattle.capriccio_cli.specs.Due.{Does, IsDue, sizes_of}
+use Rattle.capriccio_cli.specs.Due.{Does, IsDue, IsUnlisted, sizes_of}
 use Rattle.capriccio_cli.specs.Done.{Outside, IsRisen, IsDone, NoFault, IsExact}
 use Rattle.c_scope.proofs.SourceTexts.{one_program, one_source_error, never}
 use Rattle.capriccio_cli.proofs.OneBuild.{plans-are-one, words-are-one, texts-are-one}
@@ -283,13 +283,20 @@ request-case (Run source i c policy) words f trace before a b asked told left h 
     (subst (λ bytes. P (Some f) bytes a) left (subst (λ files. P files before.left a) told h)) (subst (λ bytes. P (Some f) bytes b) left (subst (λ files. P files before.left b) told k))
 request-case (Demo number) words f trace before a b asked told left h k = alike a b (refusal cause.NotBuilt) h k
 
+unlisted-one : (words : List (List ℕ)) (a b : Cause) → IsUnlisted words a → IsUnlisted words b → a ≡ b
+unlisted-one words a b h k =
+    ⊎_elim
+    (λ x. ⊎_elim (λ y. x.1 ∙ sym y.1) (λ y. absurd (y.0 x.0)) k)
+    (λ x. ⊎_elim (λ y. absurd (x.0 y.0)) (λ y. x.1 ∙ sym y.1) k)
+    h
+
 pub due-case : (words : List (List ℕ)) (f : Files) (trace : List ℕ) (before : Outside) (a b : Outcome) → before.files ≡ Some f → before.left ≡ Some trace → IsDue words before a → IsDue words before b → a ≡ b
 due-case words f trace before a b told left h k =
     ⊎_elim
     (λ x. ⊎_elim
     (λ y. request-case y.0 words f trace before a b y.1 told left (subst (λ (r : Request). Does r before a) (one_request words x.0 y.0 x.1 y.1) x.2) y.2)
     (λ y. absurd (y.0 x.0 x.1)) k)
-    (λ x. ⊎_elim (λ y. absurd (x.0 y.0 y.1)) (λ y. alike a b (refusal cause.Usage) x.1 y.1) k)
+    (λ x. ⊎_elim (λ y. absurd (x.0 y.0 y.1)) (λ y. alike a b (refusal y.1) (x.3 ∙ ap (λ (why : Cause). refusal why) (unlisted-one words x.1 y.1 x.2 y.2)) y.3) k)
     h
 
 -- Exactly there.

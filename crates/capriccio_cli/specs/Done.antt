@@ -24,6 +24,11 @@ pub record Outside : Type 0 where
   pub taken : Option (List ℕ)
   pub writes : ℕ
 
+-- what these objects tell of themselves, each by what it tells
+abbrev pub outside_by : {F S K : Type 0} → (files : F → Option Files) → (loads stores : F → ℕ) → (left : S → Option (List ℕ)) → (reads : S → ℕ) → (taken : K → Option (List ℕ)) → (writes : K → ℕ) → F → S → K → Outside
+outside_by files loads stores left reads taken writes shelf trace out =
+    record { files = files shelf; loads = loads shelf; stores = stores shelf; left = left trace; reads = reads trace; taken = taken out; writes = writes out }
+
 -- Files.
 
 -- a file was stored: it holds the bytes, and the others are as they were
@@ -122,6 +127,7 @@ pub record IsWhole (outcome : Outcome) (before after : Outside) : Type 0 where
 
 -- a store was cut short, before the output took anything
 pub record IsCutInStores (outcome : Outcome) (before after : Outside) : Type 0 where
+  pub some : outcome.stores ≢ []
   pub files : WhereTold (AreCutShort outcome.stores) before.files after.files
   pub trace : Keeps before.left after.left
   pub out : Keeps before.taken after.taken

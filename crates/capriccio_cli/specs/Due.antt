@@ -1,9 +1,10 @@
 -- What is due for the words, the files and the trace: the command as a whole.
-use Rattle.std.specs.Prelude.{ℕ, ◌≡◌, ◌⊎◌, List, Option}
+use Rattle.std.specs.Prelude.{ℕ, ◌≡◌, ◌⊎◌, List, [], ◌∷◌, codes, Option}
 use Rattle.cap_io.specs.Files.{Files}
 use Rattle.codegen_link.specs.declared.options.Options.{Options}
 use Rattle.command_words.specs.WordList.{IsWordList, Request, Serve, Run, Build, Check, Graph, Demo}
 use Rattle.command_words.specs.declared.options.Placement.{Placement}
+use Rattle.capriccio_cli.specs.declared.stops.Cause.{Cause}
 use Rattle.capriccio_cli.specs.declared.stops.Cause.TheVariants as cause
 use Rattle.capriccio_cli.specs.Outcome.{Outcome}
 use Rattle.capriccio_cli.specs.CauseLines.{refusal}
@@ -26,8 +27,17 @@ Does (Check source image certificate) before = Checks before.files source image 
 Does (Graph source placement) before = Graphs before.files source placement.max_path
 Does (Demo number) before = λ outcome. outcome ≡ refusal cause.NotBuilt
 
+-- the words begin with `demo`
+abbrev pub BeginWithDemo : List (List ℕ) → Type 0
+BeginWithDemo [] = ⊥
+BeginWithDemo (first ∷ rest) = first ≡ codes "demo"
+
+-- why words that are no word list are refused: of `demo` nothing is built yet
+abbrev pub IsUnlisted : List (List ℕ) → Cause → Type 0
+IsUnlisted words why = (BeginWithDemo words × (why ≡ cause.NotBuilt)) ⊎ (¬ BeginWithDemo words × (why ≡ cause.Usage))
+
 -- what the words do: what they ask for, or a refusal where they are no word list
 abbrev pub IsDue : List (List ℕ) → Outside → Outcome → Type 0
 IsDue words before outcome =
     ((request : Request) × IsWordList words request × Does request before outcome)
-    ⊎ (((request : Request) → ¬ IsWordList words request) × (outcome ≡ refusal cause.Usage))
+    ⊎ (((request : Request) → ¬ IsWordList words request) × (why : Cause) × IsUnlisted words why × (outcome ≡ refusal why))

@@ -1,8 +1,8 @@
 // The program as a whole, over the objects that it is handed.
 ghost use Rattle.std.specs.Prelude.{map};
 ghost use Rattle.std.specs.String.{string_bytes};
-ghost use Rattle.capriccio_cli.specs.Done.{Outside};
-ghost use Rattle.capriccio_cli.specs.Headline.{IsAnswer};
+ghost use Rattle.capriccio_cli.specs.Done.{outside_by};
+ghost use Rattle.capriccio_cli.specs.Headline.{IsAnswer, WasGood};
 
 use crate::commands::do_words;
 use crate::reports::finish;
@@ -22,9 +22,10 @@ pub fn capriccio<F: Shelf, S: Source, K: Sink, E: Sink>(
     err: &mut E,
     last: &mut Option<World>,
 ) -> u8
-    ensures answer { let before : Outside = record { files = F.files shelf.old; loads = F.load_faults shelf.old; stores = F.store_faults shelf.old; left = S.left trace.old; reads = S.faults trace.old; taken = K.taken out.old; writes = K.faults out.old } in
-        let after : Outside = record { files = F.files shelf.new; loads = F.load_faults shelf.new; stores = F.store_faults shelf.new; left = S.left trace.new; reads = S.faults trace.new; taken = K.taken out.new; writes = K.faults out.new } in
-        IsAnswer (map (λ word. string_bytes word) words.now.items) before after (E.taken err.old) (E.taken err.new) (E.faults err.old) (E.faults err.new) last.new result }
+    ensures answer { let outside = outside_by F.files F.load_faults F.store_faults S.left S.faults K.taken K.faults in
+        IsAnswer (map (λ word. string_bytes word) words.now.items) (outside shelf.old trace.old out.old) (outside shelf.new trace.new out.new) (E.taken err.old) (E.taken err.new) (E.faults err.old) (E.faults err.new) last.new result }
+    ensures good { let outside = outside_by F.files F.load_faults F.store_faults S.left S.faults K.taken K.faults in
+        WasGood (outside shelf.old trace.old out.old) (outside shelf.new trace.new out.new) last.new result }
 {
     match do_words(alloc, words, shelf, trace, out) {
         Ok(

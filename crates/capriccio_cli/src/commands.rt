@@ -5,8 +5,8 @@ ghost use Rattle.command_words.specs.WordList.{IsWordList, request_of};
 ghost use Rattle.codegen_link.specs.Plans.{AreInRange};
 ghost use Rattle.capriccio_cli.specs.BuildsFiles.{Builds};
 ghost use Rattle.capriccio_cli.specs.Checks.{Checks};
-ghost use Rattle.capriccio_cli.specs.Done.{Outside};
-ghost use Rattle.capriccio_cli.specs.Due.{Does, IsDue, sizes_of};
+ghost use Rattle.capriccio_cli.specs.Done.{Outside, outside_by};
+ghost use Rattle.capriccio_cli.specs.Due.{Does, IsDue, IsUnlisted, sizes_of};
 ghost use Rattle.capriccio_cli.specs.Graphs.{Graphs};
 ghost use Rattle.capriccio_cli.specs.Runs.{Serves, Runs, IsRunPolicy};
 ghost use Rattle.capriccio_cli.specs.Steps.{EndsAs};
@@ -33,14 +33,25 @@ pub(crate) fn do_words<F: Shelf, S: Source, K: Sink>(
     trace: &mut S,
     out: &mut K,
 ) -> Result<Ended, Stop>
-    ensures { let before : Outside = record { files = F.files shelf.old; loads = F.load_faults shelf.old; stores = F.store_faults shelf.old; left = S.left trace.old; reads = S.faults trace.old; taken = K.taken out.old; writes = K.faults out.old } in
-        let after : Outside = record { files = F.files shelf.new; loads = F.load_faults shelf.new; stores = F.store_faults shelf.new; left = S.left trace.new; reads = S.faults trace.new; taken = K.taken out.new; writes = K.faults out.new } in
+    ensures { let outside = outside_by F.files F.load_faults F.store_faults S.left S.faults K.taken K.faults in
+        let before : Outside = outside shelf.old trace.old out.old in
+        let after : Outside = outside shelf.new trace.new out.new in
         EndsAs (IsDue (map (λ word. string_bytes word) words.now.items) before) before after result }
 {
     match read_words(alloc, words) {
         Ok(command) => do_command(alloc, shelf, trace, out, command),
-        Err(WordsError::NotWords) => Err(Stop::Refused(Cause::Usage)),
+        Err(WordsError::NotWords) => Err(Stop::Refused(unlisted(words.as_slice()))),
         Err(WordsError::Memory) => Err(Stop::Failed(Fault::Memory)),
+    }
+}
+
+/// Why words that are no word list are refused.
+fn unlisted(words: &[String]) -> Cause
+    ensures { IsUnlisted (map (λ word. string_bytes word) words.now) result }
+{
+    match words {
+        [first, ..] if first.as_str() == "demo" => Cause::NotBuilt,
+        _ => Cause::Usage,
     }
 }
 
@@ -53,8 +64,9 @@ fn do_command<F: Shelf, S: Source, K: Sink>(
     command: Command,
 ) -> Result<Ended, Stop>
     requires { (words : List (List ℕ)) × IsWordList words (request_of command) }
-    ensures { let before : Outside = record { files = F.files shelf.old; loads = F.load_faults shelf.old; stores = F.store_faults shelf.old; left = S.left trace.old; reads = S.faults trace.old; taken = K.taken out.old; writes = K.faults out.old } in
-        let after : Outside = record { files = F.files shelf.new; loads = F.load_faults shelf.new; stores = F.store_faults shelf.new; left = S.left trace.new; reads = S.faults trace.new; taken = K.taken out.new; writes = K.faults out.new } in
+    ensures { let outside = outside_by F.files F.load_faults F.store_faults S.left S.faults K.taken K.faults in
+        let before : Outside = outside shelf.old trace.old out.old in
+        let after : Outside = outside shelf.new trace.new out.new in
         EndsAs (Does (request_of command.entry) before) before after result }
 {
     match command {
@@ -143,8 +155,9 @@ fn serve<F: Shelf, S: Source, K: Sink>(
     requires sizes { AreInRange sizes }
     requires policy { IsRunPolicy policy }
     requires pool { policy.chunks * sizes.chunk ≤ 67108864 }
-    ensures { let before : Outside = record { files = F.files shelf.old; loads = F.load_faults shelf.old; stores = F.store_faults shelf.old; left = S.left trace.old; reads = S.faults trace.old; taken = K.taken out.old; writes = K.faults out.old } in
-        let after : Outside = record { files = F.files shelf.new; loads = F.load_faults shelf.new; stores = F.store_faults shelf.new; left = S.left trace.new; reads = S.faults trace.new; taken = K.taken out.new; writes = K.faults out.new } in
+    ensures { let outside = outside_by F.files F.load_faults F.store_faults S.left S.faults K.taken K.faults in
+        let before : Outside = outside shelf.old trace.old out.old in
+        let after : Outside = outside shelf.new trace.new out.new in
         EndsAs (Serves before.files before.left source.now sizes policy) before after result }
 {
     let accepted = accept_source(alloc, shelf, source, sizes)?;
@@ -163,8 +176,9 @@ fn run_pair<F: Shelf, S: Source, K: Sink>(
     policy: Policy,
 ) -> Result<Ended, Stop>
     requires { IsRunPolicy policy }
-    ensures { let before : Outside = record { files = F.files shelf.old; loads = F.load_faults shelf.old; stores = F.store_faults shelf.old; left = S.left trace.old; reads = S.faults trace.old; taken = K.taken out.old; writes = K.faults out.old } in
-        let after : Outside = record { files = F.files shelf.new; loads = F.load_faults shelf.new; stores = F.store_faults shelf.new; left = S.left trace.new; reads = S.faults trace.new; taken = K.taken out.new; writes = K.faults out.new } in
+    ensures { let outside = outside_by F.files F.load_faults F.store_faults S.left S.faults K.taken K.faults in
+        let before : Outside = outside shelf.old trace.old out.old in
+        let after : Outside = outside shelf.new trace.new out.new in
         EndsAs (Runs before.files before.left source.now image.now certificate.now policy) before after result }
 {
     let accepted = accept_files(alloc, shelf, source, image, certificate, policy)?;

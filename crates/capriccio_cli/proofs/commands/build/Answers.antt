@@ -1,4 +1,4 @@
-use Rattle.std.proofs.Common.{◌≡◌, ◌∙◌, ℕ, List, [], ◌∷◌, Err, refl, subst}
+use Rattle.std.proofs.Common.{◌≡◌, ◌≢◌, ◌∙◌, ℕ, List, [], ◌∷◌, Err, refl, subst}
 use Rattle.std.proofs.lemmas.Result.{err_from_is_err_and}
 use Rattle.capriccio_cli.specs.BuildsFiles.{Builds, stored_products}
 use Rattle.capriccio_cli.specs.Done.{Outside, WhereTold, AreStored}
@@ -24,13 +24,14 @@ returns-in_err-store_both g c = λ left reads.
     let outcome = stored_products a.image.now a.certificate.now c.in_ok-products.products in
     let first = c.in_ok-products.ensures in
     let is = first.answer a.image.now a.certificate.now in
+    let some : outcome.stores ≢ [] = λ none. cc in
     let stop = c.in_err-store_both.field-0.0 in
     let step = c.in_err-store_both.ensures in
     let Stores : List ℕ → List ℕ → Type 0 = λ x y. AreStores ((a.image.now, x) ∷ (a.certificate.now, y) ∷ []) (F.files loaded) (F.files shelf) (F.store_faults loaded) (F.store_faults shelf) (Err stop) in
     let stored : Stores c.as_slice.result.now c.as_slice-2.result.now = step.stored in
     let half = subst (λ x. Stores x c.as_slice-2.result.now) c.as_slice.ensures.value stored in
     let stores = subst (λ y. Stores c.in_ok-products.products.image.items y) c.as_slice-2.ensures.value half in
-    rw (p.1, p.2) (stores-cut (Builds before.files a.source.now a.image.now a.certificate.now a.options) before after outcome stop is.0 (keeps-itself left) (keeps-itself before.taken) (step.loads ∙ is.1) refl refl
+    rw (p.1, p.2) (stores-cut (Builds before.files a.source.now a.image.now a.certificate.now a.options) before after outcome stop is.0 some (keeps-itself left) (keeps-itself before.taken) (step.loads ∙ is.1) refl refl
     (stores-after outcome.stores before.files (F.files loaded) after.files before.stores (F.store_faults loaded) after.stores (Err stop) first.files first.stores stores))
 
 pub returns : goal.returns
