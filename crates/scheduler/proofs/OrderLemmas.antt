@@ -3,7 +3,7 @@ use Rattle.std.proofs.Common.{◌≡◌, ◌≢◌, ℕ, true, false, ℤ, pos, 
 use Rattle.std.proofs.lemmas.Bool.Decides.{nat_tests}
 use Rattle.scheduler.specs.Scores.{ranks_below, comes_before}
 
-irrefl : (s : ℤ) (l n : ℕ) → ranks_below s l n s l n ≡ false
+pub irrefl : (s : ℤ) (l n : ℕ) → ranks_below s l n s l n ≡ false
 irrefl (pos s) l n = grind (arith, nat_tests)
 irrefl (negsuc s) l n = grind (arith, nat_tests)
 

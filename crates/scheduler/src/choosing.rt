@@ -11,6 +11,9 @@ use blocking_graph::Graph;
 use cap_word::Ready;
 use resource_monitor::{Measure, Monitor};
 
+// A node doesn't come before itself, and its score isn't needed for that. So where many threads of one node are ready, a choice costs
+// no score for each.
+#[tactic(auto, using(crate::proofs::OrderLemmas::irrefl))]
 fn best_is_before<C: Measure>(
     lasts: &[u64],
     graph: &Graph,
@@ -23,6 +26,7 @@ fn best_is_before<C: Measure>(
     ensures { result ≡ best_comes_before (score monitor.now graph.now.edges) (slice_index lasts.now) best node }
 {
     match best {
+        Some(choice) if choice.node == node => false,
         Some(choice) => is_before(lasts, graph, monitor, choice.node, node),
         None => false,
     }
