@@ -22,7 +22,8 @@ use Rattle.capriccio_cli.specs.Outcome.{Outcome}
 use Rattle.capriccio_cli.specs.BuildsFiles.{HasFittingCode}
 use Rattle.capriccio_cli.specs.Graphs.{HasFittingFrames}
 use Rattle.capriccio_cli.specs.Loads.{AfterLoad, AfterThree}
-use Rattle.capriccio_cli.specs.Runs.{LeadsOn, RunsOn, RunsPair, ServesProgram, setup_of}
+use Rattle.capriccio_cli.specs.Runs.{RunsOn, RunsPair, ServesProgram, setup_of}
+use Rattle.capriccio_cli.specs.RunSteps.{LeadsOn}
 use Rattle.capriccio_cli.specs.Steps.{IsStop, IsShelfStop, IsUnaccepted, IsLoaded, AreLoaded}
 use Rattle.capriccio_cli.proofs.Follows.{loaded, of-three, stop-on-shelf}
 

@@ -19,7 +19,8 @@ use Rattle.stack_certificate.specs.Certificates.{fact_at}
 use Rattle.thread_core.specs.Making.{IsPolicy, IsStart}
 use Rattle.thread_core.specs.Worlds.{Held}
 use Rattle.capriccio_cli.specs.Done.{IsWorldOf}
-use Rattle.capriccio_cli.specs.Runs.{IsAccepted, IsMade, IsRunPolicy, setup_in, world_policy_of}
+use Rattle.capriccio_cli.specs.Runs.{IsAccepted}
+use Rattle.capriccio_cli.specs.RunSteps.{IsMade, IsRunPolicy, setup_in, world_policy_of}
 
 -- a pool that a chunk is taken from keeps its count
 taken-count : (p : Pool) (need : ℕ) (ids : List ℕ) (taken : Taken) → taken_of p need ids ≡ Some taken → taken.pool.count ≡ p.count

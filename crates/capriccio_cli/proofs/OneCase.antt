@@ -42,7 +42,8 @@ use Rattle.capriccio_cli.specs.Checks.{Checks, ChecksBytes, ChecksPair, IsVerdic
 use Rattle.codegen_link.specs.declared.options.Options.{Options}
 use Rattle.command_words.specs.declared.options.Policy.{Policy as RunOptions}
 use Rattle.capriccio_cli.specs.BuildsFiles.{Builds, BuildsProgram, HasFittingCode, IsUnbuilt, built}
-use Rattle.capriccio_cli.specs.Runs.{RunsOn, IsRunPolicy, Serves, ServesProgram, Runs, RunsBytes, RunsPair, setup_of}
+use Rattle.capriccio_cli.specs.Runs.{RunsOn, Serves, ServesProgram, Runs, RunsBytes, RunsPair, setup_of}
+use Rattle.capriccio_cli.specs.RunSteps.{IsRunPolicy}
 use Rattle.capriccio_cli.specs.Due.{Does, IsDue, IsUnlisted, sizes_of}
 use Rattle.capriccio_cli.specs.Done.{Outside, IsRisen, IsDone, NoFault, IsExact}
 use Rattle.c_scope.proofs.SourceTexts.{one_program, one_source_error, never}

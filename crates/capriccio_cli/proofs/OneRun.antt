@@ -13,7 +13,8 @@ use Rattle.one_log.specs.One.{HasOneLog}
 use Rattle.one_log.proofs.Starting.{one_log}
 use Rattle.segment_run.proofs.Forming.{areas_formed}
 use Rattle.capriccio_cli.specs.Outcome.{Outcome}
-use Rattle.capriccio_cli.specs.Runs.{IsAccepted, IsRun, IsRunPolicy, RunsOn, run_outcome, setup_of}
+use Rattle.capriccio_cli.specs.Runs.{IsAccepted, IsRun, RunsOn, run_outcome, setup_of}
+use Rattle.capriccio_cli.specs.RunSteps.{IsRunPolicy}
 
 fours : (bytes : ℕ) → bytes % 16 ≡ 0 → 4 * (bytes / 4) ≡ bytes
 fours bytes h = omega arith

@@ -8,7 +8,7 @@ use Rattle.command_words.specs.WordList.{IsWordList, Serve, Run, Build}
 use Rattle.command_words.specs.declared.options.Placement.{Placement}
 use Rattle.command_words.specs.declared.options.Policy.{Policy}
 use Rattle.capriccio_cli.specs.Due.{sizes_of}
-use Rattle.capriccio_cli.specs.Runs.{IsRunPolicy}
+use Rattle.capriccio_cli.specs.RunSteps.{IsRunPolicy}
 
 in-range : (given : List ℕ → Option (List ℕ)) (placement : Placement) → IsPlacement given placement → AreInRange (sizes_of placement)
 in-range given placement h =

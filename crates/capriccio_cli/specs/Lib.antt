@@ -10,4 +10,5 @@ pub mod Due
 pub mod Done
 pub mod Steps
 pub mod Runs
+pub mod RunSteps
 pub mod Headline

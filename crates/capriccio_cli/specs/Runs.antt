@@ -1,5 +1,5 @@
 -- What the commands `serve` and `run` do: the run of a checked pair on the trace.
-use Rattle.std.specs.Prelude.{ℕ, ◌≡◌, ◌*◌, ◌<◌, ◌≤◌, ◌⊎◌, List, [], ◌∷◌, length, replicate, slice_index, Option, IfSome, Some}
+use Rattle.std.specs.Prelude.{ℕ, ◌≡◌, ◌*◌, ◌<◌, ◌≤◌, ◌⊎◌, List, [], replicate, Option, IfSome, Some}
 use Rattle.c_tree.specs.Trees.{ProgramTree}
 use Rattle.c_tree.specs.WellScoped.{IsWellScoped}
 use Rattle.c_lower.specs.ProgramCode.{lowered}
@@ -20,11 +20,6 @@ use Rattle.schedule_log.specs.declared.entries.StopLine.{StopLine}
 use Rattle.stack_build.specs.Builds.{IsLaidOut}
 use Rattle.stack_image.specs.declared.images.Image.{Image}
 use Rattle.stack_certificate.specs.declared.certificates.Certificate.{Certificate}
-use Rattle.certificate_check.specs.Accepting.{accepted_tree}
-use Rattle.certificate_check.specs.Acceptance.{Acceptance}
-use Rattle.thread_core.specs.Making.{IsPolicy, IsStart}
-use Rattle.thread_core.specs.Worlds.{Held}
-use Rattle.thread_core.specs.declared.policy.WorldPolicy.{WorldPolicy}
 use Rattle.capriccio_cli.specs.declared.documents.Document.TheVariants as document
 use Rattle.capriccio_cli.specs.declared.stops.Cause.TheVariants as cause
 use Rattle.capriccio_cli.specs.CauseLines.{refusal}
@@ -56,17 +51,6 @@ policy_of options = record {
   high = options.high;
   low = options.low;
 }
-
--- the options of a run are in their ranges
-pub record IsRunPolicy (options : RunOptions) : Type 0 where
-  pub some_chunks : 1 ≤ options.chunks
-  pub chunks : options.chunks ≤ 65536
-  pub fuel : options.fuel ≤ 1000000000
-  pub some_backlog : 1 ≤ options.backlog
-  pub backlog : options.backlog ≤ 4096
-  pub caps : (r : ℕ) → 0 < r → r < 8 → slice_index options.caps r ≤ 1000000
-  pub high : options.high ≤ 1000
-  pub low : options.low < options.high
 
 abbrev pub setup_of : ProgramTree → Image → Certificate → RunOptions → Setup
 setup_of program image certificate options = record { program = program; image = image; certificate = certificate; policy = policy_of options }
@@ -127,23 +111,3 @@ RunsBytes trace policy source image certificate =
 
 abbrev pub Runs : Option Files → Option (List ℕ) → (source_name image_name certificate_name : List ℕ) → RunOptions → Outcome → Type 0
 Runs files trace source_name image_name certificate_name policy = AfterThree files source_name image_name certificate_name (RunsBytes trace policy)
-
--- ---- steps
-
--- what the run of an accepted pair does under these options is due
-abbrev pub LeadsOn : Option (List ℕ) → RunOptions → Acceptance → (Outcome → Type 0) → Type 0
-LeadsOn trace policy accepted due =
-    (outcome : Outcome) → RunsOn trace (setup_of (accepted_tree accepted) accepted.image accepted.certificate policy) outcome → due outcome
-
--- what a world is given of the options
-abbrev pub world_policy_of : RunOptions → WorldPolicy
-world_policy_of options = record { chunks = options.chunks; backlog = options.backlog; caps = options.caps }
-
--- a world that was just made under these options
-pub record IsMade (options : RunOptions) (held : Held) : Type 0 where
-  pub ranges : IsPolicy held.accepted (world_policy_of options) options.fuel
-  pub made : IsStart held.accepted (world_policy_of options) options.fuel held
-  pub valid : IsValid (lowered (accepted_tree held.accepted)) held.accepted.image held.accepted.certificate
-
-abbrev pub setup_in : Held → RunOptions → Setup
-setup_in held options = setup_of (accepted_tree held.accepted) held.accepted.image held.accepted.certificate options

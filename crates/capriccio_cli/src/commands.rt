@@ -8,7 +8,8 @@ ghost use Rattle.capriccio_cli.specs.Checks.{Checks};
 ghost use Rattle.capriccio_cli.specs.Done.{Outside, outside_by};
 ghost use Rattle.capriccio_cli.specs.Due.{Does, IsDue, IsUnlisted, sizes_of};
 ghost use Rattle.capriccio_cli.specs.Graphs.{Graphs};
-ghost use Rattle.capriccio_cli.specs.Runs.{Serves, Runs, IsRunPolicy};
+ghost use Rattle.capriccio_cli.specs.Runs.{Serves, Runs};
+ghost use Rattle.capriccio_cli.specs.RunSteps.{IsRunPolicy};
 ghost use Rattle.capriccio_cli.specs.Steps.{EndsAs};
 
 use crate::build_command::build_source;

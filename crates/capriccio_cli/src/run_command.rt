@@ -6,7 +6,8 @@ ghost use Rattle.certificate_check.specs.Accepting.{accepted_tree};
 ghost use Rattle.codegen_link.specs.Plans.{AreInRange};
 ghost use Rattle.command_words.specs.declared.options.Policy.{Policy as RunOptions};
 ghost use Rattle.capriccio_cli.specs.Loads.{AfterSource};
-ghost use Rattle.capriccio_cli.specs.Runs.{LeadsOn, Serves, ServesProgram, Runs, RunsBytes, RunsPair};
+ghost use Rattle.capriccio_cli.specs.Runs.{Serves, ServesProgram, Runs, RunsBytes, RunsPair};
+ghost use Rattle.capriccio_cli.specs.RunSteps.{LeadsOn};
 ghost use Rattle.capriccio_cli.specs.Steps.{IsStop, IsShelfStop, IsUnaccepted};
 
 use crate::documents::Document;

@@ -3,7 +3,8 @@ ghost use Rattle.std.specs.Prelude.{◌≡◌, ◌≤◌, ◌*◌, ◌∷◌, So
 ghost use Rattle.certificate_check.specs.Accepting.{accepted_tree};
 ghost use Rattle.resource_monitor.specs.Pressure.{AnswersCurve, IsReading, curve_value};
 ghost use Rattle.resource_monitor.specs.declared.curves.Curve.TheVariants.{Linear};
-ghost use Rattle.capriccio_cli.specs.Runs.{IsRunPolicy, IsMade, RunsOn, setup_of, setup_in, world_policy_of};
+ghost use Rattle.capriccio_cli.specs.Runs.{RunsOn, setup_of};
+ghost use Rattle.capriccio_cli.specs.RunSteps.{IsRunPolicy, IsMade, setup_in, world_policy_of};
 ghost use Rattle.capriccio_cli.specs.Steps.{IsClosed, RunEnds};
 
 use crate::faults::Fault;

@@ -4,7 +4,8 @@ use Rattle.certificate_check.specs.Accepting.{accepted_tree}
 use Rattle.certificate_check.specs.Acceptance.{Acceptance}
 use Rattle.certificate_rules.specs.Validity.{IsValid}
 use Rattle.thread_core.specs.Making.{IsPolicy}
-use Rattle.capriccio_cli.specs.Runs.{IsMade, RunsOn, setup_of, world_policy_of}
+use Rattle.capriccio_cli.specs.Runs.{RunsOn, setup_of}
+use Rattle.capriccio_cli.specs.RunSteps.{IsMade, world_policy_of}
 use Rattle.capriccio_cli.specs.Steps.{RunEnds}
 use Rattle.capriccio_cli.proofs.Making.{policy-ranges, made-world}
 use Rattle.capriccio_cli.proofs.running.run_accepted.Goals as goal

@@ -1,6 +1,7 @@
 use Rattle.std.proofs.Common.{refl}
 use Rattle.capriccio_cli.specs.Done.{Outside}
-use Rattle.capriccio_cli.specs.Runs.{RunsOn, setup_in}
+use Rattle.capriccio_cli.specs.Runs.{RunsOn}
+use Rattle.capriccio_cli.specs.RunSteps.{setup_in}
 use Rattle.capriccio_cli.proofs.Ending.{memory-before}
 use Rattle.capriccio_cli.proofs.Making.{at-start, made-accepted, world-of}
 use Rattle.capriccio_cli.proofs.Stopped.{closed}
