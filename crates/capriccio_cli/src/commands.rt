@@ -51,8 +51,11 @@ fn unlisted(words: &[String]) -> Cause
     ensures { IsUnlisted (map (λ word. string_bytes word) words.now) result }
 {
     match words {
-        [first, ..] if first.as_str() == "demo" => Cause::NotBuilt,
-        _ => Cause::Usage,
+        [first, ..] => match first.as_str() {
+            "demo" => Cause::NotBuilt,
+            _ => Cause::Usage,
+        },
+        [] => Cause::Usage,
     }
 }
 

@@ -347,7 +347,12 @@ fn words_that_are_refused(rt: HostRuntime) -> Result<(), Fail> {
         b"absent: source\n",
     );
     assert!(rt; is_row(rt.alloc(), &absent)?);
-    let unbuilt: [&[&str]; 4] = [&["demo", "1"], &["demo", "0"], &["demo"], &["demo", "1", "2"]];
+    let unbuilt: [&[&str]; 4] = [
+        &["demo", "1"],
+        &["demo", "0"],
+        &["demo"],
+        &["demo", "1", "2"],
+    ];
     for words in unbuilt {
         let count = words.len();
         let row: Row = (words, PUT_SEVEN, NONE, 1, NONE, b"usage: not built\n");
