@@ -1,9 +1,8 @@
 -- What an analysis says of its program.
-use Rattle.std.proofs.Common.{◌≡◌, inl, inr, ℕ, zero, suc, ◌+◌, ◌<◌, ◌≤◌, Bool, true, false, ◌||◌, List, [], ◌∷◌, ◌++◌, length, map, filter, get_or, refl, sym, ap, subst, ◌∙◌, arith}
-use Rattle.std.specs.Prelude.{Option, Some, None, option_map, slice_index, slice_index_or}
-use Rattle.std.specs.List.{All, AllByRecursion, filter_map, cons_option}
-use Rattle.std.specs.List.Sorted.{IsStrictlyIncreasing, IsPermutation}
-use Rattle.std.proofs.lemmas.Bool.Decides.{nat_tests}
+use Rattle.std.proofs.Common.{◌≡◌, ℕ, zero, suc, ◌+◌, ◌<◌, List, [], ◌∷◌, ◌++◌, length, map, filter, refl, sym, ap, ◌∙◌, arith}
+use Rattle.std.specs.Prelude.{Option, Some, None, option_map, slice_index_or}
+use Rattle.std.specs.List.{AllByRecursion, filter_map, cons_option}
+use Rattle.std.specs.List.Sorted.{IsStrictlyIncreasing}
 use Rattle.std.proofs.lemmas.List.{length-map}
 use Rattle.std.proofs.lemmas.List.Elements.{All-from_recursion, recursion_from_All}
 use Rattle.std.proofs.lemmas.List.Sorted.{All-permutation}
@@ -13,19 +12,18 @@ use Rattle.c_tree.specs.Views.{function_tree}
 use Rattle.c_lower.specs.ProgramCode.{lowered, lowered_function}
 use Rattle.flat_code.specs.declared.operations.Op.{Op}
 use Rattle.flat_code.specs.declared.functions.FlatFunction.{FlatFunction}
-use Rattle.flat_code.specs.Codes.{FlatCode, function_at}
+use Rattle.flat_code.specs.Codes.{FlatCode}
 use Rattle.flat_code.specs.Weight.{weight_of}
 use Rattle.call_graph.specs.declared.sites.GraphSite.{GraphSite}
 use Rattle.call_graph.specs.FlatCalls.{call_site, call_sites_from}
-use Rattle.call_graph.specs.Graph.{CallGraphState, IsRising}
+use Rattle.call_graph.specs.Graph.{CallGraphState}
 use Rattle.call_graph.specs.Lists.{has}
 use Rattle.call_graph.proofs.ListLemmas.{by_test}
 use Rattle.cycle_break.specs.BackEdges.{back_edges}
 use Rattle.cycle_break.specs.Walk.{whole_walk}
 use Rattle.cycle_break.proofs.SiteLemmas.{rising-filter}
-use Rattle.checkpoint_place.specs.declared.plans.Plan.{Plan}
 use Rattle.checkpoint_place.specs.Refusal.{is_too_large, refusal_from}
-use Rattle.stack_plan.specs.Plans.{IsGraphOf, IsEnough, weights_of}
+use Rattle.stack_plan.specs.Plans.{IsGraphOf, weights_of}
 use Rattle.stack_build.specs.Builds.{frame_refusal}
 use Rattle.stack_build.specs.Refusals.{of_place}
 use Rattle.stack_build.specs.declared.refusals.BuildError.TheVariants.{FrameTooLarge, CodeTooLarge}

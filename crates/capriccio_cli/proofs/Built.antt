@@ -1,5 +1,5 @@
 -- What a build answers, from what it was laid out to.
-use Rattle.std.proofs.Common.{◌≡◌, ◌⊎◌, ℕ, ◌≤◌, List, [], ◌∷◌, Option, Some, None, length, refl, ap, ◌∙◌, inl, inr, ⊎_elim}
+use Rattle.std.proofs.Common.{◌≡◌, ◌⊎◌, ℕ, List, [], ◌∷◌, Some, None, refl, ap, ◌∙◌, inr, ⊎_elim}
 use Rattle.c_tree.specs.Trees.{ProgramTree}
 use Rattle.c_tree.specs.WellScoped.{IsWellScoped}
 use Rattle.c_lower.specs.ProgramCode.{lowered}

@@ -1,7 +1,6 @@
 -- How a command ends, from what its last step did.
-use Rattle.std.proofs.Common.{◌≡◌, ◌≢◌, ℕ, ◌<◌, ◌≤◌, List, [], ◌∷◌, ◌++◌, length, take, Option, Some, None, Result, Ok, Err, refl, sym, ap, ◌∙◌, subst, arith, inl, inr, ⊎_elim}
+use Rattle.std.proofs.Common.{◌≡◌, ◌≢◌, ℕ, List, [], ◌∷◌, Option, Some, None, Result, Ok, Err, refl, sym, ap, ◌∙◌, subst, inl, inr, ⊎_elim}
 use Rattle.std.proofs.lemmas.List.{append-nil}
-use Rattle.std.specs.Prelude.{MatchResult}
 use Rattle.std.specs.Io.KnownBytes.{Keeps, Appends}
 use Rattle.cap_io.specs.Files.{Files, KeepsFiles, KeepsOthers}
 use Rattle.capriccio_cli.specs.declared.stops.Cause.{Cause}
@@ -13,8 +12,7 @@ use Rattle.thread_core.specs.Worlds.{Held}
 use Rattle.capriccio_cli.specs.declared.running.Ended.{Ended}
 use Rattle.capriccio_cli.specs.Outcome.{Outcome, Ran, printed}
 use Rattle.capriccio_cli.specs.CauseLines.{refusal}
-use Rattle.capriccio_cli.specs.FaultLines.{fault_status, fault_line}
-use Rattle.capriccio_cli.specs.Done.{Outside, WhereTold, IsStored, AreStored, IsCutShort, AreCutShort, IsRisen, IsNothing, IsWhole, IsDone, IsExact, IsTold, IsTraceLeft, IsLast, status_of, line_of}
+use Rattle.capriccio_cli.specs.Done.{Outside, WhereTold, AreStored, AreCutShort, IsRisen, IsDone, IsExact, IsTold, IsTraceLeft, IsLast}
 use Rattle.capriccio_cli.specs.Headline.{IsAnswerOf}
 use Rattle.capriccio_cli.specs.Steps.{IsShelfStop, IsPrinted, AreStores, EndsAs, RunEnds, IsFinished}
 

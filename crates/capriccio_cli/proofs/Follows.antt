@@ -1,10 +1,9 @@
 -- What is due with what follows it, from what is due of the step before.
-use Rattle.std.proofs.Common.{◌≡◌, ◌≢◌, ℕ, suc, ◌<◌, ◌≤◌, List, [], ◌∷◌, length, Option, Some, None, Result, Ok, Err, refl, sym, ap, ◌∙◌, subst, arith, inl, inr, ⊎_elim}
+use Rattle.std.proofs.Common.{◌≡◌, ℕ, suc, ◌<◌, List, length, Option, Some, None, Result, Ok, Err, refl, sym, ◌∙◌, subst, arith, inl, inr, ⊎_elim}
 use Rattle.std.specs.Prelude.{IfSome, IsSomeAnd, MatchResult, replicate}
 use Rattle.std.proofs.lemmas.List.{length-replicate}
 use Rattle.cap_io.specs.Files.{Files, KeepsFiles}
 use Rattle.cap_io.specs.Shelves.{Loads}
-use Rattle.cap_io.specs.declared.shelves.ShelfError.{ShelfError}
 use Rattle.cap_io.specs.declared.shelves.ShelfError.TheVariants as shelf
 use Rattle.c_tree.specs.Trees.{ProgramTree}
 use Rattle.stack_image.specs.declared.images.Image.{Image}

@@ -1,5 +1,5 @@
 -- The run was good whose world is handed out.
-use Rattle.std.proofs.Common.{◌≡◌, ◌≢◌, ◌⊎◌, ℕ, List, [], Option, Some, None, Result, Ok, Err, refl, sym, ap, subst, ◌∙◌, ⊎_elim, inl, inr}
+use Rattle.std.proofs.Common.{◌≡◌, ◌⊎◌, ℕ, List, [], Option, Some, None, Ok, Err, refl, ap, subst, ◌∙◌, ⊎_elim, inl, inr}
 use Rattle.std.specs.Io.KnownBytes.{Appends}
 use Rattle.cap_io.specs.Files.{Files}
 use Rattle.c_tree.specs.Trees.{ProgramTree}
@@ -12,15 +12,14 @@ use Rattle.stack_image.specs.declared.images.Image.{Image}
 use Rattle.thread_core.specs.Worlds.{Held}
 use Rattle.capriccio_cli.specs.declared.documents.Document.{Document}
 use Rattle.capriccio_cli.specs.declared.documents.Document.TheVariants as document
-use Rattle.capriccio_cli.specs.declared.faults.Fault.{Fault}
 use Rattle.capriccio_cli.specs.Outcome.{Outcome, Ran}
 use Rattle.capriccio_cli.specs.Loads.{OfFile, AfterLoad, AfterThree, AfterSource, AfterImage, AfterCertificate}
 use Rattle.capriccio_cli.specs.Graphs.{GraphsProgram}
 use Rattle.capriccio_cli.specs.Checks.{ChecksBytes, ChecksPair}
 use Rattle.capriccio_cli.specs.BuildsFiles.{BuildsProgram, IsUnbuilt}
-use Rattle.capriccio_cli.specs.Runs.{RunsOn, ServesProgram, RunsBytes, RunsPair, run_outcome, stop_status}
+use Rattle.capriccio_cli.specs.Runs.{RunsOn, ServesProgram, RunsBytes, RunsPair, run_outcome}
 use Rattle.capriccio_cli.specs.Due.{Does, IsDue, sizes_of}
-use Rattle.capriccio_cli.specs.Done.{Outside, IsTold, IsLast, IsWorldOf}
+use Rattle.capriccio_cli.specs.Done.{Outside, IsTold, IsLast}
 use Rattle.capriccio_cli.specs.Headline.{IsAnswer, RanWell, WasGood}
 
 -- an outcome without a run, or one of a run

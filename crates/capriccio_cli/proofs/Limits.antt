@@ -1,6 +1,6 @@
 -- The pair that is laid out for a program is within the limits of its files.
-use Rattle.std.proofs.Common.{◌≡◌, ℕ, false, zero, suc, ◌+◌, ◌*◌, ◌/◌, ◌<◌, ◌≤◌, List, [], ◌∷◌, ◌++◌, length, length-append, map, get_or, refl, sym, ap, subst, ◌∙◌, arith}
-use Rattle.std.specs.Prelude.{sum, flat_map, replicate, slice_index, slice_index_or, Option, Some, None}
+use Rattle.std.proofs.Common.{◌≡◌, ℕ, false, zero, suc, ◌+◌, ◌*◌, ◌/◌, ◌<◌, ◌≤◌, List, [], ◌∷◌, ◌++◌, length, length-append, map, get_or, refl, ap, subst, ◌∙◌, arith}
+use Rattle.std.specs.Prelude.{sum, flat_map, replicate, Option, Some, None}
 use Rattle.std.specs.List.{AllByRecursion, filter_map, cons_option}
 use Rattle.std.specs.List.Sorted.{IsStrictlyIncreasing}
 use Rattle.std.proofs.lemmas.List.{length-map, length-replicate}
@@ -34,7 +34,7 @@ use Rattle.stack_certificate.specs.Text.{HasFewPlaces, IsAbove, Rises}
 use Rattle.certificate_rules.specs.Validity.{IsValid}
 use Rattle.certificate_rules.proofs.ValidLemmas.{tables_are, globals_are}
 use Rattle.codegen_link.specs.declared.options.Options.{Options}
-use Rattle.codegen_link.specs.Layout.{HasFacts, fact_of, IsCertificateOf}
+use Rattle.codegen_link.specs.Layout.{IsCertificateOf}
 use Rattle.codegen_link.specs.Links.{site_fact, site_facts}
 use Rattle.codegen_link.proofs.FactLemmas.{facts-count, fact-is}
 

@@ -1,25 +1,21 @@
 -- One outcome is due at most: two that are due for the same words, files and trace are one.
-use Rattle.std.proofs.Common.{◌≡◌, ◌⊎◌, ℕ, ◌<◌, ◌≤◌, ◌*◌, List, [], ◌∷◌, ◌++◌, length, Option, Some, None, Result, Ok, Err, refl, sym, ap, subst, ◌∙◌, arith, inl, inr, ⊎_elim}
-use Rattle.std.specs.Prelude.{IfSome}
+use Rattle.std.proofs.Common.{◌≡◌, ◌⊎◌, ℕ, ◌<◌, ◌≤◌, ◌*◌, List, [], ◌∷◌, ◌++◌, Option, Some, None, Result, Ok, Err, refl, sym, ap, subst, ◌∙◌, arith, inl, inr, ⊎_elim}
 use Rattle.std.proofs.lemmas.Bool.{cases_order}
-use Rattle.cap_io.specs.Faults.{Rose, Stayed}
+use Rattle.cap_io.specs.Faults.{Stayed}
 use Rattle.cap_io.specs.Files.{Files}
 use Rattle.c_tree.specs.Trees.{ProgramTree}
 use Rattle.c_tree.specs.WellScoped.{IsWellScoped}
-use Rattle.c_scope.specs.SourceText.{ReadsAs, IsSourceErrorOf}
 use Rattle.c_scope.specs.declared.source_errors.SourceError.{SourceError}
 use Rattle.c_lower.specs.ProgramCode.{lowered}
 use Rattle.flat_code.specs.Codes.{FlatCode}
-use Rattle.certificate_rules.specs.Validity.{IsValid, IsFirstFailure}
+use Rattle.certificate_rules.specs.Validity.{IsFirstFailure}
 use Rattle.stack_image.specs.declared.images.Image.{Image}
 use Rattle.stack_image.specs.declared.refusals.ImageError.{ImageError}
 use Rattle.stack_image.specs.Refusal.{refusal_of}
 use Rattle.stack_image.specs.Reading.{image_of}
-use Rattle.stack_image.specs.Spelling as image
 use Rattle.stack_image.proofs.ReadAgain.{spelling_not_refused, image_of-spelling}
 use Rattle.stack_certificate.specs.declared.certificates.Certificate.{Certificate}
 use Rattle.stack_certificate.specs.FirstRefused.{IsFirstRefused}
-use Rattle.stack_certificate.specs.Text as certificate
 use Rattle.stack_certificate.proofs.Spellings.{spelling_unique, first_refused_unique, spelling_unrefused}
 use Rattle.stack_build.specs.Builds.{frame_refusal, IsLaidOut, IsTooLarge}
 use Rattle.stack_build.specs.declared.refusals.BuildError.TheVariants.{FrameTooLarge, CodeTooLarge}
@@ -35,7 +31,7 @@ use Rattle.capriccio_cli.specs.declared.faults.Fault.TheVariants.{Read, Write, M
 use Rattle.capriccio_cli.specs.declared.check_command.Verdict.{Verdict}
 use Rattle.capriccio_cli.specs.declared.check_command.Verdict.TheVariants.{Accepted, Rejected}
 use Rattle.capriccio_cli.specs.Outcome.{Outcome, refused, printed}
-use Rattle.capriccio_cli.specs.CauseLines.{most_bytes, refusal, frame_words}
+use Rattle.capriccio_cli.specs.CauseLines.{refusal, frame_words}
 use Rattle.capriccio_cli.specs.Loads.{OfFile, AfterLoad, AfterThree, AfterSource, AfterImage, AfterCertificate, IsImageText, IsCertificateText}
 use Rattle.capriccio_cli.specs.Graphs.{Graphs, GraphsProgram, HasFittingFrames, IsFrameRefused, names_of}
 use Rattle.capriccio_cli.specs.Checks.{Checks, ChecksBytes, ChecksPair, IsVerdict, verdict_outcome}
@@ -45,7 +41,7 @@ use Rattle.capriccio_cli.specs.BuildsFiles.{Builds, BuildsProgram, HasFittingCod
 use Rattle.capriccio_cli.specs.Runs.{RunsOn, Serves, ServesProgram, Runs, RunsBytes, RunsPair, setup_of}
 use Rattle.capriccio_cli.specs.RunSteps.{IsRunPolicy}
 use Rattle.capriccio_cli.specs.Due.{Does, IsDue, IsUnlisted, sizes_of}
-use Rattle.capriccio_cli.specs.Done.{Outside, IsRisen, IsDone, NoFault, IsExact}
+use Rattle.capriccio_cli.specs.Done.{Outside, IsRisen, IsDone, IsExact}
 use Rattle.c_scope.proofs.SourceTexts.{one_program, one_source_error, never}
 use Rattle.capriccio_cli.proofs.OneBuild.{plans-are-one, words-are-one, texts-are-one}
 use Rattle.capriccio_cli.proofs.OnePair.{pairs-are-one}

@@ -1,7 +1,6 @@
 -- A program has one call graph and one placement.
-use Rattle.std.proofs.Common.{◌≡◌, inl, inr, ℕ, zero, suc, ◌+◌, ◌<◌, ◌≤◌, max, nat_le, Bool, true, false, ◌||◌, List, [], ◌∷◌, ◌++◌, length, map, filter, get_or, slice_index, refl, sym, ap, subst, ◌∙◌, arith}
+use Rattle.std.proofs.Common.{◌≡◌, ℕ, zero, suc, ◌+◌, ◌<◌, max, nat_le, true, false, List, [], ◌∷◌, length, map, filter, slice_index, refl, sym, ap, ◌∙◌, arith}
 use Rattle.std.specs.List.{AllByRecursion}
-use Rattle.std.proofs.lemmas.Bool.Decides.{nat_tests}
 use Rattle.flat_code.specs.Codes.{FlatCode}
 use Rattle.call_graph.specs.declared.sites.GraphSite.{GraphSite}
 use Rattle.call_graph.specs.Callees.{callees, greatest}
@@ -9,7 +8,7 @@ use Rattle.call_graph.specs.FlatCalls.{call_sites_from}
 use Rattle.call_graph.specs.Graph.{CallGraphState, function_count, IsSiteOf, IsCallGraph, IsRising}
 use Rattle.call_graph.specs.Index.{sites_of}
 use Rattle.call_graph.specs.Lists.{has}
-use Rattle.call_graph.specs.Paths.{Call, IsAmong, IsCallBy}
+use Rattle.call_graph.specs.Paths.{IsAmong}
 use Rattle.call_graph.proofs.ListLemmas.{by_test}
 use Rattle.cycle_break.specs.BackEdges.{back_edges}
 use Rattle.cycle_break.specs.Walk.{whole_walk}
@@ -17,7 +16,7 @@ use Rattle.cycle_break.proofs.NumberLemmas.{true_false, all-map, all-has, has-he
 use Rattle.cycle_break.proofs.RankLemmas.{age, call-falls}
 use Rattle.cycle_break.proofs.SiteLemmas.{among-all, among-filter, IsOwn, all-own}
 use Rattle.checkpoint_place.specs.declared.plans.Plan.{Plan}
-use Rattle.checkpoint_place.specs.Placement.{callee_bound, is_within, bound_over, is_checkpointed, IsPlacement}
+use Rattle.checkpoint_place.specs.Placement.{callee_bound, is_within, is_checkpointed, IsPlacement}
 use Rattle.stack_plan.specs.Plans.{IsGraphOf}
 use Rattle.stack_plan.proofs.SiteLemmas.{has-number}
 use Rattle.capriccio_cli.proofs.RisingLists.{Rises, orders-are-one}

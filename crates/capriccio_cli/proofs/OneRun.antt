@@ -1,10 +1,8 @@
 -- A run of an accepted pair does one thing.
-use Rattle.std.proofs.Common.{◌≡◌, ℕ, ◌+◌, ◌*◌, ◌/◌, ◌%◌, ◌<◌, ◌≤◌, List, Option, Some, refl, sym, ap, subst, ◌∙◌, arith}
+use Rattle.std.proofs.Common.{◌≡◌, ℕ, ◌*◌, ◌/◌, ◌%◌, ◌≤◌, List, Some, refl, sym, ◌∙◌, arith}
 use Rattle.c_lower.specs.ProgramCode.{lowered}
-use Rattle.certificate_rules.specs.Validity.{IsValid}
 use Rattle.chunk_pool.specs.Pool.{IsPool, start_pool}
 use Rattle.chunk_pool.proofs.PoolStart.{IsPool-start_bytes}
-use Rattle.command_words.specs.declared.options.Policy.{Policy as RunOptions}
 use Rattle.lawful_log.specs.Good.{checked_of}
 use Rattle.lawful_log.specs.Setup.{Setup}
 use Rattle.machine_world.specs.Areas.{Areas}
@@ -13,8 +11,7 @@ use Rattle.one_log.specs.One.{HasOneLog}
 use Rattle.one_log.proofs.Starting.{one_log}
 use Rattle.segment_run.proofs.Forming.{areas_formed}
 use Rattle.capriccio_cli.specs.Outcome.{Outcome}
-use Rattle.capriccio_cli.specs.Runs.{IsAccepted, IsRun, RunsOn, run_outcome, setup_of}
-use Rattle.capriccio_cli.specs.RunSteps.{IsRunPolicy}
+use Rattle.capriccio_cli.specs.Runs.{IsAccepted, RunsOn, run_outcome}
 
 fours : (bytes : ℕ) → bytes % 16 ≡ 0 → 4 * (bytes / 4) ≡ bytes
 fours bytes h = omega arith

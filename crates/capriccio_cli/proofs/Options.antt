@@ -1,5 +1,5 @@
 -- What the options of a word list are, by its command.
-use Rattle.std.proofs.Common.{◌≡◌, ℕ, zero, suc, ◌+◌, ◌*◌, ◌-◌, ◌<◌, ◌≤◌, List, [], ◌∷◌, map, replicate, slice_index, Option, Some, None, refl, sym, subst, arith, mul_comm}
+use Rattle.std.proofs.Common.{ℕ, zero, suc, ◌*◌, ◌≤◌, List, [], ◌∷◌, map, replicate, slice_index, Option, Some, None, sym, subst, arith, mul_comm}
 use Rattle.std.specs.Prelude.{◌==◌}
 use Rattle.call_graph.proofs.ListLemmas.{by_test}
 use Rattle.codegen_link.specs.Plans.{AreInRange}

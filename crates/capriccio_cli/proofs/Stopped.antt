@@ -1,7 +1,7 @@
 -- How a command ends whose run came to its stop, or could not go on.
-use Rattle.std.proofs.Common.{◌≡◌, ℕ, ◌≤◌, List, [], Option, Some, None, Result, Ok, Err, refl, sym, ap, ◌∙◌, subst, inl, inr}
+use Rattle.std.proofs.Common.{◌≡◌, ℕ, List, Option, Some, None, Result, Ok, Err, refl, sym, ap, subst, inr}
 use Rattle.std.specs.Prelude.{IfSome}
-use Rattle.cap_io.specs.Files.{Files, KeepsFiles}
+use Rattle.cap_io.specs.Files.{KeepsFiles}
 use Rattle.cap_word.specs.declared.stops.Stop.TheVariants as cut
 use Rattle.lawful_log.specs.Good.{IsGoodLog}
 use Rattle.lawful_log.specs.Lawful.{IsLawfulLog}
@@ -15,9 +15,9 @@ use Rattle.schedule_log.specs.declared.entries.StopLine.{StopLine}
 use Rattle.thread_core.specs.Worlds.{Held}
 use Rattle.capriccio_cli.specs.declared.faults.Fault.TheVariants.{Read, Write, Memory}
 use Rattle.capriccio_cli.specs.declared.stops.Stop.{Stop}
-use Rattle.capriccio_cli.specs.declared.stops.Stop.TheVariants.{Refused, Failed}
+use Rattle.capriccio_cli.specs.declared.stops.Stop.TheVariants.{Failed}
 use Rattle.capriccio_cli.specs.declared.running.Ended.{Ended}
-use Rattle.capriccio_cli.specs.Outcome.{Outcome, Ran}
+use Rattle.capriccio_cli.specs.Outcome.{Outcome}
 use Rattle.capriccio_cli.specs.Done.{Outside, IsWhole, IsCutInOut, NoneCounted, TraceCounted, WriteCounted, IsWorldOf}
 use Rattle.capriccio_cli.specs.Runs.{IsAccepted, IsRun, RunsOn, run_outcome, stop_status}
 use Rattle.capriccio_cli.specs.Steps.{EndsAs, IsClosed}

@@ -1,5 +1,5 @@
 -- What the command `build` does.
-use Rattle.std.specs.Prelude.{ℕ, ◌≡◌, ◌⊎◌, List, [], ◌∷◌, ◌++◌, length, codes, Option, Some, None}
+use Rattle.std.specs.Prelude.{ℕ, ◌≡◌, ◌⊎◌, List, [], ◌∷◌, ◌++◌, length, codes, Option, None}
 use Rattle.cap_io.specs.Files.{Files}
 use Rattle.cap_text.specs.Decimals.{canonical_decimal}
 use Rattle.c_tree.specs.Trees.{ProgramTree}
@@ -16,7 +16,7 @@ use Rattle.capriccio_cli.specs.declared.stops.Cause.TheVariants as cause
 use Rattle.capriccio_cli.specs.declared.documents.Document.TheVariants as document
 use Rattle.capriccio_cli.specs.Outcome.{Outcome}
 use Rattle.capriccio_cli.specs.CauseLines.{refusal}
-use Rattle.capriccio_cli.specs.Loads.{AfterLoad, AfterSource, IsImageText, IsCertificateText}
+use Rattle.capriccio_cli.specs.Loads.{AfterLoad, AfterSource}
 use Rattle.capriccio_cli.specs.Graphs.{IsFrameRefused, HasFittingFrames}
 
 -- `built code W globals G tables T`, with its line feed

@@ -1,7 +1,6 @@
 -- What the command `check` does.
 use Rattle.std.specs.Prelude.{ℕ, ◌≡◌, List, [], ◌∷◌, ◌++◌, codes, Option}
 use Rattle.cap_io.specs.Files.{Files}
-use Rattle.cap_text.specs.Decimals.{canonical_decimal}
 use Rattle.c_tree.specs.Trees.{ProgramTree}
 use Rattle.c_lower.specs.ProgramCode.{lowered}
 use Rattle.certificate_rules.specs.Validity.{IsValid, IsFirstFailure}

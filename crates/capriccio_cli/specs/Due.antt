@@ -1,6 +1,5 @@
 -- What is due for the words, the files and the trace: the command as a whole.
-use Rattle.std.specs.Prelude.{ℕ, ◌≡◌, ◌⊎◌, List, [], ◌∷◌, codes, Option}
-use Rattle.cap_io.specs.Files.{Files}
+use Rattle.std.specs.Prelude.{ℕ, ◌≡◌, ◌⊎◌, List, [], ◌∷◌, codes}
 use Rattle.codegen_link.specs.declared.options.Options.{Options}
 use Rattle.command_words.specs.WordList.{IsWordList, Request, Serve, Run, Build, Check, Graph, Demo}
 use Rattle.command_words.specs.declared.options.Placement.{Placement}

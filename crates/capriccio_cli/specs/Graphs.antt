@@ -8,7 +8,6 @@ use Rattle.checkpoint_place.specs.declared.plans.Plan.{Plan}
 use Rattle.stack_build.specs.Builds.{frame_refusal, IsPlacedBy}
 use Rattle.stack_build.specs.declared.refusals.BuildError.TheVariants.{FrameTooLarge}
 use Rattle.analysis_lines.specs.Lines.{analysis_lines, name_at}
-use Rattle.capriccio_cli.specs.declared.stops.Cause.TheVariants as cause
 use Rattle.capriccio_cli.specs.declared.documents.Document.TheVariants as document
 use Rattle.capriccio_cli.specs.Outcome.{Outcome, printed, refused}
 use Rattle.capriccio_cli.specs.CauseLines.{frame_words}

@@ -1,5 +1,5 @@
 -- What a command does, as its words and the files have it.
-use Rattle.std.specs.Prelude.{ℕ, List, [], ◌∷◌, ◌++◌, Option, None}
+use Rattle.std.specs.Prelude.{ℕ, List, [], Option, None}
 use Rattle.lawful_log.specs.Setup.{Setup}
 use Rattle.machine_world.specs.Threads.{World}
 

@@ -14,7 +14,6 @@ use Rattle.capriccio_cli.specs.declared.loading.LoadedFiles.{LoadedFiles}
 use Rattle.capriccio_cli.specs.declared.stops.Cause.TheVariants as cause
 use Rattle.capriccio_cli.specs.declared.stops.Stop.{Stop}
 use Rattle.capriccio_cli.specs.declared.stops.Stop.TheVariants.{Refused, Failed}
-use Rattle.capriccio_cli.specs.declared.faults.Fault.{Fault}
 use Rattle.capriccio_cli.specs.declared.running.Ended.{Ended}
 use Rattle.capriccio_cli.specs.declared.faults.Fault.TheVariants.{Read, Write, Memory}
 use Rattle.capriccio_cli.specs.Outcome.{Outcome, NoMore}

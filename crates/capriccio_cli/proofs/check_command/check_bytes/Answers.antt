@@ -1,8 +1,8 @@
-use Rattle.std.proofs.Common.{inl, ◌≡◌}
+use Rattle.std.proofs.Common.{inl}
 use Rattle.std.proofs.lemmas.Result.{err_from_is_err_and, MatchResult-weaker}
 use Rattle.c_tree.specs.ProgramView.{program_tree}
 use Rattle.stack_certificate.specs.declared.certificates.Certificate.{Certificate}
-use Rattle.capriccio_cli.specs.Outcome.{Outcome, NoMore}
+use Rattle.capriccio_cli.specs.Outcome.{NoMore}
 use Rattle.capriccio_cli.specs.Loads.{AfterCertificate}
 use Rattle.capriccio_cli.specs.Checks.{ChecksBytes, ChecksPair}
 use Rattle.capriccio_cli.proofs.Follows.{stop-follows, certificate-follows}

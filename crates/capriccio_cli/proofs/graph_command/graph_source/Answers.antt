@@ -1,6 +1,6 @@
-use Rattle.std.proofs.Common.{ℕ, List}
+use Rattle.std.proofs.Common.{ℕ}
 use Rattle.std.specs.Global.{Vec}
-use Rattle.capriccio_cli.specs.Outcome.{Outcome, printed}
+use Rattle.capriccio_cli.specs.Outcome.{printed}
 use Rattle.capriccio_cli.specs.Loads.{AfterSource}
 use Rattle.capriccio_cli.specs.Graphs.{GraphsProgram}
 use Rattle.capriccio_cli.specs.declared.documents.Document.TheVariants as document

@@ -1,11 +1,10 @@
-use Rattle.std.proofs.Common.{◌≡◌, ◌<◌, ◌∙◌, ℕ, List, length, sym, ap, subst, map}
+use Rattle.std.proofs.Common.{◌<◌, ◌∙◌, ℕ, List, length, sym, subst}
 use Rattle.std.specs.List.{AllByRecursion}
 use Rattle.std.specs.List.Sorted.{IsStrictlyIncreasing}
 use Rattle.c_tree.specs.ProgramView.{program_tree}
 use Rattle.c_lower.specs.ProgramCode.{lowered}
 use Rattle.call_graph.specs.declared.sites.GraphSite.{GraphSite}
 use Rattle.call_graph.specs.Graph.{CallGraphState}
-use Rattle.analysis_lines.specs.Lines.{analysis_lines}
 use Rattle.capriccio_cli.proofs.Analyses.{callers-there, back-rises, functions-count, same-names}
 use Rattle.capriccio_cli.proofs.graph_command.text_of.Goals as goal
 

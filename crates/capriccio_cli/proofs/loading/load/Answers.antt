@@ -1,8 +1,4 @@
-use Rattle.std.proofs.Common.{Err}
-use Rattle.cap_io.specs.Shelves.{Loads}
-use Rattle.cap_io.specs.declared.shelves.ShelfError.TheVariants as shelf
-use Rattle.capriccio_cli.specs.CauseLines.{most_bytes}
-use Rattle.capriccio_cli.proofs.Follows.{too-long, absent}
+use Rattle.capriccio_cli.proofs.Follows.{too-long}
 use Rattle.capriccio_cli.proofs.loading.load.Goals as goal
 
 pub returns-in-Err-TooLong-clause-answer : goal.returns-in-Err-TooLong-clause-answer

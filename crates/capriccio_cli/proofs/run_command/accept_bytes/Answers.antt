@@ -1,4 +1,4 @@
-use Rattle.std.proofs.Common.{inl, ◌≡◌}
+use Rattle.std.proofs.Common.{inl}
 use Rattle.std.proofs.lemmas.Result.{err_from_is_err_and, MatchResult-weaker}
 use Rattle.c_tree.specs.ProgramView.{program_tree}
 use Rattle.c_tree.specs.Trees.{ProgramTree}

@@ -1,6 +1,5 @@
-use Rattle.std.proofs.Common.{◌≡◌, inl, refl, subst}
+use Rattle.std.proofs.Common.{inl, refl, subst}
 use Rattle.c_tree.specs.ProgramView.{program_tree}
-use Rattle.c_lower.specs.ProgramCode.{lowered}
 use Rattle.flat_code.specs.WellFormed.{IsWellFormed}
 use Rattle.capriccio_cli.specs.BuildsFiles.{IsUnbuilt}
 use Rattle.capriccio_cli.specs.Runs.{ServesProgram}

@@ -1,11 +1,7 @@
-use Rattle.std.proofs.Common.{◌≡◌, subst}
-use Rattle.c_lower.specs.ProgramCode.{lowered}
+use Rattle.std.proofs.Common.{subst}
 use Rattle.certificate_check.specs.Accepting.{accepted_tree}
 use Rattle.certificate_check.specs.Acceptance.{Acceptance}
-use Rattle.certificate_rules.specs.Validity.{IsValid}
-use Rattle.thread_core.specs.Making.{IsPolicy}
 use Rattle.capriccio_cli.specs.Runs.{RunsOn, setup_of}
-use Rattle.capriccio_cli.specs.RunSteps.{IsMade, world_policy_of}
 use Rattle.capriccio_cli.specs.Steps.{RunEnds}
 use Rattle.capriccio_cli.proofs.Making.{policy-ranges, made-world}
 use Rattle.capriccio_cli.proofs.running.run_accepted.Goals as goal

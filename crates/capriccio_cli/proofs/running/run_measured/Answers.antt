@@ -1,4 +1,3 @@
-use Rattle.std.proofs.Common.{refl}
 use Rattle.capriccio_cli.specs.Done.{Outside}
 use Rattle.capriccio_cli.specs.Runs.{RunsOn}
 use Rattle.capriccio_cli.specs.RunSteps.{setup_in}
