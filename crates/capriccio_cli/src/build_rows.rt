@@ -1,9 +1,8 @@
 // The command `build` over files in memory, with ample memory.
-use super::capriccio;
 use crate::command_rows::{
     CERTIFICATE_OF_SEVEN, IMAGE_OF_SEVEN, IMAGE_OF_TWO, NONE, PUT_SEVEN, TWO, bytes_of,
 };
-use crate::rows::{files_of, words_of};
+use crate::rows::{files_of, status_of, words_of};
 use cap_io::{CleanShelf, CleanSink, CleanSource, MemShelf, MemSink, Shelf, ShelfError};
 use std::alloc::{AllocError, Global};
 use std::test::Fail;
@@ -44,7 +43,7 @@ fn built(alloc: Global, words: &[&str], source: &[u8]) -> Result<Left, AllocErro
     let mut out = CleanSink::new(alloc);
     let mut err = CleanSink::new(alloc);
     let mut last = None;
-    let status = capriccio(
+    let status = status_of(
         alloc, &words, &mut shelf, &mut trace, &mut out, &mut err, &mut last,
     );
     Ok(Left {
@@ -150,7 +149,7 @@ fn failing(alloc: Global, call: u64, bytes: u32, write: u64) -> Result<Left, All
     let mut out = MemSink::new(alloc, 4, writes);
     let mut err = CleanSink::new(alloc);
     let mut last = None;
-    let status = capriccio(
+    let status = status_of(
         alloc, &words, &mut shelf, &mut trace, &mut out, &mut err, &mut last,
     );
     Ok(Left {

@@ -1,6 +1,5 @@
 // The commands `graph`, `check`, `build` and `run` over files in memory, with ample memory.
-use super::capriccio;
-use crate::rows::{call, files_of, is_answer, is_row, shelf_of, words_of};
+use crate::rows::{call, files_of, is_answer, is_row, shelf_of, status_of, words_of};
 use cap_io::{CleanShelf, CleanSink, CleanSource, MemShelf, MemSink, Shelf};
 use std::alloc::{AllocError, Global};
 use std::test::Fail;
@@ -49,15 +48,6 @@ const IMAGE_OF_LINKED: [u32; 62] = [
 const LOG_OF_SEVEN: &[u8] = b"run 0 0 0\nout 0 7\nend 0 17 1024\nedge 0 1 1 4352 -256\nstop done\n";
 
 pub(crate) const NONE: &[u8] = b"";
-
-/// The bytes of words, each lowest byte first.
-pub(crate) fn bytes_of(alloc: Global, words: &[u32]) -> Result<Vec<u8>, AllocError> {
-    let mut bytes = Vec::new(alloc);
-    for word in words {
-        bytes.extend_from_slice(&word.to_le_bytes())?;
-    }
-    Ok(bytes)
-}
 
 /// The bytes of words, each lowest byte first.
 pub(crate) fn bytes_of(alloc: Global, words: &[u32]) -> Result<Vec<u8>, AllocError> {
@@ -252,7 +242,7 @@ fn failing(alloc: Global, load: u64, write: u64) -> Result<(u8, Vec<u8>), AllocE
     let mut trace = CleanSource::new(Vec::new(alloc));
     let mut out = MemSink::new(alloc, 4, writes);
     let mut err = CleanSink::new(alloc);
-    let status = capriccio(
+    let status = status_of(
         alloc, &words, &mut shelf, &mut trace, &mut out, &mut err, &mut None,
     );
     Ok((status, out.bytes().to_vec(alloc)?))

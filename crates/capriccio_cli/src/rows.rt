@@ -1,6 +1,6 @@
 // Calls of the program over objects in memory that never fail, with ample memory.
 use super::capriccio;
-use cap_io::{CleanShelf, CleanSink, CleanSource};
+use cap_io::{CleanShelf, CleanSink, CleanSource, Shelf, Sink, Source};
 use std::alloc::{AllocError, Global};
 use thread_core::World;
 
@@ -42,6 +42,19 @@ pub(crate) fn files_of(
     Ok(all)
 }
 
+/// The status of a call. It has no clause, so that the clauses of `capriccio` aren't among what its callers know.
+pub(crate) fn status_of<F: Shelf, S: Source, K: Sink, E: Sink>(
+    alloc: Global,
+    words: &Vec<String>,
+    shelf: &mut F,
+    trace: &mut S,
+    out: &mut K,
+    err: &mut E,
+    last: &mut Option<World>,
+) -> u8 {
+    capriccio(alloc, words, shelf, trace, out, err, last)
+}
+
 /// A call over a shelf and a trace.
 pub(crate) fn call(
     alloc: Global,
@@ -54,7 +67,7 @@ pub(crate) fn call(
     let mut out = CleanSink::new(alloc);
     let mut err = CleanSink::new(alloc);
     let mut last = None;
-    let status = capriccio(
+    let status = status_of(
         alloc, &words, shelf, &mut trace, &mut out, &mut err, &mut last,
     );
     Ok(Answer {

@@ -1,8 +1,8 @@
 // The program over objects in memory that fail, a source that is too long, and the words of a command line.
 ghost use Rattle.std.specs.Io.{WritesAtMost};
 
-use super::{capriccio, words_of as given_words};
-use crate::rows::{files_of, is_row, words_of};
+use super::words_of as given_words;
+use crate::rows::{files_of, is_row, status_of, words_of};
 use cap_io::{MemShelf, MemSink, MemSource};
 use std::alloc::{AllocError, Global};
 use std::env::FillError;
@@ -56,7 +56,7 @@ fn failing(alloc: Global, fails: [u64; 4]) -> Result<(u8, Vec<u8>, Vec<u8>), All
     let mut out = MemSink::new(alloc, 10, calls_of(alloc, write)?);
     let mut err = MemSink::new(alloc, 100, calls_of(alloc, line)?);
     let mut last = None;
-    let status = capriccio(
+    let status = status_of(
         alloc, &words, &mut shelf, &mut trace, &mut out, &mut err, &mut last,
     );
     let taken = out.bytes().to_vec(alloc)?;
