@@ -1,7 +1,8 @@
 // The commands `graph`, `check`, `build` and `run` over files in memory, with ample memory.
-use crate::rows::{call, files_of, is_answer, is_row, shelf_of, status_of, words_of};
+use crate::rows::{Row, call, files_of, hold, is_answer, shelf_of, status_of, words_of};
 use cap_io::{CleanShelf, CleanSink, CleanSource, MemShelf, MemSink, Shelf};
 use std::alloc::{AllocError, Global};
+use std::process::Abort;
 use std::test::Fail;
 use thread_core::World;
 
@@ -58,84 +59,89 @@ pub(crate) fn bytes_of(alloc: Global, words: &[u32]) -> Result<Vec<u8>, AllocErr
     Ok(bytes)
 }
 
+const PLAIN: &[&str] = &["graph", "P"];
+
+const SMALL: &[&str] = &["graph", "P", "--chunk", "64", "--max-path", "32"];
+
+const GRAPHS: [Row<'static>; 9] = [
+    (
+        SMALL,
+        TWO,
+        NONE,
+        0,
+        b"function 0 g frame 16 bound 16\nfunction 1 main frame 16 bound 32\nsite 0 main plain\n",
+        NONE,
+    ),
+    (
+        &["graph", "--max-path", "32", "P", "--chunk", "64"],
+        b"int g(int x) { return x; } int main() { int a; int b; int c; a = g(1); return a; }",
+        NONE,
+        0,
+        b"function 0 g frame 16 bound 16\nfunction 1 main frame 32 bound 32\nsite 0 main over\n",
+        NONE,
+    ),
+    (
+        SMALL,
+        b"int main() { int a[10]; return 0; }",
+        NONE,
+        5,
+        NONE,
+        b"limit: frame of main is 48 bytes\n",
+    ),
+    (
+        PLAIN,
+        b"int b(int n); int a(int n) { int r; r = b(n - 1); return r; } int b(int n) { if (n < 1) return 0; int r; r = a(n - 1); return r; } int main() { int r; r = a(9); return r; }",
+        NONE,
+        0,
+        b"function 0 a frame 32 bound 64\nfunction 1 b frame 32 bound 32\nfunction 2 main frame 16 bound 80\nsite 0 a plain\nsite 1 b back\nsite 2 main plain\n",
+        NONE,
+    ),
+    (PLAIN, NONE, NONE, 2, NONE, b"source: NoMain\n"),
+    (
+        PLAIN,
+        b"int main() { int a; int a; return 0; }",
+        NONE,
+        2,
+        NONE,
+        b"source: Twice at 24\n",
+    ),
+    (
+        PLAIN,
+        b"int main() { put(self() + 1); return 0; }",
+        NONE,
+        2,
+        NONE,
+        b"source: NestedCall at 17\n",
+    ),
+    (&["graph", "Q"], TWO, NONE, 9, NONE, b"absent: source\n"),
+    (
+        &["graph", "P", "Q"],
+        TWO,
+        NONE,
+        1,
+        NONE,
+        b"usage: capriccio serve SRC, run SRC IMG CRT, build SRC IMG CRT, check SRC IMG CRT, graph SRC, demo N\n",
+    ),
+];
+
 #[test]
 fn graphs(rt: HostRuntime) -> Result<(), Fail> {
-    let alloc = rt.alloc();
-    let plain: &[&str] = &["graph", "P"];
-    let small: &[&str] = &["graph", "P", "--chunk", "64", "--max-path", "32"];
-    let table: [(&[&str], &[u8], u8, &[u8], &[u8]); 9] = [
-        (
-            small,
-            TWO,
-            0,
-            b"function 0 g frame 16 bound 16\nfunction 1 main frame 16 bound 32\nsite 0 main plain\n",
-            NONE,
-        ),
-        (
-            &["graph", "--max-path", "32", "P", "--chunk", "64"],
-            b"int g(int x) { return x; } int main() { int a; int b; int c; a = g(1); return a; }",
-            0,
-            b"function 0 g frame 16 bound 16\nfunction 1 main frame 32 bound 32\nsite 0 main over\n",
-            NONE,
-        ),
-        (
-            small,
-            b"int main() { int a[10]; return 0; }",
-            5,
-            NONE,
-            b"limit: frame of main is 48 bytes\n",
-        ),
-        (
-            plain,
-            b"int b(int n); int a(int n) { int r; r = b(n - 1); return r; } int b(int n) { if (n < 1) return 0; int r; r = a(n - 1); return r; } int main() { int r; r = a(9); return r; }",
-            0,
-            b"function 0 a frame 32 bound 64\nfunction 1 b frame 32 bound 32\nfunction 2 main frame 16 bound 80\nsite 0 a plain\nsite 1 b back\nsite 2 main plain\n",
-            NONE,
-        ),
-        (plain, NONE, 2, NONE, b"source: NoMain\n"),
-        (
-            plain,
-            b"int main() { int a; int a; return 0; }",
-            2,
-            NONE,
-            b"source: Twice at 24\n",
-        ),
-        (
-            plain,
-            b"int main() { put(self() + 1); return 0; }",
-            2,
-            NONE,
-            b"source: NestedCall at 17\n",
-        ),
-        (&["graph", "Q"], TWO, 9, NONE, b"absent: source\n"),
-        (
-            &["graph", "P", "Q"],
-            TWO,
-            1,
-            NONE,
-            b"usage: capriccio serve SRC, run SRC IMG CRT, build SRC IMG CRT, check SRC IMG CRT, graph SRC, demo N\n",
-        ),
-    ];
-    for (words, source, status, out, err) in table {
-        assert!(rt;
-            is_row(alloc, &(words, source, NONE, status, out, err))?,
-            "{source:?}"
-        );
-    }
-    Ok(())
+    hold(&rt, rt.alloc(), &GRAPHS)
 }
+
+/// Source, image, certificate, the status, and what the output and standard error take.
+type CheckRow<'a> = (&'a [u8], &'a [u8], &'a [u8], u8, &'a [u8], &'a [u8]);
 
 #[test]
 fn checks(rt: HostRuntime) -> Result<(), Fail> {
     let alloc = rt.alloc();
-    let words: &[&str] = &["check", "P", "I", "C"];
     let seven = bytes_of(alloc, &IMAGE_OF_SEVEN)?;
     let cut = seven.as_slice().get(..10).ok_or("ten bytes")?;
     let mut long = seven.as_slice().to_vec(alloc)?;
     long.push(0)?;
     let two = bytes_of(alloc, &IMAGE_OF_TWO)?;
     let linked = bytes_of(alloc, &IMAGE_OF_LINKED)?;
-    let table: [(&[u8], &[u8], &[u8], u8, &[u8], &[u8]); 9] = [
+    let table: [CheckRow; 9] = [
         (
             PUT_SEVEN,
             seven.as_slice(),
@@ -209,10 +215,15 @@ fn checks(rt: HostRuntime) -> Result<(), Fail> {
             b"source: Kind at 13\n",
         ),
     ];
-    for (source, image, certificate, status, out, err) in table {
+    hold_checks(&rt, alloc, &table)
+}
+
+/// Holds what `check` says of each source, image and certificate.
+fn hold_checks(rt: &impl Abort, alloc: Global, rows: &[CheckRow]) -> Result<(), Fail> {
+    for (source, image, certificate, status, out, err) in rows {
         let mut shelf = shelf_of(alloc, &[("P", source), ("I", image), ("C", certificate)])?;
-        let given = call(alloc, words, &mut shelf, NONE)?;
-        assert!(rt; is_answer(&given, status, out, err), "{err:?}");
+        let given = call(alloc, &["check", "P", "I", "C"], &mut shelf, NONE)?;
+        assert!(rt; is_answer(&given, *status, out, err), "{err:?}");
     }
     Ok(())
 }
@@ -248,20 +259,30 @@ fn failing(alloc: Global, load: u64, write: u64) -> Result<(u8, Vec<u8>), AllocE
     Ok((status, out.bytes().to_vec(alloc)?))
 }
 
+const FAILING_CHECKS: [(u64, u64, u8, &[u8]); 6] = [
+    (1, 0, 6, NONE),
+    (2, 0, 6, NONE),
+    (3, 0, 6, NONE),
+    (0, 1, 7, NONE),
+    (0, 2, 7, b"acce"),
+    (4, 0, 0, b"accepted\n"),
+];
+
 #[test]
 fn failing_checks(rt: HostRuntime) -> Result<(), Fail> {
-    let table: [(u64, u64, u8, &[u8]); 6] = [
-        (1, 0, 6, NONE),
-        (2, 0, 6, NONE),
-        (3, 0, 6, NONE),
-        (0, 1, 7, NONE),
-        (0, 2, 7, b"acce"),
-        (4, 0, 0, b"accepted\n"),
-    ];
-    for (load, write, status, out) in table {
-        let given = failing(rt.alloc(), load, write)?;
+    hold_failing_checks(&rt, rt.alloc(), &FAILING_CHECKS)
+}
+
+/// Holds what `check` answers and prints where that load or that write fails.
+fn hold_failing_checks(
+    rt: &impl Abort,
+    alloc: Global,
+    rows: &[(u64, u64, u8, &[u8])],
+) -> Result<(), Fail> {
+    for (load, write, status, out) in rows {
+        let given = failing(alloc, *load, *write)?;
         assert!(rt;
-            given.0 == status && given.1.as_slice() == out,
+            given.0 == *status && given.1.as_slice() == *out,
             "{load} {write}"
         );
     }

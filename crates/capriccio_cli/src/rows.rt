@@ -2,6 +2,8 @@
 use super::capriccio;
 use cap_io::{CleanShelf, CleanSink, CleanSource, Shelf, Sink, Source};
 use std::alloc::{AllocError, Global};
+use std::process::Abort;
+use std::test::Fail;
 use thread_core::World;
 
 /// The words, the file `P`, the trace, the status, and what the output and standard error take.
@@ -89,4 +91,13 @@ pub(crate) fn is_row(alloc: Global, row: &Row) -> Result<bool, AllocError> {
     let mut shelf = shelf_of(alloc, &[("P", source)])?;
     let answer = call(alloc, words, &mut shelf, trace)?;
     Ok(is_answer(&answer, status, out, err))
+}
+
+/// Holds each row.
+pub(crate) fn hold(rt: &impl Abort, alloc: Global, rows: &[Row]) -> Result<(), Fail> {
+    for row in rows {
+        let source = row.1;
+        assert!(rt; is_row(alloc, row)?, "{source:?}");
+    }
+    Ok(())
 }

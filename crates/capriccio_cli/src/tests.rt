@@ -6,6 +6,7 @@ use crate::rows::{files_of, is_row, status_of, words_of};
 use cap_io::{MemShelf, MemSink, MemSource};
 use std::alloc::{AllocError, Global};
 use std::env::FillError;
+use std::process::Abort;
 use std::rt::Env;
 use std::test::Fail;
 
@@ -64,32 +65,43 @@ fn failing(alloc: Global, fails: [u64; 4]) -> Result<(u8, Vec<u8>, Vec<u8>), All
     Ok((status, taken, line))
 }
 
+/// The calls of the shelf, the trace, the output and standard error that fail, the status, the most bytes that the output takes, and
+/// the line then.
+type FailingRow = ([u64; 4], u8, usize, &'static [u8]);
+
+const READ: &[u8] = b"fault: read\n";
+
+const WRITE: &[u8] = b"fault: write\n";
+
+const FAILING: [FailingRow; 8] = [
+    ([0, 0, 0, 0], 0, 63, b""),
+    ([1, 0, 0, 0], 6, 0, READ),
+    ([0, 1, 0, 0], 6, 0, READ),
+    ([0, 0, 1, 0], 7, 0, WRITE),
+    ([0, 0, 2, 0], 7, 62, WRITE),
+    ([0, 0, 3, 0], 7, 62, WRITE),
+    ([0, 0, 6, 0], 7, 62, WRITE),
+    ([0, 0, 1, 1], 7, 0, b""),
+];
+
 // What the output took is a prefix of the log, and all of it only where nothing failed.
 #[test]
 fn failing_objects(rt: HostRuntime) -> Result<(), Fail> {
-    let read: &[u8] = b"fault: read\n";
-    let write: &[u8] = b"fault: write\n";
-    let none: &[u8] = b"";
-    let table: [([u64; 4], u8, usize, &[u8]); 8] = [
-        ([0, 0, 0, 0], 0, 63, none),
-        ([1, 0, 0, 0], 6, 0, read),
-        ([0, 1, 0, 0], 6, 0, read),
-        ([0, 0, 1, 0], 7, 0, write),
-        ([0, 0, 2, 0], 7, 62, write),
-        ([0, 0, 3, 0], 7, 62, write),
-        ([0, 0, 6, 0], 7, 62, write),
-        ([0, 0, 1, 1], 7, 0, none),
-    ];
-    for (fails, status, most, err) in table {
-        let given = failing(rt.alloc(), fails)?;
+    hold_failing(&rt, rt.alloc(), &FAILING)
+}
+
+/// Holds what `serve` answers and writes where these calls fail.
+fn hold_failing(rt: &impl Abort, alloc: Global, rows: &[FailingRow]) -> Result<(), Fail> {
+    for (fails, status, most, err) in rows {
+        let given = failing(alloc, *fails)?;
         let taken = given.1.len();
         let log = LOG_OF_SEVEN.get(..taken).ok_or("a prefix")?;
         assert!(rt;
-            given.0 == status
+            given.0 == *status
                 && given.1.as_slice() == log
-                && taken <= most
-                && (taken == 63) == (status == 0)
-                && given.2.as_slice() == err,
+                && taken <= *most
+                && (taken == 63) == (*status == 0)
+                && given.2.as_slice() == *err,
             "{err:?}"
         );
     }
