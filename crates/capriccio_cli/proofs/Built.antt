@@ -30,13 +30,13 @@ code-of code options words h = ⊎_elim (λ e. cc) (λ x. ⊎_elim (λ e. absurd
 
 same-products : (n m : List ℕ) (i : Image) (c : Certificate) (products : Products) → IsProductsOf i c products → stored_products n m products ≡ built n m i c
 same-products n m i c products is =
-    let line = ap (λ (x : List ℕ). let o : Outcome = record { status = 0; out = x; line = []; stores = (n, products.image.items) ∷ (m, products.certificate.items) ∷ [] } in o) is.line in
-    let image_bytes = ap (λ (x : List ℕ). let o : Outcome = record { status = 0; out = (built n m i c).out; line = []; stores = (n, x) ∷ (m, products.certificate.items) ∷ [] } in o) is.image_bytes in
-    let certificate_bytes = ap (λ (x : List ℕ). let o : Outcome = record { status = 0; out = (built n m i c).out; line = []; stores = (n, image.spelling i) ∷ (m, x) ∷ [] } in o) is.certificate_bytes in
+    let line = ap (λ (x : List ℕ). let o : Outcome = record { status = 0; out = x; line = []; stores = (n, products.image.items) ∷ (m, products.certificate.items) ∷ []; last = None } in o) is.line in
+    let image_bytes = ap (λ (x : List ℕ). let o : Outcome = record { status = 0; out = (built n m i c).out; line = []; stores = (n, x) ∷ (m, products.certificate.items) ∷ []; last = None } in o) is.image_bytes in
+    let certificate_bytes = ap (λ (x : List ℕ). let o : Outcome = record { status = 0; out = (built n m i c).out; line = []; stores = (n, image.spelling i) ∷ (m, x) ∷ []; last = None } in o) is.certificate_bytes in
     line ∙ (image_bytes ∙ certificate_bytes)
 
 pub pair-built : (p : ProgramTree) (options : Options) (n m : List ℕ) (i : Image) (c : Certificate) (products : Products) → IsWellScoped p → IsWellFormed (lowered p) → frame_refusal (lowered p) options.max_path ≡ None → IsValid (lowered p) i c → IsLaidOut (lowered p) options i c → IsProductsOf i c products →
     BuildsProgram options n m p (stored_products n m products)
 pair-built p options n m i c products scoped formed fit valid laid is =
     let words = ((valid.holds 1 0 2).v1 refl).words refl in
-    inr (fit, inr (code-fits p scoped options i c formed laid words.1, (i, c, laid, same-products n m i c products is)))
+    inr (fit, code-fits p scoped options i c formed laid words.1, i, c, laid, same-products n m i c products is)

@@ -1,5 +1,5 @@
 -- How a command ends, from what its last step did.
-use Rattle.std.proofs.Common.{◌≡◌, ℕ, List, [], ◌∷◌, Option, Some, None, Result, Ok, Err, refl, sym, ◌∙◌, subst, inl, inr, ⊎_elim}
+use Rattle.std.proofs.Common.{◌≡◌, ◌≢◌, ℕ, List, [], ◌∷◌, Option, Some, None, Result, Ok, Err, refl, sym, ap, ◌∙◌, subst, inl, inr, ⊎_elim}
 use Rattle.std.proofs.lemmas.List.{append-nil}
 use Rattle.std.specs.Io.KnownBytes.{Keeps, Appends}
 use Rattle.cap_io.specs.Files.{Files, KeepsFiles, KeepsOthers}
@@ -8,10 +8,13 @@ use Rattle.capriccio_cli.specs.declared.stops.Stop.{Stop}
 use Rattle.capriccio_cli.specs.declared.stops.Stop.TheVariants.{Refused, Failed}
 use Rattle.capriccio_cli.specs.declared.faults.Fault.{Fault}
 use Rattle.capriccio_cli.specs.declared.faults.Fault.TheVariants.{Read, Write, Memory}
-use Rattle.capriccio_cli.specs.Outcome.{Outcome, printed}
+use Rattle.thread_core.specs.Worlds.{Held}
+use Rattle.capriccio_cli.specs.declared.running.Ended.{Ended}
+use Rattle.capriccio_cli.specs.Outcome.{Outcome, Ran, printed}
 use Rattle.capriccio_cli.specs.CauseLines.{refusal}
-use Rattle.capriccio_cli.specs.Done.{Outside, IsRisen, WhereTold, AreStored, AreCutShort, IsDone, IsExact, IsToldOf, IsTold}
-use Rattle.capriccio_cli.specs.Steps.{IsShelfStop, IsPrinted, AreStores, EndsAs, IsFinished}
+use Rattle.capriccio_cli.specs.Done.{Outside, WhereTold, AreStored, AreCutShort, IsRisen, IsDone, IsExact, IsTold, IsTraceLeft, IsLast}
+use Rattle.capriccio_cli.specs.Headline.{IsAnswerOf}
+use Rattle.capriccio_cli.specs.Steps.{IsShelfStop, IsPrinted, AreStores, EndsAs, RunEnds, IsFinished}
 
 pub keeps-itself : (bytes : Option (List ℕ)) → Keeps bytes bytes
 keeps-itself None = tt
@@ -22,7 +25,7 @@ append-nothing None new h = tt
 append-nothing (Some old) None h = absurd h
 append-nothing (Some old) (Some new) h = h ∙ sym (append-nil old)
 
-kept-are-stored : (old new : Option Files) → KeepsFiles old new → WhereTold (AreStored []) old new
+pub kept-are-stored : (old new : Option Files) → KeepsFiles old new → WhereTold (AreStored []) old new
 kept-are-stored None new h = tt
 kept-are-stored (Some old) None h = absurd h
 kept-are-stored (Some old) (Some new) h = h
@@ -66,42 +69,47 @@ stores-after files a b c l m n (Err (Failed Write)) keeps same h = (cut-after fi
 stores-after files a b c l m n (Err (Failed Memory)) keeps same h = (cut-after files a b c keeps h.0, h.1 ∙ same)
 
 -- a step that stops before anything is stored or printed
-pub stopped : (due : Outcome → Type 0) (before after : Outside) (stop : Stop) → KeepsFiles before.files after.files → after.stores ≡ before.stores → Keeps before.taken after.taken → after.writes ≡ before.writes →
+pub stopped : (due : Outcome → Type 0) (before after : Outside) (stop : Stop) → KeepsFiles before.files after.files → after.stores ≡ before.stores → Keeps before.left after.left → after.reads ≡ before.reads → Keeps before.taken after.taken → after.writes ≡ before.writes →
     IsShelfStop due before.loads after.loads stop → EndsAs due before after (Err stop)
-stopped due before after (Refused cause) files stores taken writes h =
-    (h.0, record { files = kept-are-stored before.files after.files files; out = append-nothing before.taken after.taken taken }, record { loads = h.1; stores = stores; writes = writes })
-stopped due before after (Failed Read) files stores taken writes h =
-    (record { files = files; out = taken }, record { loads = h; stores = stores; writes = writes })
-stopped due before after (Failed Write) files stores taken writes h = absurd h
-stopped due before after (Failed Memory) files stores taken writes h =
-    (inl (record { files = files; out = taken }), record { loads = h; stores = stores; writes = writes })
+stopped due before after (Refused cause) files stores left reads taken writes h =
+    (h.0, record { files = kept-are-stored before.files after.files files; trace = left; out = append-nothing before.taken after.taken taken }, record { loads = h.1; stores = stores; reads = reads; writes = writes })
+stopped due before after (Failed Read) files stores left reads taken writes h =
+    inl (record { files = files; trace = left; out = taken }, record { loads = h; stores = stores; reads = reads; writes = writes })
+stopped due before after (Failed Write) files stores left reads taken writes h = absurd h
+stopped due before after (Failed Memory) files stores left reads taken writes h =
+    (inl (record { files = files; trace = left; out = taken }), record { loads = h; stores = stores; reads = reads; writes = writes })
 
 -- the stores of an outcome are made, and its text is printed
-pub printed-ends : (due : Outcome → Type 0) (before after : Outside) (o : Outcome) (r : Result ℕ Stop) → due o → o.line ≡ [] → WhereTold (AreStored o.stores) before.files after.files → after.loads ≡ before.loads → after.stores ≡ before.stores →
+pub printed-ends : (due : Outcome → Type 0) (before after : Outside) (o : Outcome) (r : Result Ended Stop) → due o → o.line ≡ [] → o.last ≡ None → WhereTold (AreStored o.stores) before.files after.files → Keeps before.left after.left → after.loads ≡ before.loads → after.stores ≡ before.stores → after.reads ≡ before.reads →
     IsPrinted o.status o.out before.taken after.taken before.writes after.writes r → EndsAs due before after r
-printed-ends due before after o (Ok status) is line files loads stores h =
-    (o, (is, record { files = files; out = h.1 }, record { loads = loads; stores = stores; writes = h.2 }), sym h.0, line)
-printed-ends due before after o (Err (Refused cause)) is line files loads stores h = absurd h
-printed-ends due before after o (Err (Failed Read)) is line files loads stores h = absurd h
-printed-ends due before after o (Err (Failed Write)) is line files loads stores h =
-    (o, is, inr (record { files = files; out = h.0 }, record { loads = loads; stores = stores; writes = h.1 }))
-printed-ends due before after o (Err (Failed Memory)) is line files loads stores h =
-    (inr (o, is, inr (record { files = files; out = h.0 })), record { loads = loads; stores = stores; writes = h.1 })
+printed-ends due before after o (Ok given) is line none files left loads stores reads h =
+    let trace = subst (λ (ran : Option Ran). IsTraceLeft ran before.left after.left) (sym none) left in
+    let here = subst (λ (ran : Option Ran). IsLast ran None) (sym none) tt in
+    let last = subst (λ (held : Option Held). IsLast o.last held) (sym (ap (λ (e : Ended). e.last) h.0)) here in
+    (o, (is, record { files = files; trace = trace; out = h.1 }, record { loads = loads; stores = stores; reads = reads; writes = h.2 }), sym (ap (λ (e : Ended). e.status) h.0), line, last)
+printed-ends due before after o (Err (Refused cause)) is line none files left loads stores reads h = absurd h
+printed-ends due before after o (Err (Failed Read)) is line none files left loads stores reads h = absurd h
+printed-ends due before after o (Err (Failed Write)) is line none files left loads stores reads h =
+    let trace = subst (λ (ran : Option Ran). IsTraceLeft ran before.left after.left) (sym none) left in
+    (o, is, inr (record { files = files; trace = trace; out = h.0 }, record { loads = loads; stores = stores; reads = reads; writes = h.1 }))
+printed-ends due before after o (Err (Failed Memory)) is line none files left loads stores reads h =
+    let trace = subst (λ (ran : Option Ran). IsTraceLeft ran before.left after.left) (sym none) left in
+    (inr (o, is, inr (record { files = files; trace = trace; out = h.0 })), record { loads = loads; stores = stores; reads = reads; writes = h.1 })
 
--- a store of an outcome is cut short
-pub stores-cut : (due : Outcome → Type 0) (before after : Outside) (o : Outcome) (stop : Stop) → due o → Keeps before.taken after.taken → after.loads ≡ before.loads → after.writes ≡ before.writes →
+-- a store of an outcome was cut short
+pub stores-cut : (due : Outcome → Type 0) (before after : Outside) (o : Outcome) (stop : Stop) → due o → o.stores ≢ [] → Keeps before.left after.left → Keeps before.taken after.taken → after.loads ≡ before.loads → after.reads ≡ before.reads → after.writes ≡ before.writes →
     AreStores o.stores before.files after.files before.stores after.stores (Err stop) → EndsAs due before after (Err stop)
-stores-cut due before after o (Refused cause) is taken loads writes h = absurd h
-stores-cut due before after o (Failed Read) is taken loads writes h = absurd h
-stores-cut due before after o (Failed Write) is taken loads writes h =
-    (o, is, inl (record { files = h.0; out = taken }, record { loads = loads; stores = h.1; writes = writes }))
-stores-cut due before after o (Failed Memory) is taken loads writes h =
-    (inr (o, is, inl (record { files = h.0; out = taken })), record { loads = loads; stores = h.1; writes = writes })
+stores-cut due before after o (Refused cause) is some left taken loads reads writes h = absurd h
+stores-cut due before after o (Failed Read) is some left taken loads reads writes h = absurd h
+stores-cut due before after o (Failed Write) is some left taken loads reads writes h =
+    (o, is, inl (record { some = some; files = h.0; trace = left; out = taken }, record { loads = loads; stores = h.1; reads = reads; writes = writes }))
+stores-cut due before after o (Failed Memory) is some left taken loads reads writes h =
+    (inr (o, is, inl (record { some = some; files = h.0; trace = left; out = taken })), record { loads = loads; stores = h.1; reads = reads; writes = writes })
 
-pub printed-now : (due : Outcome → Type 0) (before after : Outside) (status : ℕ) (text : List ℕ) (r : Result ℕ Stop) → due (printed status text) → KeepsFiles before.files after.files → after.loads ≡ before.loads → after.stores ≡ before.stores →
+pub printed-now : (due : Outcome → Type 0) (before after : Outside) (status : ℕ) (text : List ℕ) (r : Result Ended Stop) → due (printed status text) → KeepsFiles before.files after.files → Keeps before.left after.left → after.loads ≡ before.loads → after.stores ≡ before.stores → after.reads ≡ before.reads →
     IsPrinted status text before.taken after.taken before.writes after.writes r → EndsAs due before after r
-printed-now due before after status text r is files loads stores h =
-    printed-ends due before after (printed status text) r is refl (kept-are-stored before.files after.files files) loads stores h
+printed-now due before after status text r is files left loads stores reads h =
+    printed-ends due before after (printed status text) r is refl refl (kept-are-stored before.files after.files files) left loads stores reads h
 
 -- Nothing is done at all.
 
@@ -110,21 +118,27 @@ files-keep None = tt
 files-keep (Some f) = λ name. refl
 
 pub refused-at-once : (due : Outcome → Type 0) (o : Outside) (cause : Cause) → due (refusal cause) → EndsAs due o o (Err (Refused cause))
-refused-at-once due o cause h = stopped due o o (Refused cause) (files-keep o.files) refl (keeps-itself o.taken) refl (h, refl)
+refused-at-once due o cause h = stopped due o o (Refused cause) (files-keep o.files) refl (keeps-itself o.left) refl (keeps-itself o.taken) refl (h, refl)
 
 pub memory-at-once : (due : Outcome → Type 0) (o : Outside) → EndsAs due o o (Err (Failed Memory))
-memory-at-once due o = stopped due o o (Failed Memory) (files-keep o.files) refl (keeps-itself o.taken) refl refl
+memory-at-once due o = stopped due o o (Failed Memory) (files-keep o.files) refl (keeps-itself o.left) refl (keeps-itself o.taken) refl refl
+
+-- memory is wanting before the trace is read
+pub memory-before : (due : Outcome → Type 0) (left : Option (List ℕ)) (reads : ℕ) (taken : Option (List ℕ)) (writes : ℕ) → RunEnds due left left reads reads taken taken writes writes (Err (Failed Memory))
+memory-before due left reads taken writes = λ files files' loads loads' stores stores' keeps same again.
+    stopped due (record { files = files; loads = loads; stores = stores; left = left; reads = reads; taken = taken; writes = writes })
+    (record { files = files'; loads = loads'; stores = stores'; left = left; reads = reads; taken = taken; writes = writes }) (Failed Memory) keeps again (keeps-itself left) refl (keeps-itself taken) refl same
 
 -- What is due may be put in the place of what implies it.
 
 done-follows : (P Q : Outcome → Type 0) (before after : Outside) (given : Result Outcome Fault) → ((o : Outcome) → P o → Q o) → IsDone P before after given → IsDone Q before after given
 done-follows P Q before after (Ok o) step h = (step o h.0, h.1, h.2)
-done-follows P Q before after (Err Read) step h = h
+done-follows P Q before after (Err Read) step h = ⊎_elim (λ x. inl x) (λ x. inr (x.0, x.1, x.2, step x.0 x.3, x.4, x.5)) h
 done-follows P Q before after (Err Write) step h = (h.0, step h.0 h.1, h.2)
 done-follows P Q before after (Err Memory) step h = (⊎_elim (λ x. inl x) (λ x. inr (x.0, step x.0 x.1, x.2)) h.0, h.1)
 
-pub ends-follow : (P Q : Outcome → Type 0) (before after : Outside) (r : Result ℕ Stop) → ((o : Outcome) → P o → Q o) → EndsAs P before after r → EndsAs Q before after r
-ends-follow P Q before after (Ok status) step h = (h.0, done-follows P Q before after (Ok h.0) step h.1, h.2, h.3)
+pub ends-follow : (P Q : Outcome → Type 0) (before after : Outside) (r : Result Ended Stop) → ((o : Outcome) → P o → Q o) → EndsAs P before after r → EndsAs Q before after r
+ends-follow P Q before after (Ok given) step h = (h.0, done-follows P Q before after (Ok h.0) step h.1, h.2, h.3, h.4)
 ends-follow P Q before after (Err (Refused cause)) step h = done-follows P Q before after (Ok (refusal cause)) step h
 ends-follow P Q before after (Err (Failed fault)) step h = done-follows P Q before after (Err fault) step h
 
@@ -143,7 +157,7 @@ appended-none (Some old) (Some new) h = h ∙ append-nil old
 refused-without : (due : Outcome → Type 0) (before after : Outside) (cause : Cause) → IsDone due before after (Ok (refusal cause)) → IsDone due before after (Err Memory)
 refused-without due before after cause h =
     let whole = h.1 in
-    (inl (record { files = stored-none before.files after.files whole.files; out = appended-none before.taken after.taken whole.out }), h.2)
+    (inl (record { files = stored-none before.files after.files whole.files; trace = whole.trace; out = appended-none before.taken after.taken whole.out }), h.2)
 
 told-again : (status : ℕ) (o : Outcome) (old new : Option (List ℕ)) (faults faults' answer : ℕ) → o.status ≡ status → o.line ≡ [] → IsTold status [] old new faults faults' answer → IsTold o.status o.line old new faults faults' answer
 told-again status o old new faults faults' answer same none h =
@@ -151,13 +165,20 @@ told-again status o old new faults faults' answer same none h =
     subst (λ line. IsTold o.status line old new faults faults' answer) (sym none) first
 
 -- what is done is exactly what is due
-abbrev pub AreExact : (Option Files → Outcome → Type 0) → (before after : Outside) → Type 0
-AreExact due before after = (given : Result Outcome Fault) → IsDone (due before.files) before after given → IsExact due before after given
+abbrev pub AreExact : (Outside → Outcome → Type 0) → (before after : Outside) → Type 0
+AreExact due before after = (given : Result Outcome Fault) → IsDone (due before) before after given → IsExact due before after given
 
-pub told : (due : Option Files → Outcome → Type 0) (before after : Outside) (ended : Result ℕ Stop) (old new : Option (List ℕ)) (faults faults' answer : ℕ) → AreExact due before after → EndsAs (due before.files) before after ended → IsFinished ended old new faults faults' answer →
-    IsToldOf due before after old new faults faults' answer
-told due before after (Ok status) old new faults faults' answer exact h k = (Ok h.0, h.1, exact (Ok h.0) h.1, told-again status h.0 old new faults faults' answer h.2 h.3 k)
-told due before after (Err (Refused cause)) old new faults faults' answer exact h k =
-    ⊎_elim (λ t. (Ok (refusal cause), h, exact (Ok (refusal cause)) h, t))
-    (λ t. let none = refused-without (due before.files) before after cause h in (Err Memory, none, exact (Err Memory) none, t)) k
-told due before after (Err (Failed fault)) old new faults faults' answer exact h k = (Err fault, h, exact (Err fault) h, k)
+-- the command did what its words ask
+pub told-done : (due : Outside → Outcome → Type 0) (before after : Outside) (given : Ended) (old new : Option (List ℕ)) (faults faults' : ℕ) → AreExact due before after → EndsAs (due before) before after (Ok given) → Keeps old new → faults' ≡ faults →
+    IsAnswerOf due before after old new faults faults' given.last given.status
+told-done due before after given old new faults faults' exact h kept same =
+    let told = inl (refl, append-nothing old new kept, same) in
+    (Ok h.0, h.1, exact (Ok h.0) h.1, told-again given.status h.0 old new faults faults' given.status h.2 h.3 told, h.4)
+
+-- the command stopped before that
+pub told-stop : (due : Outside → Outcome → Type 0) (before after : Outside) (stop : Stop) (old new : Option (List ℕ)) (faults faults' answer : ℕ) → AreExact due before after → EndsAs (due before) before after (Err stop) → IsFinished stop old new faults faults' answer →
+    IsAnswerOf due before after old new faults faults' None answer
+told-stop due before after (Refused cause) old new faults faults' answer exact h k =
+    ⊎_elim (λ t. (Ok (refusal cause), h, exact (Ok (refusal cause)) h, t, tt))
+    (λ t. let none = refused-without (due before) before after cause h in (Err Memory, none, exact (Err Memory) none, t, tt)) k
+told-stop due before after (Failed fault) old new faults faults' answer exact h k = (Err fault, h, exact (Err fault) h, k, tt)

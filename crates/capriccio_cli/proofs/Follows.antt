@@ -129,7 +129,7 @@ pub all-loaded : (a b d : Option Files) (s i c : List ℕ) (l m n k : ℕ) (file
 all-loaded a b d s i c l m n k files is also third keeps more same again last =
     (is, is-before document.Image a b i files.image.items keeps also, is-before document.Certificate a d c files.certificate.items (keeps-on a b d keeps more) third, last ∙ (again ∙ same))
 
-of-three : (files : Option Files) (s i c source image certificate : List ℕ) (next : List ℕ → List ℕ → List ℕ → Outcome → Type 0) (o : Outcome) → IsLoaded document.Source files s source → IsLoaded document.Image files i image → IsLoaded document.Certificate files c certificate → next source image certificate o → AfterThree files s i c next o
+pub of-three : (files : Option Files) (s i c source image certificate : List ℕ) (next : List ℕ → List ℕ → List ℕ → Outcome → Type 0) (o : Outcome) → IsLoaded document.Source files s source → IsLoaded document.Image files i image → IsLoaded document.Certificate files c certificate → next source image certificate o → AfterThree files s i c next o
 of-three files s i c source image certificate next o is also third h =
     loaded document.Source files s source (λ source. AfterLoad document.Image files i (λ image. AfterLoad document.Certificate files c (next source image))) o is
     (loaded document.Image files i image (λ image. AfterLoad document.Certificate files c (next source image)) o also

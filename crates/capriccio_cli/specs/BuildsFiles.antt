@@ -1,5 +1,5 @@
 -- What the command `build` does.
-use Rattle.std.specs.Prelude.{ℕ, ◌≡◌, ◌⊎◌, List, [], ◌∷◌, ◌++◌, length, codes, Option}
+use Rattle.std.specs.Prelude.{ℕ, ◌≡◌, ◌⊎◌, List, [], ◌∷◌, ◌++◌, length, codes, Option, None}
 use Rattle.cap_io.specs.Files.{Files}
 use Rattle.cap_text.specs.Decimals.{canonical_decimal}
 use Rattle.c_tree.specs.Trees.{ProgramTree}
@@ -28,7 +28,7 @@ built_line i =
 -- the image, then the certificate, are stored under these names
 abbrev pub built : (image_name certificate_name : List ℕ) → Image → Certificate → Outcome
 built image_name certificate_name i c =
-    record { status = 0; out = built_line i; line = []; stores = (image_name, image.spelling i) ∷ (certificate_name, certificate.spelling c) ∷ [] }
+    record { status = 0; out = built_line i; line = []; stores = (image_name, image.spelling i) ∷ (certificate_name, certificate.spelling c) ∷ []; last = None }
 
 -- what is written of an image and a certificate
 pub record IsProductsOf (i : Image) (c : Certificate) (products : Products) : Type 0 where
@@ -38,24 +38,24 @@ pub record IsProductsOf (i : Image) (c : Certificate) (products : Products) : Ty
 
 abbrev pub stored_products : (image_name certificate_name : List ℕ) → Products → Outcome
 stored_products image_name certificate_name products =
-    record { status = 0; out = products.line.items; line = []; stores = (image_name, products.image.items) ∷ (certificate_name, products.certificate.items) ∷ [] }
+    record { status = 0; out = products.line.items; line = []; stores = (image_name, products.image.items) ∷ (certificate_name, products.certificate.items) ∷ []; last = None }
 
 -- no placement's code is too large
 abbrev pub HasFittingCode : ProgramTree → Options → Type 0
 HasFittingCode program options = (words : ℕ) → ¬ IsTooLarge (lowered program) options (CodeTooLarge words)
 
--- the code is too large, or the pair that is laid out for the placement is stored
-abbrev pub BuildsCode : Options → (image_name certificate_name : List ℕ) → ProgramTree → Outcome → Type 0
-BuildsCode options image_name certificate_name program outcome =
-    ((words : ℕ) × IsTooLarge (lowered program) options (CodeTooLarge words) × (outcome ≡ refusal (cause.Code words)))
-    ⊎ (HasFittingCode program options
-    × ((i : Image) × (c : Certificate) × IsLaidOut (lowered program) options i c × (outcome ≡ built image_name certificate_name i c)))
+-- a frame is too large, or none is and the code is
+abbrev pub IsUnbuilt : Options → ProgramTree → Outcome → Type 0
+IsUnbuilt options program outcome =
+    IsFrameRefused program options.max_path outcome
+    ⊎ (HasFittingFrames program options.max_path × (words : ℕ) × IsTooLarge (lowered program) options (CodeTooLarge words) × (outcome ≡ refusal (cause.Code words)))
 
--- frames come before the code
+-- the pair that is laid out for the placement is stored, where no frame and not the code is too large
 abbrev pub BuildsProgram : Options → (image_name certificate_name : List ℕ) → ProgramTree → Outcome → Type 0
 BuildsProgram options image_name certificate_name program outcome =
-    IsFrameRefused program options.max_path outcome
-    ⊎ (HasFittingFrames program options.max_path × BuildsCode options image_name certificate_name program outcome)
+    IsUnbuilt options program outcome
+    ⊎ (HasFittingFrames program options.max_path × HasFittingCode program options
+    × (i : Image) × (c : Certificate) × IsLaidOut (lowered program) options i c × (outcome ≡ built image_name certificate_name i c))
 
 abbrev pub Builds : Option Files → (name image_name certificate_name : List ℕ) → Options → Outcome → Type 0
 Builds files name image_name certificate_name options =

@@ -9,7 +9,7 @@ use Rattle.stack_image.specs.declared.refusals.ImageError.TheVariants as image
 use Rattle.capriccio_cli.specs.declared.documents.Document.{Document}
 use Rattle.capriccio_cli.specs.declared.documents.Document.TheVariants as document
 use Rattle.capriccio_cli.specs.declared.stops.Cause.{Cause}
-use Rattle.capriccio_cli.specs.declared.stops.Cause.TheVariants.{Usage, NotBuilt, Absent, TooLong, Source, Image, CertificateLine, Frame, Code}
+use Rattle.capriccio_cli.specs.declared.stops.Cause.TheVariants.{Usage, NotBuilt, Absent, TooLong, Source, Image, CertificateLine, Rejected, Frame, Code, Pool}
 use Rattle.capriccio_cli.specs.Outcome.{Outcome, refused}
 
 abbrev pub document_name : Document → List ℕ
@@ -60,6 +60,11 @@ image_words image.Memory = []
 abbrev pub frame_words : List ℕ → ℕ → List ℕ
 frame_words name bytes = (((codes "limit: frame of " ++ name) ++ codes " is ") ++ canonical_decimal bytes) ++ codes " bytes"
 
+-- `rejected VN function F index I`
+abbrev pub rejected_words : ℕ → ℕ → ℕ → List ℕ
+rejected_words rule function index =
+    ((((codes "rejected V" ++ canonical_decimal rule) ++ codes " function ") ++ canonical_decimal function) ++ codes " index ") ++ canonical_decimal index
+
 -- a cause, without its line feed
 abbrev pub cause_words : Cause → List ℕ
 cause_words Usage = codes "usage: capriccio serve SRC, run SRC IMG CRT, build SRC IMG CRT, check SRC IMG CRT, graph SRC, demo N"
@@ -70,6 +75,8 @@ cause_words (Source error) = codes "source: " ++ source_words error
 cause_words (Image error) = codes "image: " ++ image_words error
 cause_words (CertificateLine number) = codes "certificate: Line " ++ canonical_decimal number
 cause_words (Frame name bytes) = frame_words name.items bytes
+cause_words (Rejected rule function index) = codes "check: " ++ rejected_words rule function index
+cause_words (Pool bytes) = (codes "limit: pool is " ++ canonical_decimal bytes) ++ codes " bytes"
 cause_words (Code words) = (codes "limit: code is " ++ canonical_decimal words) ++ codes " words"
 
 abbrev pub cause_status : Cause → ℕ
@@ -82,6 +89,8 @@ cause_status (Image error) = 4
 cause_status (CertificateLine number) = 4
 cause_status (Frame name bytes) = 5
 cause_status (Code words) = 5
+cause_status (Rejected rule function index) = 3
+cause_status (Pool bytes) = 5
 
 -- what a command does where it refuses
 abbrev pub refusal : Cause → Outcome

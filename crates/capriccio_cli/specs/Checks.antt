@@ -1,7 +1,6 @@
 -- What the command `check` does.
 use Rattle.std.specs.Prelude.{ℕ, ◌≡◌, List, [], ◌∷◌, ◌++◌, codes, Option}
 use Rattle.cap_io.specs.Files.{Files}
-use Rattle.cap_text.specs.Decimals.{canonical_decimal}
 use Rattle.c_tree.specs.Trees.{ProgramTree}
 use Rattle.c_lower.specs.ProgramCode.{lowered}
 use Rattle.certificate_rules.specs.Validity.{IsValid, IsFirstFailure}
@@ -10,12 +9,8 @@ use Rattle.stack_certificate.specs.declared.certificates.Certificate.{Certificat
 use Rattle.capriccio_cli.specs.declared.check_command.Verdict.{Verdict}
 use Rattle.capriccio_cli.specs.declared.check_command.Verdict.TheVariants.{Accepted, Rejected}
 use Rattle.capriccio_cli.specs.Outcome.{Outcome, printed}
+use Rattle.capriccio_cli.specs.CauseLines.{rejected_words}
 use Rattle.capriccio_cli.specs.Loads.{AfterThree, AfterSource, AfterImage, AfterCertificate}
-
--- `rejected VN function F index I`
-abbrev pub rejected_words : ℕ → ℕ → ℕ → List ℕ
-rejected_words rule function index =
-    ((((codes "rejected V" ++ canonical_decimal rule) ++ codes " function ") ++ canonical_decimal function) ++ codes " index ") ++ canonical_decimal index
 
 -- the status of a verdict, and its line
 abbrev pub verdict_status : Verdict → ℕ

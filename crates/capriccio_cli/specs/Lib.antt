@@ -1,18 +1,4 @@
-pub mod Code
-pub mod Grammar
-pub mod Words
-pub mod Source
-pub mod Log
-pub mod Lawful
-pub mod Context
-pub mod Execution
-pub mod Machine
-pub mod Segment
-pub mod Served
-pub mod Refusal
 pub mod Prefixes
-pub mod Command
-pub mod Answer
 pub mod FaultLines
 pub mod Outcome
 pub mod CauseLines
@@ -23,4 +9,6 @@ pub mod Checks
 pub mod Due
 pub mod Done
 pub mod Steps
-pub mod Whole
+pub mod Runs
+pub mod RunSteps
+pub mod Headline

@@ -1,21 +1,29 @@
 -- What a command does, as its words and the files have it.
-use Rattle.std.specs.Prelude.{ℕ, List, []}
+use Rattle.std.specs.Prelude.{ℕ, List, [], Option, None}
+use Rattle.lawful_log.specs.Setup.{Setup}
+use Rattle.machine_world.specs.Threads.{World}
 
--- the status, the bytes that the output takes, the line that standard error takes, and the files that are stored, by name and
--- bytes, in order
+-- a run that came to its stop: what it was given, and the machine world at the stop
+pub record Ran : Type 0 where
+  pub setup : Setup
+  pub end : World
+
+-- the status, the bytes that the output takes, the line that standard error takes, the files that are stored, by name and
+-- bytes, in order, and the run, where there is one
 pub record Outcome : Type 0 where
   pub status : ℕ
   pub out : List ℕ
   pub line : List ℕ
   pub stores : List (List ℕ × List ℕ)
+  pub last : Option Ran
 
 -- a refusal: its line, and nothing else
 abbrev pub refused : ℕ → List ℕ → Outcome
-refused status line = record { status = status; out = []; line = line; stores = [] }
+refused status line = record { status = status; out = []; line = line; stores = []; last = None }
 
 -- a text for the output, and nothing else
 abbrev pub printed : ℕ → List ℕ → Outcome
-printed status text = record { status = status; out = text; line = []; stores = [] }
+printed status text = record { status = status; out = text; line = []; stores = []; last = None }
 
 -- nothing more can be due
 abbrev pub NoMore : {A : Type 0} → A → Outcome → Type 0

@@ -1,17 +1,24 @@
 -- What the steps of a command answer, by what is due.
-use Rattle.std.specs.Prelude.{ℕ, ◌≡◌, ◌≤◌, ◌⊎◌, List, [], length, Option, IfSome, Some, Result, Ok, Err}
+use Rattle.std.specs.Prelude.{ℕ, ◌≡◌, ◌≤◌, ◌⊎◌, List, [], length, Option, IfSome, Some, None, Result, Ok, Err}
 use Rattle.std.specs.Global.{Vec}
 use Rattle.std.specs.Io.KnownBytes.{Appends}
-use Rattle.cap_io.specs.Files.{Files}
+use Rattle.cap_io.specs.Files.{Files, KeepsFiles}
+use Rattle.certificate_check.specs.declared.checking.CheckError.{CheckError}
+use Rattle.certificate_check.specs.declared.checking.CheckError.TheVariants as checking
+use Rattle.runner.specs.declared.ends.RunEnd.{RunEnd}
+use Rattle.runner.specs.declared.ends.RunEnd.TheVariants as end
+use Rattle.thread_core.specs.Worlds.{Held}
 use Rattle.capriccio_cli.specs.declared.documents.Document.{Document}
 use Rattle.capriccio_cli.specs.declared.documents.Document.TheVariants as document
 use Rattle.capriccio_cli.specs.declared.loading.LoadedFiles.{LoadedFiles}
+use Rattle.capriccio_cli.specs.declared.stops.Cause.TheVariants as cause
 use Rattle.capriccio_cli.specs.declared.stops.Stop.{Stop}
 use Rattle.capriccio_cli.specs.declared.stops.Stop.TheVariants.{Refused, Failed}
+use Rattle.capriccio_cli.specs.declared.running.Ended.{Ended}
 use Rattle.capriccio_cli.specs.declared.faults.Fault.TheVariants.{Read, Write, Memory}
 use Rattle.capriccio_cli.specs.Outcome.{Outcome, NoMore}
 use Rattle.capriccio_cli.specs.CauseLines.{most_bytes, refusal}
-use Rattle.capriccio_cli.specs.Done.{Outside, WhereTold, AreStored, AreCutShort, IsRisen, IsDone, IsTold}
+use Rattle.capriccio_cli.specs.Done.{Outside, WhereTold, AreStored, AreCutShort, IsRisen, IsDone, IsTold, IsLast}
 use Rattle.capriccio_cli.specs.Prefixes.{TakesPrefix}
 use Rattle.capriccio_cli.specs.FaultLines.{fault_status, fault_line}
 use Rattle.capriccio_cli.specs.Loads.{AfterLoad, AfterThree}
@@ -22,6 +29,11 @@ IsStop due (Refused cause) = due (refusal cause)
 IsStop due (Failed Memory) = Unit {0}
 IsStop due (Failed Read) = ⊥
 IsStop due (Failed Write) = ⊥
+
+-- why a pair isn't accepted
+abbrev pub IsUnaccepted : CheckError → Stop → Type 0
+IsUnaccepted (checking.Rejected rule function index program i c) stop = stop ≡ Refused (cause.Rejected rule function index)
+IsUnaccepted (checking.Memory program i c) stop = stop ≡ Failed Memory
 
 -- a step over a shelf stops, with its count of faults of loads before and after
 abbrev pub IsShelfStop : (Outcome → Type 0) → (loads loads' : ℕ) → Stop → Type 0
@@ -50,8 +62,9 @@ AreLoaded files source image certificate loads loads' (Err stop) =
     IsShelfStop (AfterThree files source image certificate (λ _ _ bytes. NoMore bytes)) loads loads' stop
 
 -- a text was printed, and a status goes with it; or the text is cut short
-abbrev pub IsPrinted : ℕ → List ℕ → (old new : Option (List ℕ)) → (writes writes' : ℕ) → Result ℕ Stop → Type 0
-IsPrinted status text old new writes writes' (Ok given) = (given ≡ status) × Appends old new text × (writes' ≡ writes)
+abbrev pub IsPrinted : ℕ → List ℕ → (old new : Option (List ℕ)) → (writes writes' : ℕ) → Result Ended Stop → Type 0
+IsPrinted status text old new writes writes' (Ok given) =
+    (given ≡ record { status = status; last = None }) × Appends old new text × (writes' ≡ writes)
 IsPrinted status text old new writes writes' (Err (Failed Write)) = TakesPrefix old new text × IsRisen writes writes'
 IsPrinted status text old new writes writes' (Err (Failed Memory)) = TakesPrefix old new text × (writes' ≡ writes)
 IsPrinted status text old new writes writes' (Err (Failed Read)) = ⊥
@@ -65,16 +78,36 @@ AreStores files old new stores stores' (Err (Failed Memory)) = WhereTold (AreCut
 AreStores files old new stores stores' (Err (Failed Read)) = ⊥
 AreStores files old new stores stores' (Err (Refused cause)) = ⊥
 
--- how a command ended, before standard error takes anything: with the status of what it printed, or with its last step
-abbrev pub EndsAs : (Outcome → Type 0) → (before after : Outside) → Result ℕ Stop → Type 0
-EndsAs due before after (Ok status) = (outcome : Outcome) × IsDone due before after (Ok outcome) × (outcome.status ≡ status) × (outcome.line ≡ [])
+-- how a command ended, before standard error takes anything: with its status and the world that it ran, or with its last step
+abbrev pub EndsAs : (Outcome → Type 0) → (before after : Outside) → Result Ended Stop → Type 0
+EndsAs due before after (Ok given) =
+    (outcome : Outcome) × IsDone due before after (Ok outcome) × (outcome.status ≡ given.status) × (outcome.line ≡ []) × IsLast outcome.last given.last
 EndsAs due before after (Err (Refused cause)) = IsDone due before after (Ok (refusal cause))
 EndsAs due before after (Err (Failed fault)) = IsDone due before after (Err fault)
 
--- what is told of that: the line of a refusal needs memory
-abbrev pub IsFinished : Result ℕ Stop → (old new : Option (List ℕ)) → (faults faults' : ℕ) → ℕ → Type 0
-IsFinished (Ok status) old new faults faults' answer = IsTold status [] old new faults faults' answer
-IsFinished (Err (Failed fault)) old new faults faults' answer = IsTold (fault_status fault) (fault_line fault) old new faults faults' answer
-IsFinished (Err (Refused cause)) old new faults faults' answer =
+-- how a run ended, whatever was loaded before it
+abbrev pub RunEnds : (Outcome → Type 0) → (left left' : Option (List ℕ)) → (reads reads' : ℕ) → (taken taken' : Option (List ℕ)) → (writes writes' : ℕ) → Result Ended Stop → Type 0
+RunEnds due left left' reads reads' taken taken' writes writes' answer =
+    (files files' : Option Files) (loads loads' stores stores' : ℕ) → KeepsFiles files files' → loads' ≡ loads → stores' ≡ stores →
+    EndsAs due (record { files = files; loads = loads; stores = stores; left = left; reads = reads; taken = taken; writes = writes })
+    (record { files = files'; loads = loads'; stores = stores'; left = left'; reads = reads'; taken = taken'; writes = writes' }) answer
+
+-- what is told of a last step: the line of a refusal needs memory
+abbrev pub IsFinished : Stop → (old new : Option (List ℕ)) → (faults faults' : ℕ) → ℕ → Type 0
+IsFinished (Failed fault) old new faults faults' answer = IsTold (fault_status fault) (fault_line fault) old new faults faults' answer
+IsFinished (Refused cause) old new faults faults' answer =
     IsTold (refusal cause).status (refusal cause).line old new faults faults' answer
     ⊎ IsTold (fault_status Memory) (fault_line Memory) old new faults faults' answer
+
+-- how a command ends by the end of its run: with the status of the stop and the world, or with a fault
+abbrev pub IsClosed : Held → RunEnd → Result Ended Stop → Type 0
+IsClosed world end.Done answer = answer ≡ Ok (record { status = 0; last = Some world })
+IsClosed world (end.BadTrace line) answer = answer ≡ Ok (record { status = 4; last = Some world })
+IsClosed world end.Idle answer = answer ≡ Ok (record { status = 10; last = Some world })
+IsClosed world (end.Trap thread kind) answer = answer ≡ Ok (record { status = 11; last = Some world })
+IsClosed world (end.NoChunk thread) answer = answer ≡ Ok (record { status = 12; last = Some world })
+IsClosed world (end.Fuel thread) answer = answer ≡ Ok (record { status = 13; last = Some world })
+IsClosed world (end.Threads thread) answer = answer ≡ Ok (record { status = 14; last = Some world })
+IsClosed world end.ReadFault answer = answer ≡ Err (Failed Read)
+IsClosed world end.WriteFault answer = answer ≡ Err (Failed Write)
+IsClosed world end.Memory answer = answer ≡ Err (Failed Memory)

@@ -1,13 +1,10 @@
 // The command `build`: a source is built into an image and a certificate.
-ghost use Rattle.std.specs.Prelude.{ℕ, List, ◌≡◌, ◌++◌, ◌≤◌, ◌⊎◌, Some, None, length, MatchResult, IfOk, OnOk};
+ghost use Rattle.std.specs.Prelude.{ℕ, List, ◌≡◌, ◌++◌, ◌≤◌, length, MatchResult, IfOk, OnOk};
 ghost use Rattle.cap_io.specs.Files.{KeepsFiles};
 ghost use Rattle.c_tree.specs.ProgramView.{program_tree};
-ghost use Rattle.c_lower.specs.ProgramCode.{lowered};
 ghost use Rattle.codegen_link.specs.Plans.{AreInRange};
 ghost use Rattle.stack_image.specs.Spelling as images;
 ghost use Rattle.stack_certificate.specs.Text as texts;
-ghost use Rattle.stack_build.specs.Builds.{frame_refusal, IsTooLarge};
-ghost use Rattle.stack_build.specs.declared.refusals.BuildError.TheVariants as errors;
 ghost use Rattle.capriccio_cli.specs.Loads.{AfterSource};
 ghost use Rattle.capriccio_cli.specs.BuildsFiles.{Builds, BuildsProgram, built_line, IsProductsOf, stored_products};
 ghost use Rattle.capriccio_cli.specs.Steps.{IsStop, IsShelfStop};
@@ -15,13 +12,13 @@ ghost use Rattle.capriccio_cli.specs.Steps.{IsStop, IsShelfStop};
 use crate::cause_lines::{put_number, put_text};
 use crate::documents::Document;
 use crate::faults::Fault;
-use crate::frames::frame_stop;
+use crate::layouts::layout_stop;
 use crate::loading::{load, read_source};
-use crate::stops::{Cause, Stop};
+use crate::stops::Stop;
 use c_tree::Program;
 use cap_io::Shelf;
 use codegen_link::Options;
-use stack_build::{BuildError, Built, lay_out};
+use stack_build::{Built, lay_out};
 use stack_certificate::write_cert;
 use stack_image::{Image, write_image};
 use std::alloc::{AllocError, Global};
@@ -76,27 +73,11 @@ fn build_program(alloc: Global, program: &Program, options: Options) -> Result<P
 {
     let built = match lay_out(alloc, program, options) {
         Ok(built) => built,
-        Err(error) => return Err(build_stop(alloc, program, options, error)),
+        Err(error) => return Err(layout_stop(alloc, program, options, error)),
     };
     match products_of(alloc, &built) {
         Ok(products) => Ok(products),
         Err(AllocError) => Err(Stop::Failed(Fault::Memory)),
-    }
-}
-
-/// Why a program isn't built.
-fn build_stop(alloc: Global, program: &Program, options: Options, error: BuildError) -> Stop
-    requires refused { (error ≡ errors.Memory)
-        ⊎ ((frame_refusal (lowered (program_tree program.now)) options.max_path ≡ Some error) ⊎ IsTooLarge (lowered (program_tree program.now)) options error) }
-    requires frames { IsTooLarge (lowered (program_tree program.now)) options error → frame_refusal (lowered (program_tree program.now)) options.max_path ≡ None }
-    ensures { (image certificate : List ℕ) → IsStop (BuildsProgram options image certificate (program_tree program.now)) result }
-{
-    match error {
-        BuildError::FrameTooLarge { function, bytes } => {
-            frame_stop(alloc, program, options.max_path, function, bytes)
-        }
-        BuildError::CodeTooLarge { words } => Stop::Refused(Cause::Code { words }),
-        BuildError::Memory => Stop::Failed(Fault::Memory),
     }
 }
 

@@ -1,11 +1,11 @@
 // The command `build` over files in memory, with ample memory.
-use super::capriccio;
-use super::command_rows::{
-    CERTIFICATE_OF_SEVEN, IMAGE_OF_SEVEN, IMAGE_OF_TWO, NONE, PUT_SEVEN, TWO, bytes_of, files_of,
-    words_of,
+use crate::command_rows::{
+    CERTIFICATE_OF_SEVEN, IMAGE_OF_SEVEN, IMAGE_OF_TWO, NONE, PUT_SEVEN, TWO, bytes_of,
 };
+use crate::rows::{files_of, status_of, words_of};
 use cap_io::{CleanShelf, CleanSink, CleanSource, MemShelf, MemSink, Shelf, ShelfError};
 use std::alloc::{AllocError, Global};
+use std::process::Abort;
 use std::test::Fail;
 
 const CERTIFICATE_OF_TWO: &[u8] =
@@ -36,11 +36,17 @@ fn file_of<F: Shelf>(alloc: Global, shelf: &mut F, name: &str) -> Result<Vec<u8>
 /// What the words leave, where P is the source.
 fn built(alloc: Global, words: &[&str], source: &[u8]) -> Result<Left, AllocError> {
     let words = words_of(alloc, words)?;
-    let mut shelf = CleanShelf::new(alloc, files_of(alloc, source, OLD, OLD)?);
+    let mut shelf = CleanShelf::new(
+        alloc,
+        files_of(alloc, &[("P", source), ("I", OLD), ("C", OLD)])?,
+    );
     let mut trace = CleanSource::new(Vec::new(alloc));
     let mut out = CleanSink::new(alloc);
     let mut err = CleanSink::new(alloc);
-    let status = capriccio(alloc, &words, &mut shelf, &mut trace, &mut out, &mut err);
+    let mut last = None;
+    let status = status_of(
+        alloc, &words, &mut shelf, &mut trace, &mut out, &mut err, &mut last,
+    );
     Ok(Left {
         status,
         out: out.bytes().to_vec(alloc)?,
@@ -50,12 +56,15 @@ fn built(alloc: Global, words: &[&str], source: &[u8]) -> Result<Left, AllocErro
     })
 }
 
+/// Words, source, what the output takes, image and certificate.
+type BuildRow<'a> = (&'a [&'a str], &'a [u8], &'a [u8], &'a [u8], &'a [u8]);
+
 #[test]
 fn builds(rt: HostRuntime) -> Result<(), Fail> {
     let alloc = rt.alloc();
     let seven = bytes_of(alloc, &IMAGE_OF_SEVEN)?;
     let two = bytes_of(alloc, &IMAGE_OF_TWO)?;
-    let table: [(&[&str], &[u8], &[u8], &[u8], &[u8]); 3] = [
+    let table: [BuildRow; 3] = [
         (
             &["build", "P", "I", "C"],
             PUT_SEVEN,
@@ -79,43 +88,59 @@ fn builds(rt: HostRuntime) -> Result<(), Fail> {
             CERTIFICATE_OF_SEVEN,
         ),
     ];
-    for (words, source, out, image, certificate) in table {
+    hold_builds(&rt, alloc, &table)
+}
+
+/// Holds what `build` leaves of each source.
+fn hold_builds(rt: &impl Abort, alloc: Global, rows: &[BuildRow]) -> Result<(), Fail> {
+    for (words, source, out, image, certificate) in rows {
         let left = built(alloc, words, source)?;
         assert!(rt;
-            left.status == 0 && left.out.as_slice() == out && left.err.as_slice() == NONE,
+            left.status == 0 && left.out.as_slice() == *out && left.err.as_slice() == NONE,
             "{words:?}"
         );
         assert!(rt;
-            left.image.as_slice() == image && left.certificate.as_slice() == certificate,
+            left.image.as_slice() == *image && left.certificate.as_slice() == *certificate,
             "{words:?}"
         );
     }
     Ok(())
 }
 
+const SMALL: &[&str] = &["build", "P", "I", "C", "--chunk", "64", "--max-path", "32"];
+
+const REFUSED_BUILDS: [(&[&str], &[u8], u8, &[u8]); 4] = [
+    (
+        SMALL,
+        b"int main() { int a[10]; return 0; }",
+        5,
+        b"limit: frame of main is 48 bytes\n",
+    ),
+    (SMALL, b"int main() { return; }", 2, b"source: Kind at 13\n"),
+    (&["build", "Q", "I", "C"], TWO, 9, b"absent: source\n"),
+    (
+        &["build", "P", "I"],
+        TWO,
+        1,
+        b"usage: capriccio serve SRC, run SRC IMG CRT, build SRC IMG CRT, check SRC IMG CRT, graph SRC, demo N\n",
+    ),
+];
+
 #[test]
 fn refused_builds(rt: HostRuntime) -> Result<(), Fail> {
-    let small: &[&str] = &["build", "P", "I", "C", "--chunk", "64", "--max-path", "32"];
-    let table: [(&[&str], &[u8], u8, &[u8]); 4] = [
-        (
-            small,
-            b"int main() { int a[10]; return 0; }",
-            5,
-            b"limit: frame of main is 48 bytes\n",
-        ),
-        (small, b"int main() { return; }", 2, b"source: Kind at 13\n"),
-        (&["build", "Q", "I", "C"], TWO, 9, b"absent: source\n"),
-        (
-            &["build", "P", "I"],
-            TWO,
-            1,
-            b"usage: capriccio serve SRC, run SRC IMG CRT, build SRC IMG CRT, check SRC IMG CRT, graph SRC, demo N\n",
-        ),
-    ];
-    for (words, source, status, err) in table {
-        let left = built(rt.alloc(), words, source)?;
+    hold_refused(&rt, rt.alloc(), &REFUSED_BUILDS)
+}
+
+/// Holds that each `build` is refused, with its status and line, and leaves the files as they were.
+fn hold_refused(
+    rt: &impl Abort,
+    alloc: Global,
+    rows: &[(&[&str], &[u8], u8, &[u8])],
+) -> Result<(), Fail> {
+    for (words, source, status, err) in rows {
+        let left = built(alloc, words, source)?;
         assert!(rt;
-            left.status == status && left.out.as_slice() == NONE && left.err.as_slice() == err,
+            left.status == *status && left.out.as_slice() == NONE && left.err.as_slice() == *err,
             "{words:?}"
         );
         assert!(rt;
@@ -138,12 +163,15 @@ fn failing(alloc: Global, call: u64, bytes: u32, write: u64) -> Result<Left, All
     if write > 0 {
         writes.push(write)?;
     }
-    let files = files_of(alloc, PUT_SEVEN, OLD, OLD)?;
+    let files = files_of(alloc, &[("P", PUT_SEVEN), ("I", OLD), ("C", OLD)])?;
     let mut shelf = MemShelf::new(alloc, files, calls);
     let mut trace = CleanSource::new(Vec::new(alloc));
     let mut out = MemSink::new(alloc, 4, writes);
     let mut err = CleanSink::new(alloc);
-    let status = capriccio(alloc, &words, &mut shelf, &mut trace, &mut out, &mut err);
+    let mut last = None;
+    let status = status_of(
+        alloc, &words, &mut shelf, &mut trace, &mut out, &mut err, &mut last,
+    );
     Ok(Left {
         status,
         out: out.bytes().to_vec(alloc)?,
@@ -153,13 +181,17 @@ fn failing(alloc: Global, call: u64, bytes: u32, write: u64) -> Result<Left, All
     })
 }
 
+/// The call of the shelf that fails and the bytes that it leaves, the write that fails, and the status, output, line, image and
+/// certificate then.
+type FailingRow<'a> = (u64, u32, u64, u8, &'a [u8], &'a [u8], &'a [u8], &'a [u8]);
+
 #[test]
 fn failing_builds(rt: HostRuntime) -> Result<(), Fail> {
     let alloc = rt.alloc();
     let seven = bytes_of(alloc, &IMAGE_OF_SEVEN)?;
     let whole = seven.as_slice();
     let part = whole.get(..50).ok_or("fifty bytes")?;
-    let table: [(u64, u32, u64, u8, &[u8], &[u8], &[u8], &[u8]); 6] = [
+    let table: [FailingRow; 6] = [
         (1, 0, 0, 6, NONE, b"fault: read\n", OLD, OLD),
         (2, 0, 0, 7, NONE, b"fault: write\n", NONE, OLD),
         (2, 50, 0, 7, NONE, b"fault: write\n", part, OLD),
@@ -185,14 +217,19 @@ fn failing_builds(rt: HostRuntime) -> Result<(), Fail> {
             CERTIFICATE_OF_SEVEN,
         ),
     ];
-    for (call, bytes, write, status, out, err, image, certificate) in table {
-        let left = failing(alloc, call, bytes, write)?;
+    hold_failing(&rt, alloc, &table)
+}
+
+/// Holds what `build` leaves where that call of the shelf or that write fails.
+fn hold_failing(rt: &impl Abort, alloc: Global, rows: &[FailingRow]) -> Result<(), Fail> {
+    for (call, bytes, write, status, out, err, image, certificate) in rows {
+        let left = failing(alloc, *call, *bytes, *write)?;
         assert!(rt;
-            left.status == status && left.out.as_slice() == out && left.err.as_slice() == err,
+            left.status == *status && left.out.as_slice() == *out && left.err.as_slice() == *err,
             "{call} {bytes} {write}"
         );
         assert!(rt;
-            left.image.as_slice() == image && left.certificate.as_slice() == certificate,
+            left.image.as_slice() == *image && left.certificate.as_slice() == *certificate,
             "{call} {bytes} {write}"
         );
     }

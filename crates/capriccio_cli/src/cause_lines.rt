@@ -2,7 +2,7 @@
 ghost use Rattle.std.specs.Prelude.{◌≡◌, ◌++◌, ◌∷◌, [], codes, IfOk, OnOk};
 ghost use Rattle.cap_text.specs.Decimals.{canonical_decimal};
 ghost use Rattle.cap_word.specs.Limit.{name_of};
-ghost use Rattle.capriccio_cli.specs.CauseLines.{document_name, at_place, source_words, image_words, frame_words, cause_words};
+ghost use Rattle.capriccio_cli.specs.CauseLines.{document_name, at_place, source_words, image_words, frame_words, rejected_words, cause_words};
 
 use crate::documents::Document;
 use crate::stops::Cause;
@@ -40,6 +40,15 @@ fn put_cause(line: &mut Vec<u8>, cause: &Cause) -> Result<(), AllocError>
         Cause::CertificateLine(number) => put_certificate_line(line, *number),
         Cause::Frame { name, bytes } => put_frame(line, name, *bytes),
         Cause::Code { words } => put_code(line, *words),
+        Cause::Rejected {
+            rule,
+            function,
+            index,
+        } => {
+            put_text(line, b"check: ")?;
+            put_rejected(line, *rule, *function, *index)
+        }
+        Cause::Pool { bytes } => put_pool(line, *bytes),
     }
 }
 
@@ -80,6 +89,31 @@ fn put_code(line: &mut Vec<u8>, words: u64) -> Result<(), AllocError>
     put_text(line, b"limit: code is ")?;
     put_number(line, words)?;
     put_text(line, b" words")
+}
+
+fn put_pool(line: &mut Vec<u8>, bytes: u64) -> Result<(), AllocError>
+    ensures { OnOk result (line.new.items ≡ line.old.items ++ ((codes "limit: pool is " ++ canonical_decimal bytes) ++ codes " bytes")) }
+{
+    put_text(line, b"limit: pool is ")?;
+    put_number(line, bytes)?;
+    put_text(line, b" bytes")
+}
+
+/// Appends a rejection.
+pub(crate) fn put_rejected(
+    line: &mut Vec<u8>,
+    rule: u32,
+    function: u32,
+    index: u64,
+) -> Result<(), AllocError>
+    ensures { OnOk result (line.new.items ≡ line.old.items ++ rejected_words rule function index) }
+{
+    put_text(line, b"rejected V")?;
+    put_number(line, u64::from(rule))?;
+    put_text(line, b" function ")?;
+    put_number(line, u64::from(function))?;
+    put_text(line, b" index ")?;
+    put_number(line, index)
 }
 
 fn put_source(line: &mut Vec<u8>, error: &SourceError) -> Result<(), AllocError>

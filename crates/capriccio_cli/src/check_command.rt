@@ -1,11 +1,11 @@
 // The command `check`: a source, an image and a certificate are checked.
-ghost use Rattle.std.specs.Prelude.{◌≡◌, ◌++◌, ◌∷◌, [], ◌≤◌, length, MatchResult, IfOk, OnOk};
+ghost use Rattle.std.specs.Prelude.{◌≡◌, ◌++◌, ◌∷◌, [], ◌≤◌, length, MatchResult, IfOk};
 ghost use Rattle.cap_io.specs.Files.{KeepsFiles};
 ghost use Rattle.c_tree.specs.ProgramView.{program_tree};
-ghost use Rattle.capriccio_cli.specs.Checks.{Checks, ChecksBytes, ChecksPair, rejected_words, verdict_status, verdict_line, verdict_outcome};
+ghost use Rattle.capriccio_cli.specs.Checks.{Checks, ChecksBytes, ChecksPair, verdict_status, verdict_line, verdict_outcome};
 ghost use Rattle.capriccio_cli.specs.Steps.{IsStop, IsShelfStop};
 
-use crate::cause_lines::{put_number, put_text};
+use crate::cause_lines::{put_rejected, put_text};
 use crate::faults::Fault;
 use crate::loading::{load_three, read_certificate_bytes, read_image_bytes, read_source};
 use crate::stops::Stop;
@@ -59,18 +59,6 @@ impl Verdict {
         line.push(b'\n')?;
         Ok(line)
     }
-}
-
-/// Appends a rejection.
-fn put_rejected(line: &mut Vec<u8>, rule: u32, function: u32, index: u64) -> Result<(), AllocError>
-    ensures { OnOk result (line.new.items ≡ line.old.items ++ rejected_words rule function index) }
-{
-    put_text(line, b"rejected V")?;
-    put_number(line, u64::from(rule))?;
-    put_text(line, b" function ")?;
-    put_number(line, u64::from(function))?;
-    put_text(line, b" index ")?;
-    put_number(line, index)
 }
 
 /// Checks the files of these names.

@@ -1,8 +1,10 @@
-// The commands `graph` and `check` over files in memory, with ample memory.
-use super::capriccio;
-use cap_io::{CleanShelf, CleanSink, CleanSource, MemShelf, MemSink};
+// The commands `graph`, `check`, `build` and `run` over files in memory, with ample memory.
+use crate::rows::{Row, call, files_of, hold, is_answer, shelf_of, status_of, words_of};
+use cap_io::{CleanShelf, CleanSink, CleanSource, MemShelf, MemSink, Shelf};
 use std::alloc::{AllocError, Global};
+use std::process::Abort;
 use std::test::Fail;
+use thread_core::World;
 
 /// `int main() { put(7); return 0; }`, its image as words and its certificate, as the formats' vectors have them.
 pub(crate) const PUT_SEVEN: &[u8] = b"int main() { put(7); return 0; }";
@@ -31,7 +33,7 @@ pub(crate) const IMAGE_OF_TWO: [u32; 52] = [
     0x01010113, 0x00008067, 0x00001008, 0x00001048,
 ];
 
-/// The image of the same program where its call is linked.
+/// The same program with a pair whose call is linked, put together by hand from the table of templates.
 const IMAGE_OF_LINKED: [u32; 62] = [
     0x31504143, 0x00000037, 0x00000000, 0x00000000, 0x00000002, 0x01e00893, 0x00000073, 0xff010113,
     0x00112623, 0x00a12023, 0x00012283, 0x00512223, 0x00412503, 0x00c12083, 0x01010113, 0x00008067,
@@ -43,8 +45,8 @@ const IMAGE_OF_LINKED: [u32; 62] = [
     0x00812503, 0x00c12083, 0x01010113, 0x00008067, 0x00001008, 0x00001048,
 ];
 
-const CERTIFICATE_OF_LINKED: &[u8] =
-    b"capriccio certificate 1\nchunk 64\nmax-path 32\nfunctions 2\nfunction 4104 16 16 12 16 0 4\nfunction 4168 37 16 12 16 0 4 8\nsites 1\nsite 0 linked 16\n";
+/// The log of a run of the first.
+const LOG_OF_SEVEN: &[u8] = b"run 0 0 0\nout 0 7\nend 0 17 1024\nedge 0 1 1 4352 -256\nstop done\n";
 
 pub(crate) const NONE: &[u8] = b"";
 
@@ -57,127 +59,89 @@ pub(crate) fn bytes_of(alloc: Global, words: &[u32]) -> Result<Vec<u8>, AllocErr
     Ok(bytes)
 }
 
-/// Words of a command line.
-pub(crate) fn words_of(alloc: Global, words: &[&str]) -> Result<Vec<String>, AllocError> {
-    let mut all = Vec::new(alloc);
-    for word in words {
-        all.push(String::from_str(alloc, word)?)?;
-    }
-    Ok(all)
-}
+const PLAIN: &[&str] = &["graph", "P"];
 
-/// The files P, I and C.
-pub(crate) fn files_of(
-    alloc: Global,
-    source: &[u8],
-    image: &[u8],
-    certificate: &[u8],
-) -> Result<Vec<(String, Vec<u8>)>, AllocError> {
-    let mut files = Vec::new(alloc);
-    files.push((String::from_str(alloc, "P")?, source.to_vec(alloc)?))?;
-    files.push((String::from_str(alloc, "I")?, image.to_vec(alloc)?))?;
-    files.push((String::from_str(alloc, "C")?, certificate.to_vec(alloc)?))?;
-    Ok(files)
-}
+const SMALL: &[&str] = &["graph", "P", "--chunk", "64", "--max-path", "32"];
 
-/// The status, and what the output and standard error took, over objects that never fail.
-fn answer(
-    alloc: Global,
-    words: &[&str],
-    files: Vec<(String, Vec<u8>)>,
-) -> Result<(u8, Vec<u8>, Vec<u8>), AllocError> {
-    let words = words_of(alloc, words)?;
-    let mut shelf = CleanShelf::new(alloc, files);
-    let mut trace = CleanSource::new(Vec::new(alloc));
-    let mut out = CleanSink::new(alloc);
-    let mut err = CleanSink::new(alloc);
-    let status = capriccio(alloc, &words, &mut shelf, &mut trace, &mut out, &mut err);
-    Ok((
-        status,
-        out.bytes().to_vec(alloc)?,
-        err.bytes().to_vec(alloc)?,
-    ))
-}
+const GRAPHS: [Row<'static>; 9] = [
+    (
+        SMALL,
+        TWO,
+        NONE,
+        0,
+        b"function 0 g frame 16 bound 16\nfunction 1 main frame 16 bound 32\nsite 0 main plain\n",
+        NONE,
+    ),
+    (
+        &["graph", "--max-path", "32", "P", "--chunk", "64"],
+        b"int g(int x) { return x; } int main() { int a; int b; int c; a = g(1); return a; }",
+        NONE,
+        0,
+        b"function 0 g frame 16 bound 16\nfunction 1 main frame 32 bound 32\nsite 0 main over\n",
+        NONE,
+    ),
+    (
+        SMALL,
+        b"int main() { int a[10]; return 0; }",
+        NONE,
+        5,
+        NONE,
+        b"limit: frame of main is 48 bytes\n",
+    ),
+    (
+        PLAIN,
+        b"int b(int n); int a(int n) { int r; r = b(n - 1); return r; } int b(int n) { if (n < 1) return 0; int r; r = a(n - 1); return r; } int main() { int r; r = a(9); return r; }",
+        NONE,
+        0,
+        b"function 0 a frame 32 bound 64\nfunction 1 b frame 32 bound 32\nfunction 2 main frame 16 bound 80\nsite 0 a plain\nsite 1 b back\nsite 2 main plain\n",
+        NONE,
+    ),
+    (PLAIN, NONE, NONE, 2, NONE, b"source: NoMain\n"),
+    (
+        PLAIN,
+        b"int main() { int a; int a; return 0; }",
+        NONE,
+        2,
+        NONE,
+        b"source: Twice at 24\n",
+    ),
+    (
+        PLAIN,
+        b"int main() { put(self() + 1); return 0; }",
+        NONE,
+        2,
+        NONE,
+        b"source: NestedCall at 17\n",
+    ),
+    (&["graph", "Q"], TWO, NONE, 9, NONE, b"absent: source\n"),
+    (
+        &["graph", "P", "Q"],
+        TWO,
+        NONE,
+        1,
+        NONE,
+        b"usage: capriccio serve SRC, run SRC IMG CRT, build SRC IMG CRT, check SRC IMG CRT, graph SRC, demo N\n",
+    ),
+];
 
 #[test]
 fn graphs(rt: HostRuntime) -> Result<(), Fail> {
-    let alloc = rt.alloc();
-    let plain: &[&str] = &["graph", "P"];
-    let small: &[&str] = &["graph", "P", "--chunk", "64", "--max-path", "32"];
-    let table: [(&[&str], &[u8], u8, &[u8], &[u8]); 9] = [
-        (
-            small,
-            TWO,
-            0,
-            b"function 0 g frame 16 bound 16\nfunction 1 main frame 16 bound 32\nsite 0 main plain\n",
-            NONE,
-        ),
-        (
-            &["graph", "--max-path", "32", "P", "--chunk", "64"],
-            b"int g(int x) { return x; } int main() { int a; int b; int c; a = g(1); return a; }",
-            0,
-            b"function 0 g frame 16 bound 16\nfunction 1 main frame 32 bound 32\nsite 0 main over\n",
-            NONE,
-        ),
-        (
-            small,
-            b"int main() { int a[10]; return 0; }",
-            5,
-            NONE,
-            b"limit: frame of main is 48 bytes\n",
-        ),
-        (
-            plain,
-            b"int b(int n); int a(int n) { int r; r = b(n - 1); return r; } int b(int n) { if (n < 1) return 0; int r; r = a(n - 1); return r; } int main() { int r; r = a(9); return r; }",
-            0,
-            b"function 0 a frame 32 bound 64\nfunction 1 b frame 32 bound 32\nfunction 2 main frame 16 bound 80\nsite 0 a plain\nsite 1 b back\nsite 2 main plain\n",
-            NONE,
-        ),
-        (plain, NONE, 2, NONE, b"source: NoMain\n"),
-        (
-            plain,
-            b"int main() { int a; int a; return 0; }",
-            2,
-            NONE,
-            b"source: Twice at 24\n",
-        ),
-        (
-            plain,
-            b"int main() { put(self() + 1); return 0; }",
-            2,
-            NONE,
-            b"source: NestedCall at 17\n",
-        ),
-        (&["graph", "Q"], TWO, 9, NONE, b"absent: source\n"),
-        (
-            &["graph", "P", "Q"],
-            TWO,
-            1,
-            NONE,
-            b"usage: capriccio serve SRC, run SRC IMG CRT, build SRC IMG CRT, check SRC IMG CRT, graph SRC, demo N\n",
-        ),
-    ];
-    for (words, source, status, out, err) in table {
-        let given = answer(alloc, words, files_of(alloc, source, NONE, NONE)?)?;
-        assert!(rt;
-            given.0 == status && given.1.as_slice() == out && given.2.as_slice() == err,
-            "{source:?}"
-        );
-    }
-    Ok(())
+    hold(&rt, rt.alloc(), &GRAPHS)
 }
+
+/// Source, image, certificate, the status, and what the output and standard error take.
+type CheckRow<'a> = (&'a [u8], &'a [u8], &'a [u8], u8, &'a [u8], &'a [u8]);
 
 #[test]
 fn checks(rt: HostRuntime) -> Result<(), Fail> {
     let alloc = rt.alloc();
-    let words: &[&str] = &["check", "P", "I", "C"];
     let seven = bytes_of(alloc, &IMAGE_OF_SEVEN)?;
     let cut = seven.as_slice().get(..10).ok_or("ten bytes")?;
     let mut long = seven.as_slice().to_vec(alloc)?;
     long.push(0)?;
     let two = bytes_of(alloc, &IMAGE_OF_TWO)?;
     let linked = bytes_of(alloc, &IMAGE_OF_LINKED)?;
-    let table: [(&[u8], &[u8], &[u8], u8, &[u8], &[u8]); 8] = [
+    let table: [CheckRow; 9] = [
         (
             PUT_SEVEN,
             seven.as_slice(),
@@ -189,10 +153,18 @@ fn checks(rt: HostRuntime) -> Result<(), Fail> {
         (
             TWO,
             linked.as_slice(),
-            CERTIFICATE_OF_LINKED,
+            b"capriccio certificate 1\nchunk 64\nmax-path 32\nfunctions 2\nfunction 4104 16 16 12 16 0 4\nfunction 4168 37 16 12 16 0 4 8\nsites 1\nsite 0 linked 16\n",
             0,
             b"accepted\n",
             NONE,
+        ),
+        (
+            TWO,
+            linked.as_slice(),
+            b"capriccio certificate 1\nchunk 64\nmax-path 32\nmax-path 32\nfunctions 2\nfunction 4104 16 16 12 16 0 4\nfunction 4168 37 16 12 16 0 4 8\nsites 1\nsite 0 linked 16\n",
+            4,
+            NONE,
+            b"certificate: Line 4\n",
         ),
         (
             TWO,
@@ -227,9 +199,9 @@ fn checks(rt: HostRuntime) -> Result<(), Fail> {
             b"image: Long at 120\n",
         ),
         (
-            TWO,
-            linked.as_slice(),
-            b"capriccio certificate 1\nchunk 64\nmax-path 32\nmax-path 32\nfunctions 2\nfunction 4104 16 16 12 16 0 4\nfunction 4168 37 16 12 16 0 4 8\nsites 1\nsite 0 linked 16\n",
+            PUT_SEVEN,
+            seven.as_slice(),
+            b"capriccio certificate 1\nchunk 4096\nmax-path 2032\nmax-path 2032\nfunctions 1\nfunction 4104 22 16 12 16 0\nsites 0\n",
             4,
             NONE,
             b"certificate: Line 4\n",
@@ -243,12 +215,15 @@ fn checks(rt: HostRuntime) -> Result<(), Fail> {
             b"source: Kind at 13\n",
         ),
     ];
-    for (source, image, certificate, status, out, err) in table {
-        let given = answer(alloc, words, files_of(alloc, source, image, certificate)?)?;
-        assert!(rt;
-            given.0 == status && given.1.as_slice() == out && given.2.as_slice() == err,
-            "{err:?}"
-        );
+    hold_checks(&rt, alloc, &table)
+}
+
+/// Holds what `check` says of each source, image and certificate.
+fn hold_checks(rt: &impl Abort, alloc: Global, rows: &[CheckRow]) -> Result<(), Fail> {
+    for (source, image, certificate, status, out, err) in rows {
+        let mut shelf = shelf_of(alloc, &[("P", source), ("I", image), ("C", certificate)])?;
+        let given = call(alloc, &["check", "P", "I", "C"], &mut shelf, NONE)?;
+        assert!(rt; is_answer(&given, *status, out, err), "{err:?}");
     }
     Ok(())
 }
@@ -266,31 +241,115 @@ fn failing(alloc: Global, load: u64, write: u64) -> Result<(u8, Vec<u8>), AllocE
     if write > 0 {
         writes.push(write)?;
     }
-    let files = files_of(alloc, PUT_SEVEN, image.as_slice(), CERTIFICATE_OF_SEVEN)?;
+    let files = files_of(
+        alloc,
+        &[
+            ("P", PUT_SEVEN),
+            ("I", image.as_slice()),
+            ("C", CERTIFICATE_OF_SEVEN),
+        ],
+    )?;
     let mut shelf = MemShelf::new(alloc, files, loads);
     let mut trace = CleanSource::new(Vec::new(alloc));
     let mut out = MemSink::new(alloc, 4, writes);
     let mut err = CleanSink::new(alloc);
-    let status = capriccio(alloc, &words, &mut shelf, &mut trace, &mut out, &mut err);
+    let status = status_of(
+        alloc, &words, &mut shelf, &mut trace, &mut out, &mut err, &mut None,
+    );
     Ok((status, out.bytes().to_vec(alloc)?))
 }
 
+const FAILING_CHECKS: [(u64, u64, u8, &[u8]); 6] = [
+    (1, 0, 6, NONE),
+    (2, 0, 6, NONE),
+    (3, 0, 6, NONE),
+    (0, 1, 7, NONE),
+    (0, 2, 7, b"acce"),
+    (4, 0, 0, b"accepted\n"),
+];
+
 #[test]
 fn failing_checks(rt: HostRuntime) -> Result<(), Fail> {
-    let table: [(u64, u64, u8, &[u8]); 6] = [
-        (1, 0, 6, NONE),
-        (2, 0, 6, NONE),
-        (3, 0, 6, NONE),
-        (0, 1, 7, NONE),
-        (0, 2, 7, b"acce"),
-        (4, 0, 0, b"accepted\n"),
-    ];
-    for (load, write, status, out) in table {
-        let given = failing(rt.alloc(), load, write)?;
+    hold_failing_checks(&rt, rt.alloc(), &FAILING_CHECKS)
+}
+
+/// Holds what `check` answers and prints where that load or that write fails.
+fn hold_failing_checks(
+    rt: &impl Abort,
+    alloc: Global,
+    rows: &[(u64, u64, u8, &[u8])],
+) -> Result<(), Fail> {
+    for (load, write, status, out) in rows {
+        let given = failing(alloc, *load, *write)?;
         assert!(rt;
-            given.0 == status && given.1.as_slice() == out,
+            given.0 == *status && given.1.as_slice() == *out,
             "{load} {write}"
         );
     }
+    Ok(())
+}
+
+/// Whether the world is that of the log at its end: 17 instructions, all of 1,024 chunks free again, no thread, and in chunk
+/// 0 the saved return address and the number of the next free chunk.
+fn is_at_end(last: &Option<World>) -> bool {
+    match last {
+        None => false,
+        Some(world) => {
+            world.cost() == 17
+                && world.free() == 1024
+                && world.live() == 0
+                && word(world, 1023) == Some(4096)
+                && word(world, 0) == Some(1)
+        }
+    }
+}
+
+/// A word of chunk 0.
+fn word(world: &World, word: u32) -> Option<u32> {
+    if world.cap(0) > 0 && word < world.chunk_words() {
+        Some(world.word_at(0, word))
+    } else {
+        None
+    }
+}
+
+/// Whether a file of the shelf has these bytes.
+fn holds(alloc: Global, shelf: &mut CleanShelf, name: &str, bytes: &[u8]) -> bool {
+    match shelf.load(alloc, name, 1000) {
+        Ok(given) => given.as_slice() == bytes,
+        Err(_) => false,
+    }
+}
+
+#[test]
+fn builds_checks_and_runs(rt: HostRuntime) -> Result<(), Fail> {
+    let alloc = rt.alloc();
+    let mut shelf = shelf_of(alloc, &[("P", PUT_SEVEN)])?;
+    let serve = call(alloc, &["serve", "P"], &mut shelf, NONE)?;
+    assert!(rt; is_answer(&serve, 0, LOG_OF_SEVEN, NONE) && is_at_end(&serve.last));
+    let build = call(alloc, &["build", "P", "I", "C"], &mut shelf, NONE)?;
+    assert!(rt;
+        is_answer(&build, 0, b"built code 24 globals 0 tables 0\n", NONE) && build.last.is_none()
+    );
+    let image = bytes_of(alloc, &IMAGE_OF_SEVEN)?;
+    assert!(rt;
+        holds(alloc, &mut shelf, "I", image.as_slice())
+            && holds(alloc, &mut shelf, "C", CERTIFICATE_OF_SEVEN)
+    );
+    let check = call(alloc, &["check", "P", "I", "C"], &mut shelf, NONE)?;
+    assert!(rt; is_answer(&check, 0, b"accepted\n", NONE) && check.last.is_none());
+    let run = call(alloc, &["run", "P", "I", "C"], &mut shelf, NONE)?;
+    assert!(rt; is_answer(&run, 0, LOG_OF_SEVEN, NONE) && is_at_end(&run.last));
+    let large = call(
+        alloc,
+        &["run", "P", "I", "C", "--chunks", "65536"],
+        &mut shelf,
+        NONE,
+    )?;
+    assert!(rt;
+        is_answer(&large, 5, NONE, b"limit: pool is 268435456 bytes\n") && large.last.is_none()
+    );
+    let missing = call(alloc, &["run", "P", "I", "D"], &mut shelf, NONE)?;
+    assert!(rt; is_answer(&missing, 9, NONE, b"absent: certificate\n") && missing.last.is_none());
     Ok(())
 }

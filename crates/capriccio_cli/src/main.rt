@@ -2,57 +2,50 @@
 //
 // In: the words after the program's name, files in the present folder, and a trace on standard input. Out: text on
 // standard output, a refusal's line on standard error, and the status. `capriccio` is the whole program over objects that
-// it is handed; `main` makes the real ones. What is built so far is `serve` of a main that puts numbers: its source is
-// read, compiled for RV32IM, and run on the machine, instruction by instruction. And `graph` and `check` of any source:
-// commands.rt has what they do, over what is due for the words and the files (specs/Due.antt).
+// it is handed; `main` makes the real ones. commands.rt has what the six commands do, over what is due for the words, the
+// files and the trace (specs/Due.antt).
 #![tactic(auto)]
 
 mod build_command;
 mod cause_lines;
 mod check_command;
-mod code;
 mod command;
 mod commands;
-mod context;
 mod documents;
-mod execution;
 mod faults;
-mod fetch;
 mod frames;
-mod grammar;
 mod graph_command;
+mod layouts;
 mod loading;
-mod log;
-mod machine;
-mod refusals;
 mod reports;
-mod segments;
-mod serve;
-mod steps;
+mod run_command;
+mod running;
 mod stops;
 mod stores;
 mod telling;
-mod words;
 
 use cap_io::{DirShelf, StdSink, StdSource};
 pub use command::capriccio;
-use command::report;
-pub use refusals::Refusal;
+use faults::Fault;
 use std::alloc::{AllocError, Global};
 use std::env;
-use std::io::ErrorKind;
+use std::io::{BufReader, ErrorKind};
 use std::process::ExitCode;
 use std::rt::Env;
+use telling::tell;
 
 fn main(rt: HostRuntime) -> ExitCode {
     let mut shelf = DirShelf::new(&rt);
-    let mut trace = StdSource::new(rt.stdin());
     let mut out = StdSink::new(rt.stdout());
     let mut err = StdSink::new(rt.stderr());
-    let words = match words_of(&rt, rt.alloc()) {
-        Ok(words) => words,
-        Err(AllocError) => return ExitCode::from(report(&mut err, Refusal::Memory)),
+    let (Ok(words), Ok(input)) = (
+        words_of(&rt, rt.alloc()),
+        BufReader::new(rt.alloc(), rt.stdin()),
+    ) else {
+        return ExitCode::from(tell(&mut err, Fault::Memory.line(), Fault::Memory.status()));
     };
+    let mut trace = StdSource::new(input);
+    let mut last = None;
     ExitCode::from(capriccio(
         rt.alloc(),
         &words,
@@ -60,6 +53,7 @@ fn main(rt: HostRuntime) -> ExitCode {
         &mut trace,
         &mut out,
         &mut err,
+        &mut last,
     ))
 }
 
@@ -83,5 +77,9 @@ fn words_of<E: Env>(environment: &E, alloc: Global) -> Result<Vec<String>, Alloc
 mod build_rows;
 #[cfg(test)]
 mod command_rows;
+#[cfg(test)]
+mod rows;
+#[cfg(test)]
+mod serve_rows;
 #[cfg(test)]
 mod tests;

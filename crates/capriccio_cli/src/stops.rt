@@ -24,6 +24,15 @@ pub enum Cause {
     Image(ImageError),
     /// This line of the certificate is the first that isn't as the format says.
     CertificateLine(u32),
+    /// The certificate is rejected: this rule fails first, at this function and index.
+    Rejected {
+        /// The number of the rule, from 1 to 12.
+        rule: u32,
+        /// The number of the function.
+        function: u32,
+        /// What the index means depends on the rule.
+        index: u64,
+    },
     /// The frame of the function of this name has so many bytes, too many.
     Frame {
         /// The function's name.
@@ -35,6 +44,11 @@ pub enum Cause {
     Code {
         /// The words of the code.
         words: u64,
+    },
+    /// The pool has so many bytes, too many.
+    Pool {
+        /// The bytes of all chunks.
+        bytes: u64,
     },
 }
 
@@ -50,7 +64,8 @@ impl Cause {
             Cause::TooLong(Document::Image | Document::Certificate)
             | Cause::Image(_)
             | Cause::CertificateLine(_) => 4,
-            Cause::Frame { .. } | Cause::Code { .. } => 5,
+            Cause::Rejected { .. } => 3,
+            Cause::Frame { .. } | Cause::Code { .. } | Cause::Pool { .. } => 5,
         }
     }
 }

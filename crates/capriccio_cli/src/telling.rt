@@ -4,15 +4,16 @@ ghost use Rattle.capriccio_cli.specs.Done.{IsTold};
 ghost use Rattle.capriccio_cli.specs.Steps.{IsPrinted};
 
 use crate::faults::Fault;
+use crate::running::Ended;
 use crate::stops::Stop;
 use cap_io::{Sink, SinkError, put_all};
 
-/// Writes a text to the output, and answers the status that goes with it.
-pub(crate) fn print<K: Sink>(out: &mut K, text: &[u8], status: u8) -> Result<u8, Stop>
+/// Writes a text to the output, and answers the end that goes with it.
+pub(crate) fn print<K: Sink>(out: &mut K, text: &[u8], status: u8) -> Result<Ended, Stop>
     ensures { IsPrinted status text.now (K.taken out.old) (K.taken out.new) (K.faults out.old) (K.faults out.new) result }
 {
     match put_all(out, text) {
-        Ok(()) => Ok(status),
+        Ok(()) => Ok(Ended { status, last: None }),
         Err(SinkError::Failed) => Err(Stop::Failed(Fault::Write)),
         Err(SinkError::Memory) => Err(Stop::Failed(Fault::Memory)),
     }

@@ -17,7 +17,11 @@ fn expected_strain<C: Measure>(
     ensures value { result ≡ pos (pressure_at monitor.now resource) *ℤ prediction graph.now.edges node resource }
     ensures small { unsigned_abs result ≤ 1000 * 2 ^ 39 }
 {
-    i128::from(monitor.pressure(resource)) * graph.predicted(node, resource)
+    let pressure = monitor.pressure(resource);
+    if pressure == 0 {
+        return 0;
+    }
+    i128::from(pressure) * graph.predicted(node, resource)
 }
 
 /// The score of a node: the sum of that over the eight resources.

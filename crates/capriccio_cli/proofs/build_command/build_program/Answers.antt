@@ -1,7 +1,9 @@
-use Rattle.std.proofs.Common.{subst}
+use Rattle.std.proofs.Common.{inl, subst}
 use Rattle.c_tree.specs.ProgramView.{program_tree}
 use Rattle.flat_code.specs.WellFormed.{IsWellFormed}
+use Rattle.capriccio_cli.specs.BuildsFiles.{BuildsProgram, IsUnbuilt}
 use Rattle.capriccio_cli.proofs.Built.{pair-built}
+use Rattle.capriccio_cli.proofs.Follows.{stop-follows}
 use Rattle.capriccio_cli.proofs.Limits.{image-fits, certificate-fits}
 use Rattle.capriccio_cli.proofs.build_command.build_program.Goals as goal
 
@@ -18,3 +20,8 @@ pub returns-in-Ok-products_of : goal.returns-in-Ok-products_of
 returns-in-Ok-products_of c = λ image certificate.
     pair-built (program_tree c.args.program.now) c.args.options image certificate c.in-Ok.built.image c.in-Ok.built.certificate c.in-Ok-products_of.products
     c.args.program.now.well_scoped (subst IsWellFormed c.in-Ok.ensures.flat c.in-Ok.built.flat.well_formed) c.in-Ok.ensures.frames c.in-Ok.ensures.valid c.in-Ok.ensures.laid_out c.in-Ok-products_of.ensures
+
+pub returns-in-Err : goal.returns-in-Err
+returns-in-Err c = λ image certificate.
+    let tree = program_tree c.args.program.now in
+    stop-follows (IsUnbuilt c.args.options tree) (BuildsProgram c.args.options image certificate tree) c.layout_stop.result (λ o h. inl h) c.layout_stop.ensures

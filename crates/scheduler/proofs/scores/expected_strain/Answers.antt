@@ -5,11 +5,11 @@ use Rattle.scheduler.proofs.scores.expected_strain.Goals as goal
 
 pub returns-clause-value : goal.returns-clause-value
 returns-clause-value g c =
-    rw c.from.ensures (computed_strain c.pressure.result c.predicted.result c.pressure.ensures.most c.predicted.ensures.small)
-    ∙ ap (λ (p : ℕ). pos p *ℤ c.predicted.result) c.pressure.ensures.value
+    rw c.from.ensures (computed_strain c.pressure-pressure.result c.predicted.result c.pressure-pressure.ensures.most c.predicted.ensures.small)
+    ∙ ap (λ (p : ℕ). pos p *ℤ c.predicted.result) c.pressure-pressure.ensures.value
     ∙ ap (λ (z : ℤ). pos (pressure_at c.args.monitor.now c.args.resource) *ℤ z) c.predicted.ensures.value
 
 pub returns-clause-small : goal.returns-clause-small
 returns-clause-small g c =
-    rw (c.from.ensures, computed_strain c.pressure.result c.predicted.result c.pressure.ensures.most c.predicted.ensures.small)
-    (strain-le c.pressure.result c.predicted.result c.pressure.ensures.most c.predicted.ensures.small)
+    rw (c.from.ensures, computed_strain c.pressure-pressure.result c.predicted.result c.pressure-pressure.ensures.most c.predicted.ensures.small)
+    (strain-le c.pressure-pressure.result c.predicted.result c.pressure-pressure.ensures.most c.predicted.ensures.small)

@@ -1,0 +1,103 @@
+// Calls of the program over objects in memory that never fail, with ample memory.
+use super::capriccio;
+use cap_io::{CleanShelf, CleanSink, CleanSource, Shelf, Sink, Source};
+use std::alloc::{AllocError, Global};
+use std::process::Abort;
+use std::test::Fail;
+use thread_core::World;
+
+/// The words, the file `P`, the trace, the status, and what the output and standard error take.
+pub(crate) type Row<'a> = (&'a [&'a str], &'a [u8], &'a [u8], u8, &'a [u8], &'a [u8]);
+
+/// What a call answers and writes, and the world that it hands out.
+#[derive(Drop)]
+pub(crate) struct Answer {
+    pub(crate) status: u8,
+    pub(crate) out: Vec<u8>,
+    pub(crate) err: Vec<u8>,
+    pub(crate) last: Option<World>,
+}
+
+/// Words of a command line.
+pub(crate) fn words_of(alloc: Global, words: &[&str]) -> Result<Vec<String>, AllocError> {
+    let mut all = Vec::new(alloc);
+    for word in words {
+        all.push(String::from_str(alloc, word)?)?;
+    }
+    Ok(all)
+}
+
+/// A shelf of these files.
+pub(crate) fn shelf_of(alloc: Global, files: &[(&str, &[u8])]) -> Result<CleanShelf, AllocError> {
+    Ok(CleanShelf::new(alloc, files_of(alloc, files)?))
+}
+
+/// Files, each with its name.
+pub(crate) fn files_of(
+    alloc: Global,
+    files: &[(&str, &[u8])],
+) -> Result<Vec<(String, Vec<u8>)>, AllocError> {
+    let mut all = Vec::new(alloc);
+    for (name, bytes) in files {
+        all.push((String::from_str(alloc, name)?, bytes.to_vec(alloc)?))?;
+    }
+    Ok(all)
+}
+
+/// The status of a call. It has no clause, so that the clauses of `capriccio` aren't among what its callers know.
+pub(crate) fn status_of<F: Shelf, S: Source, K: Sink, E: Sink>(
+    alloc: Global,
+    words: &Vec<String>,
+    shelf: &mut F,
+    trace: &mut S,
+    out: &mut K,
+    err: &mut E,
+    last: &mut Option<World>,
+) -> u8 {
+    capriccio(alloc, words, shelf, trace, out, err, last)
+}
+
+/// A call over a shelf and a trace.
+pub(crate) fn call(
+    alloc: Global,
+    words: &[&str],
+    shelf: &mut CleanShelf,
+    trace: &[u8],
+) -> Result<Answer, AllocError> {
+    let words = words_of(alloc, words)?;
+    let mut trace = CleanSource::new(trace.to_vec(alloc)?);
+    let mut out = CleanSink::new(alloc);
+    let mut err = CleanSink::new(alloc);
+    let mut last = None;
+    let status = status_of(
+        alloc, &words, shelf, &mut trace, &mut out, &mut err, &mut last,
+    );
+    Ok(Answer {
+        status,
+        out: out.bytes().to_vec(alloc)?,
+        err: err.bytes().to_vec(alloc)?,
+        last,
+    })
+}
+
+/// Whether a call ended with this status, and wrote this.
+pub(crate) fn is_answer(answer: &Answer, status: u8, out: &[u8], err: &[u8]) -> bool {
+    answer.status == status && answer.out.as_slice() == out && answer.err.as_slice() == err
+}
+
+/// Whether a call answers and writes as the row says.
+pub(crate) fn is_row(alloc: Global, row: &Row) -> Result<bool, AllocError> {
+    let (words, source, trace, status, out, err) = *row;
+    let mut shelf = shelf_of(alloc, &[("P", source)])?;
+    let answer = call(alloc, words, &mut shelf, trace)?;
+    Ok(is_answer(&answer, status, out, err))
+}
+
+/// Holds each row.
+pub(crate) fn hold(rt: &impl Abort, alloc: Global, rows: &[Row]) -> Result<(), Fail> {
+    for row in rows {
+        let source = row.1;
+        assert!(rt; is_row(alloc, row)?, "{source:?}");
+    }
+    Ok(())
+}
