@@ -1,0 +1,87 @@
+// Rows of as many threads as may live, and of as many as there are chunks.
+
+ghost use Rattle.std.specs.Prelude.{IfSome};
+ghost use Rattle.thread_rows.specs.Moments.{IsAt, after_turn};
+ghost use Rattle.thread_rows.specs.declared.moments.Moment.TheVariants.{Between};
+
+use crate::building::{Setup, world_of};
+use crate::sources::CROWD;
+use crate::turns::{again, begin_main, go_on};
+use cap_word::Stop;
+use std::alloc::Global;
+use std::test::Fail;
+use thread_core::{Turn, World};
+
+// It goes on where it has started the thread of that number.
+fn next(world: &mut World, turn: Turn, number: u32) -> Option<Turn>
+    requires { IsAt (after_turn turn) world.old }
+    ensures { IfSome result (λ turn. IsAt (after_turn turn) world.new) }
+{
+    match turn {
+        Turn::Spawned { thread } => {
+            if thread.number != number {
+                return None;
+            }
+            Some(go_on(world))
+        }
+        _ => None,
+    }
+}
+
+// What the turn is with which thread 0 has started all others, so that so many live.
+fn last(world: &mut World, live: u32) -> Option<Turn>
+    requires { IsAt Between world.old }
+    ensures { IfSome result (λ turn. IsAt (after_turn turn) world.new) }
+{
+    let mut turn = begin_main(world)?;
+    for number in 1..live {
+        turn = next(world, turn, number)?;
+    }
+    Some(turn)
+}
+
+// Whether thread 0 has started all others, then the run stops so, and answers so again.
+fn stops(world: &mut World, live: u32, stop: Stop, cost: u64) -> bool
+    requires { IsAt Between world.old }
+{
+    match last(world, live) {
+        None => false,
+        Some(turn) => turn == Turn::Cut { stop, cost } && again(world, &turn),
+    }
+}
+
+// Whether the run stops so, with so many threads and free chunks.
+fn is_row(alloc: Global, chunks: u32, live: u32, stop: Stop, cost: u64, free: u32) -> bool {
+    let setup = Setup {
+        chunk: 64,
+        chunks,
+        backlog: 1,
+        cap: 0,
+    };
+    match world_of(alloc, CROWD, setup) {
+        None => false,
+        Some(mut world) => {
+            stops(&mut world, live, stop, cost) && world.live() == live && world.free() == free
+        }
+    }
+}
+
+// As many threads live as may, and one chunk is free. A round of the loop that starts threads has 16 instructions up to the call.
+#[test]
+fn the_most_threads(rt: HostRuntime) -> Result<(), Fail> {
+    assert!(rt; is_row(rt.alloc(), 65_536, 65_535, Stop::Threads, 1_048_560, 1));
+    Ok(())
+}
+
+// No chunk is free either: the number of threads comes first.
+#[test]
+fn the_most_threads_and_no_chunk(rt: HostRuntime) -> Result<(), Fail> {
+    assert!(rt; is_row(rt.alloc(), 65_535, 65_535, Stop::Threads, 1_048_560, 0));
+    Ok(())
+}
+
+#[test]
+fn no_chunk_for_a_thread(rt: HostRuntime) -> Result<(), Fail> {
+    assert!(rt; is_row(rt.alloc(), 3, 3, Stop::NoChunk, 48, 0));
+    Ok(())
+}

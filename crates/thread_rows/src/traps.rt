@@ -1,0 +1,85 @@
+// Rows of the traps of modelled calls, each at the border of its condition, and that a run that has stopped answers as it did.
+
+use crate::building::{Setup, world_of};
+use crate::playing::Step::{Begin, Free, Proceed};
+use crate::playing::Told::{Cut, Ends, Stops, Waits};
+use crate::playing::{Told, plays};
+use cap_word::{Stop, TrapKind};
+use std::alloc::Global;
+use std::test::Fail;
+
+const RESOURCE: Told = Stops(Stop::Trap(TrapKind::Resource));
+
+const CHANNEL: Told = Stops(Stop::Trap(TrapKind::Channel));
+
+// A program with the cap of resource 1, what its first turn tells, and how many of its 4 chunks are free after it.
+const ROWS: [(&[u8], u32, Told, u32); 15] = [
+    // more than the cap
+    (
+        b"int main() { take(1, 2); return 0; }",
+        1,
+        Cut(Stop::Trap(TrapKind::Resource), 11),
+        3,
+    ),
+    (b"int main() { take(1, 1); return 0; }", 1, Waits(0), 3),
+    // a negative number
+    (b"int main() { take(1, 0 - 1); return 0; }", 1, RESOURCE, 3),
+    (b"int main() { take(1, 0); return 0; }", 1, Waits(0), 3),
+    // no cap is given
+    (b"int main() { take(1, 0); return 0; }", 0, RESOURCE, 3),
+    (b"int main() { take(0, 0); return 0; }", 1, RESOURCE, 3),
+    (b"int main() { take(8, 0); return 0; }", 1, RESOURCE, 3),
+    (b"int main() { take(0 - 1, 0); return 0; }", 1, RESOURCE, 3),
+    // more than the use
+    (b"int main() { give(1, 1); return 0; }", 1, RESOURCE, 3),
+    (b"int main() { give(1, 0); return 0; }", 1, Ends, 4),
+    (b"int main() { give(1, 0 - 1); return 0; }", 1, RESOURCE, 3),
+    (b"int main() { give(2, 0); return 0; }", 1, RESOURCE, 3),
+    // no channel
+    (
+        b"int main() { int x; x = wait(64); return x; }",
+        1,
+        Cut(Stop::Trap(TrapKind::Channel), 10),
+        3,
+    ),
+    (
+        b"int main() { int x; x = wait(0 - 1); return x; }",
+        1,
+        CHANNEL,
+        3,
+    ),
+    (
+        b"int main() { int x; x = wait(0); return x; }",
+        1,
+        Waits(0),
+        3,
+    ),
+];
+
+// Whether the first segment of a program ends so.
+fn is_row(alloc: Global, source: &[u8], cap: u32, told: Told, free: u32) -> bool {
+    let setup = Setup {
+        chunk: 4096,
+        chunks: 4,
+        backlog: 1,
+        cap,
+    };
+    match world_of(alloc, source, setup) {
+        None => false,
+        Some(mut world) => match told {
+            Cut(..) | Stops(_) => plays(
+                &mut world,
+                &[Begin(0, told), Begin(0, told), Proceed(told), Free(free)],
+            ),
+            _ => plays(&mut world, &[Begin(0, told), Free(free)]),
+        },
+    }
+}
+
+#[test]
+fn traps(rt: HostRuntime) -> Result<(), Fail> {
+    for (source, cap, told, free) in ROWS {
+        assert!(rt; is_row(rt.alloc(), source, cap, told, free));
+    }
+    Ok(())
+}
