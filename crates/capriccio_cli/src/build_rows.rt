@@ -2,8 +2,8 @@
 use crate::command_rows::{
     CERTIFICATE_OF_SEVEN, IMAGE_OF_SEVEN, IMAGE_OF_TWO, NONE, PUT_SEVEN, TWO, bytes_of,
 };
-use crate::rows::{files_of, status_of, words_of};
-use cap_io::{CleanShelf, CleanSink, CleanSource, MemShelf, MemSink, Shelf, ShelfError};
+use crate::rows::{failing_shelf, failing_sink, shelf_of, status_of, words_of};
+use cap_io::{CleanSink, CleanSource, Shelf, ShelfError};
 use std::alloc::{AllocError, Global};
 use std::process::Abort;
 use std::test::Fail;
@@ -33,13 +33,27 @@ fn file_of<F: Shelf>(alloc: Global, shelf: &mut F, name: &str) -> Result<Vec<u8>
     }
 }
 
+/// What a call leaves: its status, what the output and standard error took, and the files I and C.
+fn left_by<F: Shelf>(
+    alloc: Global,
+    shelf: &mut F,
+    status: u8,
+    out: &[u8],
+    err: &[u8],
+) -> Result<Left, AllocError> {
+    Ok(Left {
+        status,
+        out: out.to_vec(alloc)?,
+        err: err.to_vec(alloc)?,
+        image: file_of(alloc, shelf, "I")?,
+        certificate: file_of(alloc, shelf, "C")?,
+    })
+}
+
 /// What the words leave, where P is the source.
 fn built(alloc: Global, words: &[&str], source: &[u8]) -> Result<Left, AllocError> {
     let words = words_of(alloc, words)?;
-    let mut shelf = CleanShelf::new(
-        alloc,
-        files_of(alloc, &[("P", source), ("I", OLD), ("C", OLD)])?,
-    );
+    let mut shelf = shelf_of(alloc, &[("P", source), ("I", OLD), ("C", OLD)])?;
     let mut trace = CleanSource::new(Vec::new(alloc));
     let mut out = CleanSink::new(alloc);
     let mut err = CleanSink::new(alloc);
@@ -47,13 +61,7 @@ fn built(alloc: Global, words: &[&str], source: &[u8]) -> Result<Left, AllocErro
     let status = status_of(
         alloc, &words, &mut shelf, &mut trace, &mut out, &mut err, &mut last,
     );
-    Ok(Left {
-        status,
-        out: out.bytes().to_vec(alloc)?,
-        err: err.bytes().to_vec(alloc)?,
-        image: file_of(alloc, &mut shelf, "I")?,
-        certificate: file_of(alloc, &mut shelf, "C")?,
-    })
+    left_by(alloc, &mut shelf, status, out.bytes(), err.bytes())
 }
 
 /// Words, source, what the output takes, image and certificate.
@@ -155,30 +163,16 @@ fn hold_refused(
 /// fails: 0 stands for none. The output takes 4 bytes a call.
 fn failing(alloc: Global, call: u64, bytes: u32, write: u64) -> Result<Left, AllocError> {
     let words = words_of(alloc, &["build", "P", "I", "C"])?;
-    let mut calls = Vec::new(alloc);
-    if call > 0 {
-        calls.push((call, bytes))?;
-    }
-    let mut writes = Vec::new(alloc);
-    if write > 0 {
-        writes.push(write)?;
-    }
-    let files = files_of(alloc, &[("P", PUT_SEVEN), ("I", OLD), ("C", OLD)])?;
-    let mut shelf = MemShelf::new(alloc, files, calls);
+    let files: [(&str, &[u8]); 3] = [("P", PUT_SEVEN), ("I", OLD), ("C", OLD)];
+    let mut shelf = failing_shelf(alloc, &files, call, bytes)?;
     let mut trace = CleanSource::new(Vec::new(alloc));
-    let mut out = MemSink::new(alloc, 4, writes);
+    let mut out = failing_sink(alloc, 4, write)?;
     let mut err = CleanSink::new(alloc);
     let mut last = None;
     let status = status_of(
         alloc, &words, &mut shelf, &mut trace, &mut out, &mut err, &mut last,
     );
-    Ok(Left {
-        status,
-        out: out.bytes().to_vec(alloc)?,
-        err: err.bytes().to_vec(alloc)?,
-        image: file_of(alloc, &mut shelf, "I")?,
-        certificate: file_of(alloc, &mut shelf, "C")?,
-    })
+    left_by(alloc, &mut shelf, status, out.bytes(), err.bytes())
 }
 
 /// The call of the shelf that fails and the bytes that it leaves, the write that fails, and the status, output, line, image and

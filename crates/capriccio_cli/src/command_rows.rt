@@ -1,6 +1,8 @@
 // The commands `graph`, `check`, `build` and `run` over files in memory, with ample memory.
-use crate::rows::{Row, call, files_of, hold, is_answer, shelf_of, status_of, words_of};
-use cap_io::{CleanShelf, CleanSink, CleanSource, MemShelf, MemSink, Shelf};
+use crate::rows::{
+    Row, call, failing_shelf, failing_sink, hold, is_answer, shelf_of, status_of, words_of,
+};
+use cap_io::{CleanShelf, CleanSink, CleanSource, Shelf};
 use std::alloc::{AllocError, Global};
 use std::process::Abort;
 use std::test::Fail;
@@ -233,25 +235,14 @@ fn hold_checks(rt: &impl Abort, alloc: Global, rows: &[CheckRow]) -> Result<(), 
 fn failing(alloc: Global, load: u64, write: u64) -> Result<(u8, Vec<u8>), AllocError> {
     let words = words_of(alloc, &["check", "P", "I", "C"])?;
     let image = bytes_of(alloc, &IMAGE_OF_SEVEN)?;
-    let mut loads = Vec::new(alloc);
-    if load > 0 {
-        loads.push((load, 0))?;
-    }
-    let mut writes = Vec::new(alloc);
-    if write > 0 {
-        writes.push(write)?;
-    }
-    let files = files_of(
-        alloc,
-        &[
-            ("P", PUT_SEVEN),
-            ("I", image.as_slice()),
-            ("C", CERTIFICATE_OF_SEVEN),
-        ],
-    )?;
-    let mut shelf = MemShelf::new(alloc, files, loads);
+    let files: [(&str, &[u8]); 3] = [
+        ("P", PUT_SEVEN),
+        ("I", image.as_slice()),
+        ("C", CERTIFICATE_OF_SEVEN),
+    ];
+    let mut shelf = failing_shelf(alloc, &files, load, 0)?;
     let mut trace = CleanSource::new(Vec::new(alloc));
-    let mut out = MemSink::new(alloc, 4, writes);
+    let mut out = failing_sink(alloc, 4, write)?;
     let mut err = CleanSink::new(alloc);
     let status = status_of(
         alloc, &words, &mut shelf, &mut trace, &mut out, &mut err, &mut None,

@@ -1,6 +1,10 @@
 // Calls of the program over objects in memory that never fail, with ample memory.
+ghost use Rattle.std.specs.Prelude.{◌≤◌};
+
 use super::capriccio;
-use cap_io::{CleanShelf, CleanSink, CleanSource, Shelf, Sink, Source};
+use cap_io::{
+    CleanShelf, CleanSink, CleanSource, MemShelf, MemSink, MemSource, Shelf, Sink, Source,
+};
 use std::alloc::{AllocError, Global};
 use std::process::Abort;
 use std::test::Fail;
@@ -42,6 +46,41 @@ pub(crate) fn files_of(
         all.push((String::from_str(alloc, name)?, bytes.to_vec(alloc)?))?;
     }
     Ok(all)
+}
+
+/// A shelf of these files that fails at a call, where a store leaves so many bytes, or at none where the call is 0.
+pub(crate) fn failing_shelf(
+    alloc: Global,
+    files: &[(&str, &[u8])],
+    call: u64,
+    bytes: u32,
+) -> Result<MemShelf, AllocError> {
+    let mut calls = Vec::new(alloc);
+    if call > 0 {
+        calls.push((call, bytes))?;
+    }
+    Ok(MemShelf::new(alloc, files_of(alloc, files)?, calls))
+}
+
+/// The call of a stream that fails, or none where it is 0.
+fn failing_call(alloc: Global, call: u64) -> Result<Vec<u64>, AllocError> {
+    let mut calls = Vec::new(alloc);
+    if call > 0 {
+        calls.push(call)?;
+    }
+    Ok(calls)
+}
+
+/// An empty trace that fails at a call, or at none where it is 0.
+pub(crate) fn failing_trace(alloc: Global, call: u64) -> Result<MemSource, AllocError> {
+    Ok(MemSource::new(Vec::new(alloc), 1, failing_call(alloc, call)?))
+}
+
+/// A sink that takes so many bytes a call and fails at a call, or at none where it is 0.
+pub(crate) fn failing_sink(alloc: Global, per_call: u32, call: u64) -> Result<MemSink, AllocError>
+    requires { 1 ≤ per_call }
+{
+    Ok(MemSink::new(alloc, per_call, failing_call(alloc, call)?))
 }
 
 /// The status of a call. It has no clause, so that the clauses of `capriccio` aren't among what its callers know.

@@ -2,8 +2,8 @@
 ghost use Rattle.std.specs.Io.{WritesAtMost};
 
 use super::words_of as given_words;
-use crate::rows::{files_of, is_row, status_of, words_of};
-use cap_io::{MemShelf, MemSink, MemSource};
+use crate::rows::{failing_shelf, failing_sink, failing_trace, is_row, status_of, words_of};
+use cap_io::MemSink;
 use std::alloc::{AllocError, Global};
 use std::env::FillError;
 use std::process::Abort;
@@ -28,41 +28,34 @@ fn a_long_source_is_refused(rt: HostRuntime) -> Result<(), Fail> {
     Ok(())
 }
 
-/// The call that is to fail, or none where it is 0.
-fn calls_of(alloc: Global, call: u64) -> Result<Vec<u64>, AllocError> {
-    let mut calls = Vec::new(alloc);
-    if call > 0 {
-        calls.push(call)?;
-    }
-    Ok(calls)
-}
-
-/// The same of a shelf.
-fn loads_of(alloc: Global, call: u64) -> Result<Vec<(u64, u32)>, AllocError> {
-    let mut calls = Vec::new(alloc);
-    if call > 0 {
-        calls.push((call, 0))?;
-    }
-    Ok(calls)
-}
-
 /// The status, and what the output and standard error took, where calls of the shelf, the trace, the output and standard
 /// error fail: 0 stands for none. The output takes 10 bytes a call.
 fn failing(alloc: Global, fails: [u64; 4]) -> Result<(u8, Vec<u8>, Vec<u8>), AllocError> {
     let [load, read, write, line] = fails;
     let words = words_of(alloc, &["serve", "P"])?;
-    let files = files_of(alloc, &[("P", PUT_SEVEN)])?;
-    let mut shelf = MemShelf::new(alloc, files, loads_of(alloc, load)?);
-    let mut trace = MemSource::new(Vec::new(alloc), 1, calls_of(alloc, read)?);
-    let mut out = MemSink::new(alloc, 10, calls_of(alloc, write)?);
-    let mut err = MemSink::new(alloc, 100, calls_of(alloc, line)?);
+    let mut shelf = failing_shelf(alloc, &[("P", PUT_SEVEN)], load, 0)?;
+    let mut trace = failing_trace(alloc, read)?;
+    let mut out = failing_sink(alloc, 10, write)?;
+    let mut err = failing_sink(alloc, 100, line)?;
     let mut last = None;
     let status = status_of(
         alloc, &words, &mut shelf, &mut trace, &mut out, &mut err, &mut last,
     );
-    let taken = out.bytes().to_vec(alloc)?;
-    let line = err.bytes().to_vec(alloc)?;
-    Ok((status, taken, line))
+    copied(alloc, status, &out, &err)
+}
+
+/// A status, and what two sinks took.
+fn copied(
+    alloc: Global,
+    status: u8,
+    out: &MemSink,
+    err: &MemSink,
+) -> Result<(u8, Vec<u8>, Vec<u8>), AllocError> {
+    Ok((
+        status,
+        out.bytes().to_vec(alloc)?,
+        err.bytes().to_vec(alloc)?,
+    ))
 }
 
 /// The calls of the shelf, the trace, the output and standard error that fail, the status, the most bytes that the output takes, and
