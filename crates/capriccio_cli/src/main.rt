@@ -78,6 +78,8 @@ mod build_rows;
 #[cfg(test)]
 mod command_rows;
 #[cfg(test)]
+mod example_rows;
+#[cfg(test)]
 mod rows;
 #[cfg(test)]
 mod serve_rows;
