@@ -1,5 +1,5 @@
 -- The run was good whose world is handed out.
-use Rattle.std.proofs.Common.{◌≡◌, ◌⊎◌, ℕ, List, [], Option, Some, None, Ok, Err, refl, ap, subst, ◌∙◌, ⊎_elim, inl, inr}
+use Rattle.std.proofs.Common.{◌≡◌, ◌⊎◌, ℕ, List, [], Option, Some, None, Ok, Err, refl, sym, ap, subst, ◌∙◌, ⊎_elim, inl, inr}
 use Rattle.std.specs.Io.KnownBytes.{Appends}
 use Rattle.cap_io.specs.Files.{Files}
 use Rattle.c_tree.specs.Trees.{ProgramTree}
@@ -10,16 +10,16 @@ use Rattle.lawful_log.specs.Setup.{Setup}
 use Rattle.stack_certificate.specs.declared.certificates.Certificate.{Certificate}
 use Rattle.stack_image.specs.declared.images.Image.{Image}
 use Rattle.thread_core.specs.Worlds.{Held}
-use Rattle.capriccio_cli.specs.declared.documents.Document.{Document}
-use Rattle.capriccio_cli.specs.declared.documents.Document.TheVariants as document
-use Rattle.capriccio_cli.specs.Outcome.{Outcome, Ran}
-use Rattle.capriccio_cli.specs.Loads.{OfFile, AfterLoad, AfterThree, AfterSource, AfterImage, AfterCertificate}
-use Rattle.capriccio_cli.specs.Graphs.{GraphsProgram}
-use Rattle.capriccio_cli.specs.Checks.{ChecksBytes, ChecksPair}
-use Rattle.capriccio_cli.specs.BuildsFiles.{BuildsProgram, IsUnbuilt}
-use Rattle.capriccio_cli.specs.Runs.{RunsOn, ServesProgram, RunsBytes, RunsPair, run_outcome}
-use Rattle.capriccio_cli.specs.Due.{Does, IsDue, sizes_of}
-use Rattle.capriccio_cli.specs.Done.{Outside, IsTold, IsLast}
+use Rattle.capriccio_commands.specs.declared.documents.Document.{Document}
+use Rattle.capriccio_commands.specs.declared.documents.Document.TheVariants as document
+use Rattle.capriccio_commands.specs.Outcome.{Outcome, Ran}
+use Rattle.capriccio_commands.specs.Loads.{OfFile, AfterLoad, AfterThree, AfterSource, AfterImage, AfterCertificate}
+use Rattle.capriccio_commands.specs.Graphs.{GraphsProgram}
+use Rattle.capriccio_commands.specs.Checks.{ChecksBytes, ChecksPair}
+use Rattle.capriccio_commands.specs.BuildsFiles.{BuildsProgram, IsUnbuilt}
+use Rattle.capriccio_commands.specs.Runs.{RunsOn, ServesProgram, RunsBytes, RunsPair, run_outcome}
+use Rattle.capriccio_commands.specs.Due.{Does, IsDue, sizes_of}
+use Rattle.capriccio_commands.specs.Done.{Outside, IsTold, IsLast}
 use Rattle.capriccio_cli.specs.Headline.{IsAnswer, RanWell, WasGood}
 
 -- an outcome without a run, or one of a run
@@ -134,3 +134,7 @@ was-good words before after err err' faults faults' (Some world) status (Ok o, d
     (λ x. ran-well before after o world status x.0 x.1 whole.out last (λ empty. status-told o.status o.line err err' faults faults' status empty told))
     (of-due words before o done.0)
 was-good words before after err err' faults faults' (Some world) status (Err fault, done, exact, told, last) = absurd last
+
+-- where no world is handed out, there is nothing to say
+pub good-without : (before after : Outside) (last : Option Held) (status : ℕ) → last ≡ None → WasGood before after last status
+good-without before after last status none = subst (λ (world : Option Held). WasGood before after world status) (sym none) tt

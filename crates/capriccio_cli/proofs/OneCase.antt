@@ -22,31 +22,31 @@ use Rattle.stack_build.specs.declared.refusals.BuildError.TheVariants.{FrameTooL
 use Rattle.command_words.specs.WordList.{IsWordList, Request, Serve, Run, Build, Check, Graph, Demo}
 use Rattle.command_words.proofs.OneRequest.{one_request}
 use Rattle.analysis_lines.specs.Lines.{name_at}
-use Rattle.capriccio_cli.specs.declared.documents.Document.{Document}
-use Rattle.capriccio_cli.specs.declared.documents.Document.TheVariants as document
-use Rattle.capriccio_cli.specs.declared.stops.Cause.{Cause}
-use Rattle.capriccio_cli.specs.declared.stops.Cause.TheVariants as cause
-use Rattle.capriccio_cli.specs.declared.faults.Fault.{Fault}
-use Rattle.capriccio_cli.specs.declared.faults.Fault.TheVariants.{Read, Write, Memory}
-use Rattle.capriccio_cli.specs.declared.check_command.Verdict.{Verdict}
-use Rattle.capriccio_cli.specs.declared.check_command.Verdict.TheVariants.{Accepted, Rejected}
-use Rattle.capriccio_cli.specs.Outcome.{Outcome, refused, printed}
-use Rattle.capriccio_cli.specs.CauseLines.{refusal, frame_words}
-use Rattle.capriccio_cli.specs.Loads.{OfFile, AfterLoad, AfterThree, AfterSource, AfterImage, AfterCertificate, IsImageText, IsCertificateText}
-use Rattle.capriccio_cli.specs.Graphs.{Graphs, GraphsProgram, HasFittingFrames, IsFrameRefused, names_of}
-use Rattle.capriccio_cli.specs.Checks.{Checks, ChecksBytes, ChecksPair, IsVerdict, verdict_outcome}
+use Rattle.capriccio_commands.specs.declared.documents.Document.{Document}
+use Rattle.capriccio_commands.specs.declared.documents.Document.TheVariants as document
+use Rattle.capriccio_commands.specs.declared.stops.Cause.{Cause}
+use Rattle.capriccio_commands.specs.declared.stops.Cause.TheVariants as cause
+use Rattle.capriccio_commands.specs.declared.faults.Fault.{Fault}
+use Rattle.capriccio_commands.specs.declared.faults.Fault.TheVariants.{Read, Write, Memory}
+use Rattle.capriccio_commands.specs.declared.check_command.Verdict.{Verdict}
+use Rattle.capriccio_commands.specs.declared.check_command.Verdict.TheVariants.{Accepted, Rejected}
+use Rattle.capriccio_commands.specs.Outcome.{Outcome, refused, printed}
+use Rattle.capriccio_commands.specs.CauseLines.{refusal, frame_words}
+use Rattle.capriccio_commands.specs.Loads.{OfFile, AfterLoad, AfterThree, AfterSource, AfterImage, AfterCertificate, IsImageText, IsCertificateText}
+use Rattle.capriccio_commands.specs.Graphs.{Graphs, GraphsProgram, HasFittingFrames, IsFrameRefused, names_of}
+use Rattle.capriccio_commands.specs.Checks.{Checks, ChecksBytes, ChecksPair, IsVerdict, verdict_outcome}
 use Rattle.codegen_link.specs.declared.options.Options.{Options}
 use Rattle.command_words.specs.declared.options.Policy.{Policy as RunOptions}
-use Rattle.capriccio_cli.specs.BuildsFiles.{Builds, BuildsProgram, HasFittingCode, IsUnbuilt, built}
-use Rattle.capriccio_cli.specs.Runs.{RunsOn, Serves, ServesProgram, Runs, RunsBytes, RunsPair, setup_of}
-use Rattle.capriccio_cli.specs.RunSteps.{IsRunPolicy}
-use Rattle.capriccio_cli.specs.Due.{Does, IsDue, IsUnlisted, sizes_of}
-use Rattle.capriccio_cli.specs.Done.{Outside, IsRisen, IsDone, IsExact}
+use Rattle.capriccio_commands.specs.BuildsFiles.{Builds, BuildsProgram, HasFittingCode, IsUnbuilt, built}
+use Rattle.capriccio_commands.specs.Runs.{RunsOn, Serves, ServesProgram, Runs, RunsBytes, RunsPair, setup_of}
+use Rattle.capriccio_commands.specs.RunSteps.{IsRunPolicy}
+use Rattle.capriccio_commands.specs.Due.{Does, IsDue, IsUnlisted, sizes_of}
+use Rattle.capriccio_commands.specs.Done.{Outside, IsRisen, IsDone, IsExact}
 use Rattle.c_scope.proofs.SourceTexts.{one_program, one_source_error, never}
-use Rattle.capriccio_cli.proofs.OneBuild.{plans-are-one, words-are-one, texts-are-one}
+use Rattle.capriccio_commands.proofs.OneBuild.{plans-are-one, words-are-one, texts-are-one}
 use Rattle.capriccio_cli.proofs.OnePair.{pairs-are-one}
 use Rattle.capriccio_cli.proofs.OneRun.{one-outcome}
-use Rattle.capriccio_cli.proofs.Options.{serve-policy, serve-pool, run-policy}
+use Rattle.capriccio_commands.proofs.Options.{serve-policy, serve-pool, run-policy}
 
 alike : (a b o : Outcome) → a ≡ o → b ≡ o → a ≡ b
 alike a b o p q = p ∙ sym q

@@ -10,8 +10,8 @@ use Rattle.machine_world.specs.WellFormed.{AreWellFormed}
 use Rattle.one_log.specs.One.{HasOneLog}
 use Rattle.one_log.proofs.Starting.{one_log}
 use Rattle.segment_run.proofs.Forming.{areas_formed}
-use Rattle.capriccio_cli.specs.Outcome.{Outcome}
-use Rattle.capriccio_cli.specs.Runs.{IsAccepted, RunsOn, run_outcome}
+use Rattle.capriccio_commands.specs.Outcome.{Outcome}
+use Rattle.capriccio_commands.specs.Runs.{IsAccepted, RunsOn, run_outcome}
 
 fours : (bytes : ℕ) → bytes % 16 ≡ 0 → 4 * (bytes / 4) ≡ bytes
 fours bytes h = omega arith

@@ -10,11 +10,11 @@ use Rattle.schedule_log.specs.EntryText.{log_text}
 use Rattle.schedule_log.specs.declared.entries.Entry.{Entry}
 use Rattle.schedule_log.specs.declared.entries.StopLine.{StopLine}
 use Rattle.thread_core.specs.Worlds.{Held}
-use Rattle.capriccio_cli.specs.declared.faults.Fault.{Fault}
-use Rattle.capriccio_cli.specs.Outcome.{Outcome}
-use Rattle.capriccio_cli.specs.Done.{Outside, IsDone, IsExact, IsTold, IsLast, IsWorldOf, status_of, line_of, last_of}
-use Rattle.capriccio_cli.specs.Due.{IsDue}
-use Rattle.capriccio_cli.specs.Runs.{IsAccepted, IsRun, stop_status}
+use Rattle.capriccio_commands.specs.declared.faults.Fault.{Fault}
+use Rattle.capriccio_commands.specs.Outcome.{Outcome}
+use Rattle.capriccio_commands.specs.Done.{Outside, IsDone, IsExact, IsTold, IsLast, IsWorldOf, status_of, line_of, last_of}
+use Rattle.capriccio_commands.specs.Due.{IsDue}
+use Rattle.capriccio_commands.specs.Runs.{IsAccepted, IsRun, stop_status}
 
 -- What is due is done as a whole, or after a fault or a want of memory in part; where nothing failed it is just what is due. Standard
 -- error takes the line, the status is that of the outcome or of the fault, and the world that was run is handed out exactly where

@@ -1,13 +1,11 @@
 // The program as a whole, over the objects that it is handed.
-ghost use Rattle.std.specs.Prelude.{map};
+ghost use Rattle.std.specs.Prelude.{◌≡◌, map};
 ghost use Rattle.std.specs.String.{string_bytes};
-ghost use Rattle.capriccio_cli.specs.Done.{outside_by};
+ghost use Rattle.capriccio_commands.specs.Done.{outside_by};
 ghost use Rattle.capriccio_cli.specs.Headline.{IsAnswer, WasGood};
 
-use crate::commands::do_words;
-use crate::reports::finish;
-use crate::running::Ended;
 use cap_io::{Shelf, Sink, Source};
+use capriccio_commands::{Ended, do_words, finish};
 use std::alloc::Global;
 use thread_core::World;
 
@@ -34,12 +32,19 @@ pub fn capriccio<F: Shelf, S: Source, K: Sink, E: Sink>(
                 last: world,
             },
         ) => {
-            *last = world;
+            put(last, world);
             status
         }
         Err(stop) => {
-            *last = None;
+            put(last, None);
             finish(alloc, err, stop)
         }
     }
+}
+
+/// Puts a value in the place of the one before.
+fn put<T: Drop>(place: &mut T, value: T)
+    ensures { place.new ≡ value }
+{
+    *place = value;
 }

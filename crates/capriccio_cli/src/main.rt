@@ -2,37 +2,19 @@
 //
 // In: the words after the program's name, files in the present folder, and a trace on standard input. Out: text on
 // standard output, a refusal's line on standard error, and the status. `capriccio` is the whole program over objects that
-// it is handed; `main` makes the real ones. commands.rt has what the six commands do, over what is due for the words, the
-// files and the trace (specs/Due.antt).
+// it is handed; `main` makes the real ones. What each command does is the crate `capriccio_commands`.
 #![tactic(auto)]
 
-mod build_command;
-mod cause_lines;
-mod check_command;
 mod command;
-mod commands;
-mod documents;
-mod faults;
-mod frames;
-mod graph_command;
-mod layouts;
-mod loading;
-mod reports;
-mod run_command;
-mod running;
-mod stops;
-mod stores;
-mod telling;
 
 use cap_io::{DirShelf, StdSink, StdSource};
+use capriccio_commands::{Fault, tell};
 pub use command::capriccio;
-use faults::Fault;
 use std::alloc::{AllocError, Global};
 use std::env;
 use std::io::{BufReader, ErrorKind};
 use std::process::ExitCode;
 use std::rt::Env;
-use telling::tell;
 
 fn main(rt: HostRuntime) -> ExitCode {
     let mut shelf = DirShelf::new(&rt);

@@ -14,12 +14,13 @@ const T1: Register = Register::T1;
 
 const ZERO: Register = Register::ZERO;
 
-// An instruction has its word, and the word decodes to it.
+// An instruction has its word, and the word decodes to an instruction that has it, which is the same one, by `table_laws`.
 fn both_ways(rt: &impl Abort, instr: &Instr, word: u32) {
-    assert!(rt;
-        encode(*instr) == word && decode(word) == Some(*instr),
-        "{word:08x}"
-    );
+    let again = match decode(word) {
+        Some(given) => encode(given) == word,
+        None => false,
+    };
+    assert!(rt; encode(*instr) == word && again, "{word:08x}");
 }
 
 #[test]

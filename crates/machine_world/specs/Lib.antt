@@ -1,10 +1,3 @@
-pub mod World
-pub mod Start
-pub mod Effect
-pub mod Run
-pub mod Frames
-pub mod Partition
-pub mod Good
 pub mod Areas
 pub mod Local
 pub mod Held

@@ -3,7 +3,7 @@
 // Memory of the threads: Areas. One thread: Local (its steps and the calls of the run time), Held and Links (chunks under
 // them). All threads: Threads (a step), Runs, Numbered, Chains and Counted (held and free chunks), WellFormed, Alone (what
 // stays). Frames in place: Places, InPlace, Keys, Rests, Stretches, GoodRuns. The source's: Globals, StandsFor,
-// StandsForWorld. Computed: Examples, Descending. The first path's: World, Start, Effect, Run, Frames, Partition, Good.
+// StandsForWorld. Computed: Examples, Descending.
 // Sources: RISC-V unprivileged manual, chapters "RV32I" and "M"; Capriccio (von Behren et al., SOSP 2003), "Linked Stack
 // Management". The crate above uses the definitions and the laws in src/.
 #![tactic(auto)]
@@ -17,10 +17,6 @@ mod sources;
 mod stretches;
 mod world_laws;
 
-ghost use Rattle.std.specs.Prelude.{◌≡◌, ℕ, ◌+◌, List};
-ghost use Rattle.machine_world.specs.World.{World};
-ghost use Rattle.machine_world.specs.Run.{world_after, and_then_after};
-
 pub use examples::local_examples;
 pub use forms::form_laws;
 pub use frame_laws::chain_law;
@@ -29,9 +25,3 @@ pub use linked::linked_example;
 pub use sources::source_example;
 pub use stretches::stretch_laws;
 pub use world_laws::{alone_laws, partition_laws, run_laws};
-
-/// A run of `m` steps and then `n` steps is a run of `m + n` steps, for any code and any world.
-pub fn runs_compose()
-    ensures { (code : List ℕ) (running m n : ℕ) (world : World) →
-        world_after code running (m + n) world ≡ and_then_after code running n (world_after code running m world) }
-{}

@@ -4,7 +4,7 @@ use crate::registers::Register;
 
 /// An instruction of RV32IM, with the fields of its format: a variant for each name, in the order of the
 /// tables of the RISC-V unprivileged manual (chapters "RV32I" and "M").
-#[derive(Clone, Copy, PartialEq, Eq)]
+#[derive(Clone, Copy)]
 pub enum Instr {
     Lui {
         rd: Register,

@@ -1,0 +1,14 @@
+pub mod Follows
+pub mod Leading
+pub mod Ending
+pub mod Analyses
+pub mod Appended
+pub mod Stopped
+pub mod Limits
+pub mod Built
+pub mod RisingLists
+pub mod OnePlan
+pub mod LoweredGraph
+pub mod OneBuild
+pub mod Making
+pub mod Options

@@ -1,0 +1,110 @@
+-- What is known of a world that was just made, and of the world of a run at its end.
+use Rattle.std.proofs.Common.{◌≡◌, ℕ, zero, suc, ◌+◌, ◌*◌, ◌/◌, ◌≤◌, ◌∷◌, ◌++◌, Bool, true, false, List, [], Option, Some, None, refl, sym, ap, subst, ◌∙◌, add-one}
+use Rattle.std.specs.Prelude.{IsTrue, if◌then◌else◌, drop, replicate}
+use Rattle.c_lower.specs.ProgramCode.{lowered}
+use Rattle.certificate_check.specs.Accepting.{accepted_tree}
+use Rattle.certificate_check.specs.Acceptance.{Acceptance}
+use Rattle.certificate_rules.specs.Validity.{IsValid}
+use Rattle.chunk_pool.specs.Pool.{Pool, Taken, taken_for, taken_of, fits, start_pool}
+use Rattle.command_words.specs.declared.options.Policy.{Policy as RunOptions}
+use Rattle.machine_world.specs.Areas.{Areas}
+use Rattle.machine_world.specs.Runs.{empty_world, started_on, start_world}
+use Rattle.machine_world.specs.Threads.{World, with_thread}
+use Rattle.machine_world.specs.WellFormed.{AreWords}
+use Rattle.resource_monitor.specs.Monitor.{MonitorState}
+use Rattle.resource_monitor.specs.declared.curves.Curve.{Curve}
+use Rattle.resource_monitor.specs.declared.curves.Curve.TheVariants.{Linear}
+use Rattle.runner.specs.Answers.{IsAtStart, KeepsRun}
+use Rattle.stack_certificate.specs.Certificates.{fact_at}
+use Rattle.thread_core.specs.Making.{IsPolicy, IsStart}
+use Rattle.thread_core.specs.Worlds.{Held}
+use Rattle.capriccio_commands.specs.Done.{IsWorldOf}
+use Rattle.capriccio_commands.specs.Runs.{IsAccepted}
+use Rattle.capriccio_commands.specs.RunSteps.{IsMade, IsRunPolicy, setup_in, world_policy_of}
+
+-- a pool that a chunk is taken from keeps its count
+taken-count : (p : Pool) (need : ℕ) (ids : List ℕ) (taken : Taken) → taken_of p need ids ≡ Some taken → taken.pool.count ≡ p.count
+taken-count p need [] taken e = absurd (let x : None ≡ Some taken = e in cc)
+taken-count p need (id ∷ ids) taken e = by_fits (fits p need id) e
+  where
+    by_fits : (b : Bool) → (let some : Taken = record { chunk = id; pool = record p { free = ids } } in (if b then Some some else None) ≡ Some taken) → taken.pool.count ≡ p.count
+    by_fits true is = let some : Taken = record { chunk = id; pool = record p { free = ids } } in let same : some ≡ taken = (let x : Some some ≡ Some taken = is in cc) in sym (ap (λ (t : Taken). t.pool.count) same)
+    by_fits false is = absurd (let x : None ≡ Some taken = is in cc)
+
+started : (areas : Areas) (entry : ℕ) (found : Option Taken) (w : World) → ((taken : Taken) → found ≡ Some taken → taken.pool.count ≡ areas.pool.count) → started_on (empty_world areas) entry found ≡ Some w →
+    (w.areas.globals ≡ areas.globals) × (w.areas.pool.count ≡ areas.pool.count)
+started areas entry None w count e = absurd (let x : None ≡ Some w = e in cc)
+started areas entry (Some taken) w count e =
+    let first : World = with_thread (empty_world areas) taken entry 0 in
+    let same : first ≡ w = (let x : Some first ≡ Some w = e in cc) in
+    (sym (ap (λ (v : World). v.areas.globals) same), sym (ap (λ (v : World). v.areas.pool.count) same) ∙ count taken refl)
+
+-- the world in which a run starts has the image's globals, and so many chunks
+start-keeps : (chunks words : ℕ) (globals tables : List ℕ) (entry need : ℕ) (w : World) → start_world chunks words globals tables entry need ≡ Some w → (w.areas.globals ≡ globals) × (w.areas.pool.count ≡ chunks)
+unfolding start_world
+start-keeps chunks words globals tables entry need w e =
+    let areas : Areas = record { pool = start_pool chunks words; globals = globals; tables = tables } in
+    started areas entry (taken_for areas.pool need) w (λ taken is. taken-count areas.pool need areas.pool.free taken is) e
+
+-- the options are those of a world of an accepted pair
+pub policy-ranges : (options : RunOptions) (accepted : Acceptance) → IsRunPolicy options → options.chunks * accepted.certificate.chunk ≤ 67108864 → IsPolicy accepted (world_policy_of options) options.fuel
+policy-ranges options accepted h fits = record {
+  some_chunks = h.some_chunks;
+  chunks = h.chunks;
+  some_backlog = h.some_backlog;
+  backlog = h.backlog;
+  caps = h.caps;
+  most = h.fuel;
+  pool = fits;
+}
+
+pub made-world : (options : RunOptions) (accepted : Acceptance) (held : Held) → IsRunPolicy options → options.chunks * accepted.certificate.chunk ≤ 67108864 →
+    IsValid (lowered (accepted_tree accepted)) accepted.image accepted.certificate → IsStart accepted (world_policy_of options) options.fuel held → IsMade options held
+made-world options accepted held h fits valid start =
+    let P : Acceptance → Type 0 = λ x. IsPolicy x (world_policy_of options) options.fuel in
+    let Q : Acceptance → Type 0 = λ x. IsStart x (world_policy_of options) options.fuel held in
+    let R : Acceptance → Type 0 = λ x. IsValid (lowered (accepted_tree x)) x.image x.certificate in
+    let is = sym start.accepted_is in
+    record { ranges = subst P is (policy-ranges options accepted h fits); made = subst Q is start; valid = subst R is valid }
+
+-- one more gauge
+pub one-more : (n : ℕ) → replicate (n + 1) Linear ≡ replicate n Linear ++ (Linear ∷ [])
+one-more zero = refl
+one-more (suc n) = rw add-one (ap (λ (curves : List Curve). Linear ∷ curves) (let e = one-more n in rw add-one at e))
+
+module _ (options : RunOptions) (held : Held) (made : IsMade options held) where
+  kept : (held.machine.areas.globals ≡ held.accepted.image.globals) × (held.machine.areas.pool.count ≡ options.chunks)
+  kept = start-keeps options.chunks (held.accepted.certificate.chunk / 4) held.accepted.image.globals held.accepted.image.tables
+      (fact_at held.accepted.certificate (accepted_tree held.accepted).main).entry (fact_at held.accepted.certificate (accepted_tree held.accepted).main).bound held.machine made.made.machine
+
+  -- the checker accepted its pair
+  pub made-accepted : IsAccepted (setup_in held options)
+  made-accepted = record {
+    scoped = held.accepted.program.well_scoped;
+    globals = subst AreWords kept.0 made.made.formed.areas.global_words;
+    valid = made.valid;
+  }
+
+  -- a run of it starts
+  pub at-start : (monitor : MonitorState) → monitor.curves ≡ replicate 8 Linear → monitor.caps ≡ options.chunks ∷ drop 1 options.caps → monitor.high ≡ options.high → monitor.low ≡ options.low → IsTrue monitor.is_open →
+      IsAtStart (setup_in held options) held monitor
+  at-start monitor curves caps high low open' = record {
+    program = refl;
+    image = refl;
+    certificate = refl;
+    ranges = made.ranges;
+    made = made.made;
+    monitor_is = record { curves = curves; caps = caps; high = high; low = low };
+    gate = open';
+  }
+
+  -- the world at the end of a run is that of the pair and the options
+  pub world-of : (after : Held) → KeepsRun held after → IsWorldOf (record { setup = setup_in held options; end = after.machine }) after
+  world-of after keeps = record {
+    program = ap accepted_tree keeps.accepted;
+    image = ap (λ a. a.image) keeps.accepted;
+    certificate = ap (λ a. a.certificate) keeps.accepted;
+    setting = keeps.setting ∙ made.made.setting;
+    chunks = keeps.chunks ∙ kept.1;
+    machine = refl;
+  }

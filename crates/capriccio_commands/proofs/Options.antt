@@ -1,0 +1,78 @@
+-- What the options of a word list are, by its command.
+use Rattle.std.proofs.Common.{ℕ, zero, suc, ◌*◌, ◌≤◌, List, [], ◌∷◌, map, replicate, slice_index, Option, Some, None, sym, subst, arith, mul_comm}
+use Rattle.std.specs.Prelude.{◌==◌}
+use Rattle.call_graph.proofs.ListLemmas.{by_test}
+use Rattle.codegen_link.specs.Plans.{AreInRange}
+use Rattle.command_words.specs.Values.{IsPlacement, IsPolicy, AreCaps, AreCapsAbove, cap_of}
+use Rattle.command_words.specs.WordList.{IsWordList, Serve, Run, Build}
+use Rattle.command_words.specs.declared.options.Placement.{Placement}
+use Rattle.command_words.specs.declared.options.Policy.{Policy}
+use Rattle.capriccio_commands.specs.Due.{sizes_of}
+use Rattle.capriccio_commands.specs.RunSteps.{IsRunPolicy}
+
+in-range : (given : List ℕ → Option (List ℕ)) (placement : Placement) → IsPlacement given placement → AreInRange (sizes_of placement)
+in-range given placement h =
+    let chunk = h.chunk in
+    let path = h.max_path in
+    let least : 64 ≤ placement.chunk = chunk.not_less in
+    record { aligned = h.whole; least = least; most = chunk.not_more; path = path.not_less; room = (let most = path.not_more in omega arith) }
+
+-- each cap that is given is at most 1,000,000
+cap-most : (below : ℕ) (pairs : List (ℕ × ℕ)) (sought : ℕ) → AreCapsAbove below pairs → cap_of pairs sought ≤ 1000000
+cap-most below [] sought h = omega arith
+cap-most below ((resource, most) ∷ rest) sought h =
+    by_test (resource == sought)
+    (λ t. rw t (h.3))
+    (λ f. rw f (cap-most resource rest sought h.4))
+
+caps-most : (pairs : List (ℕ × ℕ)) → AreCapsAbove 0 pairs → (resources : List ℕ) (r : ℕ) → slice_index (map (cap_of pairs) resources) r ≤ 1000000
+caps-most pairs h [] zero = omega arith
+caps-most pairs h [] (suc r) = omega arith
+caps-most pairs h (x ∷ resources) zero = cap-most 0 pairs x h
+caps-most pairs h (x ∷ resources) (suc r) = caps-most pairs h resources r
+
+none-most : (n r : ℕ) → slice_index (replicate n 0) r ≤ 1000000
+none-most zero zero = omega arith
+none-most zero (suc r) = omega arith
+none-most (suc n) zero = omega arith
+none-most (suc n) (suc r) = none-most n r
+
+caps-in-range : (given : Option (List ℕ)) (caps : List ℕ) → AreCaps given caps → (r : ℕ) → slice_index caps r ≤ 1000000
+caps-in-range None caps h r = subst (λ (xs : List ℕ). slice_index xs r ≤ 1000000) (sym h) (none-most 8 r)
+caps-in-range (Some text) caps h r = let is = h.1 in subst (λ (xs : List ℕ). slice_index xs r ≤ 1000000) (sym h.2) (caps-most h.0 is.in_range (0 ∷ 1 ∷ 2 ∷ 3 ∷ 4 ∷ 5 ∷ 6 ∷ 7 ∷ []) r)
+
+run-policy-of : (given : List ℕ → Option (List ℕ)) (policy : Policy) → IsPolicy given policy → IsRunPolicy policy
+run-policy-of given policy h =
+    let chunks = h.chunks in
+    let fuel = h.fuel in
+    let backlog = h.backlog in
+    let high = h.high in
+    let low = h.low in
+    record {
+      some_chunks = chunks.not_less;
+      chunks = chunks.not_more;
+      fuel = fuel.not_more;
+      some_backlog = backlog.not_less;
+      backlog = backlog.not_more;
+      caps = λ r some lt. caps-in-range _ policy.caps h.caps r;
+      high = high.not_more;
+      low = (let some = high.not_less in let most = low.not_more in omega arith);
+    }
+
+-- a list for `build`
+pub build-sizes : (words : List (List ℕ)) (source image certificate : List ℕ) (placement : Placement) → IsWordList words (Build source image certificate placement) → AreInRange (sizes_of placement)
+build-sizes words source image certificate placement h = in-range _ placement h.2
+
+-- a list for `serve`
+pub serve-sizes : (words : List (List ℕ)) (source : List ℕ) (placement : Placement) (policy : Policy) → IsWordList words (Serve source placement policy) → AreInRange (sizes_of placement)
+serve-sizes words source placement policy h = in-range _ placement h.2
+
+pub serve-policy : (words : List (List ℕ)) (source : List ℕ) (placement : Placement) (policy : Policy) → IsWordList words (Serve source placement policy) → IsRunPolicy policy
+serve-policy words source placement policy h = run-policy-of _ policy h.3
+
+pub serve-pool : (words : List (List ℕ)) (source : List ℕ) (placement : Placement) (policy : Policy) → IsWordList words (Serve source placement policy) → policy.chunks * placement.chunk ≤ 67108864
+serve-pool words source placement policy h = let fits = h.4 in let chunk : ℕ = placement.chunk in let chunks : ℕ = policy.chunks in subst (λ n. n ≤ 67108864) (mul_comm chunk chunks) fits
+
+-- a list for `run`
+pub run-policy : (words : List (List ℕ)) (source image certificate : List ℕ) (policy : Policy) → IsWordList words (Run source image certificate policy) → IsRunPolicy policy
+run-policy words source image certificate policy h = run-policy-of _ policy h.2

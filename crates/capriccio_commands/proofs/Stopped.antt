@@ -1,0 +1,101 @@
+-- How a command ends whose run came to its stop, or could not go on.
+use Rattle.std.proofs.Common.{◌≡◌, ℕ, List, Option, Some, None, Result, Ok, Err, refl, sym, ap, subst, inr}
+use Rattle.std.specs.Prelude.{IfSome}
+use Rattle.cap_io.specs.Files.{KeepsFiles}
+use Rattle.cap_word.specs.declared.stops.Stop.TheVariants as cut
+use Rattle.lawful_log.specs.Good.{IsGoodLog}
+use Rattle.lawful_log.specs.Lawful.{IsLawfulLog}
+use Rattle.lawful_log.specs.Setup.{Setup}
+use Rattle.machine_world.specs.Threads.{World}
+use Rattle.runner.specs.Answers.{IsEndAt, CameTo, FellShort, IsRunEnd}
+use Rattle.runner.specs.declared.ends.RunEnd.{RunEnd}
+use Rattle.runner.specs.declared.ends.RunEnd.TheVariants as end
+use Rattle.schedule_log.specs.declared.entries.Entry.{Entry}
+use Rattle.schedule_log.specs.declared.entries.StopLine.{StopLine}
+use Rattle.thread_core.specs.Worlds.{Held}
+use Rattle.capriccio_commands.specs.declared.faults.Fault.TheVariants.{Read, Write, Memory}
+use Rattle.capriccio_commands.specs.declared.stops.Stop.{Stop}
+use Rattle.capriccio_commands.specs.declared.stops.Stop.TheVariants.{Failed}
+use Rattle.capriccio_commands.specs.declared.running.Ended.{Ended}
+use Rattle.capriccio_commands.specs.Outcome.{Outcome}
+use Rattle.capriccio_commands.specs.Done.{Outside, IsWhole, IsCutInOut, NoneCounted, TraceCounted, WriteCounted, IsWorldOf}
+use Rattle.capriccio_commands.specs.Runs.{IsAccepted, IsRun, RunsOn, run_outcome, stop_status}
+use Rattle.capriccio_commands.specs.Steps.{EndsAs, IsClosed}
+use Rattle.capriccio_commands.proofs.Ending.{kept-are-stored}
+
+-- the status that goes with the end of a run
+abbrev end-status : RunEnd → ℕ
+end-status end.Done = 0
+end-status (end.BadTrace line) = 4
+end-status end.Idle = 10
+end-status (end.Trap thread kind) = 11
+end-status (end.NoChunk thread) = 12
+end-status (end.Fuel thread) = 13
+end-status (end.Threads thread) = 14
+end-status end.ReadFault = 6
+end-status end.WriteFault = 7
+end-status end.Memory = 8
+
+end-is : (stop : StopLine) (answer : RunEnd) → IsEndAt stop answer → stop_status stop ≡ end-status answer
+end-is StopLine.Done answer h = sym (ap end-status h)
+end-is StopLine.Idle answer h = sym (ap end-status h)
+end-is (StopLine.Trace line) answer h = sym (ap end-status h)
+end-is (StopLine.Cut number (cut.Trap kind) cost free) answer h = sym (ap end-status h.2)
+end-is (StopLine.Cut number cut.NoChunk cost free) answer h = sym (ap end-status h.2)
+end-is (StopLine.Cut number cut.Fuel cost free) answer h = sym (ap end-status h.2)
+end-is (StopLine.Cut number cut.Threads cost free) answer h = sym (ap end-status h.2)
+
+is-run : (g : Setup) (left : Option (List ℕ)) (entries : List Entry) (stop : StopLine) (w : World) → IfSome left (λ bytes. IsLawfulLog g bytes entries stop w) → IfSome left (λ bytes. IsGoodLog g entries) → IfSome left (λ bytes. IsRun g bytes entries stop w)
+is-run g None entries stop w h k = tt
+is-run g (Some bytes) entries stop w h k = record { lawful = h; good = k }
+
+-- the run came to its stop
+at-stop : (g : Setup) (before after : Outside) (held : Held) (answer : RunEnd) (r : Result Ended Stop) → IsAccepted g → KeepsFiles before.files after.files → after.loads ≡ before.loads → after.stores ≡ before.stores →
+    IsWorldOf (record { setup = g; end = held.machine }) held → CameTo g held before.left before.taken after.taken answer → after.reads ≡ before.reads → after.writes ≡ before.writes →
+    r ≡ Ok (record { status = end-status answer; last = Some held }) → EndsAs (RunsOn before.left g) before after r
+at-stop g before after held answer r ok files loads stores of came reads writes is =
+    let given : Ended = record { status = end-status answer; last = Some held } in
+    let outcome : Outcome = run_outcome g came.entries came.stop held.machine in
+    let due : RunsOn before.left g outcome = (ok, came.entries, came.stop, held.machine, is-run g before.left came.entries came.stop held.machine came.lawful came.good, refl) in
+    let whole : IsWhole outcome before after = record { files = kept-are-stored before.files after.files files; trace = tt; out = came.writes } in
+    let none : NoneCounted before after = record { loads = loads; stores = stores; reads = reads; writes = writes } in
+    let ends : EndsAs (RunsOn before.left g) before after (Ok given) = (outcome, (due, whole, none), end-is came.stop answer came.end_is, refl, of) in
+    subst (λ (a : Result Ended Stop). EndsAs (RunsOn before.left g) before after a) (sym is) ends
+
+-- what was written of a run that could not go on is a beginning of what is due
+short-due : (g : Setup) (left taken taken' : Option (List ℕ)) (held : Held) → IsAccepted g → (short : FellShort g held left taken taken') → RunsOn left g (run_outcome g short.entries short.stop short.end)
+short-due g left taken taken' held ok short = (ok, short.entries, short.stop, short.end, is-run g left short.entries short.stop short.end short.lawful short.good, refl)
+
+pub closed : (g : Setup) (before after : Outside) (held : Held) (answer : RunEnd) (r : Result Ended Stop) → IsAccepted g → KeepsFiles before.files after.files → after.loads ≡ before.loads → after.stores ≡ before.stores →
+    IsWorldOf (record { setup = g; end = held.machine }) held → IsRunEnd g held before.left before.taken after.taken before.reads after.reads before.writes after.writes answer →
+    IsClosed held answer r → EndsAs (RunsOn before.left g) before after r
+closed g before after held end.Done r ok files loads stores of h is = at-stop g before after held end.Done r ok files loads stores of h.0 h.1 h.2 is
+closed g before after held (end.BadTrace line) r ok files loads stores of h is = at-stop g before after held (end.BadTrace line) r ok files loads stores of h.0 h.1 h.2 is
+closed g before after held end.Idle r ok files loads stores of h is = at-stop g before after held end.Idle r ok files loads stores of h.0 h.1 h.2 is
+closed g before after held (end.Trap thread kind) r ok files loads stores of h is = at-stop g before after held (end.Trap thread kind) r ok files loads stores of h.0 h.1 h.2 is
+closed g before after held (end.NoChunk thread) r ok files loads stores of h is = at-stop g before after held (end.NoChunk thread) r ok files loads stores of h.0 h.1 h.2 is
+closed g before after held (end.Fuel thread) r ok files loads stores of h is = at-stop g before after held (end.Fuel thread) r ok files loads stores of h.0 h.1 h.2 is
+closed g before after held (end.Threads thread) r ok files loads stores of h is = at-stop g before after held (end.Threads thread) r ok files loads stores of h.0 h.1 h.2 is
+closed g before after held end.ReadFault r ok files loads stores of h is =
+    let short = h.0 in let risen = h.1 in
+    let outcome : Outcome = run_outcome g short.entries short.stop short.end in
+    let cut-short : IsCutInOut outcome before after = record { files = kept-are-stored before.files after.files files; trace = tt; out = (short.count, short.part, short.writes) } in
+    let counted : TraceCounted before after = record { loads = loads; stores = stores; reads = record { rose = risen.rose; never_falls = risen.never_falls }; writes = h.2 } in
+    let ends : EndsAs (RunsOn before.left g) before after (Err (Failed Read)) =
+    inr (outcome, record { setup = g; end = short.end }, refl, short-due g before.left before.taken after.taken held ok short, cut-short, counted) in
+    subst (λ (a : Result Ended Stop). EndsAs (RunsOn before.left g) before after a) (sym is) ends
+closed g before after held end.WriteFault r ok files loads stores of h is =
+    let short = h.0 in let risen = h.2 in
+    let outcome : Outcome = run_outcome g short.entries short.stop short.end in
+    let cut-short : IsCutInOut outcome before after = record { files = kept-are-stored before.files after.files files; trace = tt; out = (short.count, short.part, short.writes) } in
+    let counted : WriteCounted before after = record { loads = loads; stores = stores; reads = h.1; writes = record { rose = risen.rose; never_falls = risen.never_falls } } in
+    let ends : EndsAs (RunsOn before.left g) before after (Err (Failed Write)) =
+    (outcome, short-due g before.left before.taken after.taken held ok short, inr (cut-short, counted)) in
+    subst (λ (a : Result Ended Stop). EndsAs (RunsOn before.left g) before after a) (sym is) ends
+closed g before after held end.Memory r ok files loads stores of h is =
+    let short = h.0 in
+    let outcome : Outcome = run_outcome g short.entries short.stop short.end in
+    let cut-short : IsCutInOut outcome before after = record { files = kept-are-stored before.files after.files files; trace = tt; out = (short.count, short.part, short.writes) } in
+    let ends : EndsAs (RunsOn before.left g) before after (Err (Failed Memory)) =
+    (inr (outcome, short-due g before.left before.taken after.taken held ok short, inr cut-short), record { loads = loads; stores = stores; reads = h.1; writes = h.2 }) in
+    subst (λ (a : Result Ended Stop). EndsAs (RunsOn before.left g) before after a) (sym is) ends

@@ -1,0 +1,93 @@
+use Rattle.std.proofs.Common.{Err, refl, sym, subst}
+use Rattle.codegen_link.specs.declared.options.Options.{Options}
+use Rattle.command_words.specs.declared.commands.Command.{Command}
+use Rattle.command_words.specs.WordList.{request_of}
+use Rattle.capriccio_commands.specs.BuildsFiles.{Builds}
+use Rattle.capriccio_commands.specs.Done.{Outside}
+use Rattle.capriccio_commands.specs.Due.{Does, sizes_of}
+use Rattle.capriccio_commands.specs.Graphs.{Graphs}
+use Rattle.capriccio_commands.specs.Runs.{Serves}
+use Rattle.capriccio_commands.specs.Steps.{EndsAs}
+use Rattle.capriccio_commands.specs.declared.stops.Cause.TheVariants.{NotBuilt}
+use Rattle.capriccio_commands.specs.declared.stops.Stop.TheVariants.{Refused}
+use Rattle.capriccio_commands.proofs.Ending.{refused-at-once}
+use Rattle.capriccio_commands.proofs.Options.{build-sizes, serve-sizes, serve-policy, serve-pool, run-policy}
+use Rattle.capriccio_commands.proofs.commands.do_command.Goals as goal
+
+pub build-requires : goal.build-requires
+build-requires g c =
+    let asked = rw c.in-Build.is at c.requires.1 in
+    rw c.options_of-in-Build.ensures (build-sizes c.requires.0 c.in-Build.source.now c.in-Build.image.now c.in-Build.certificate.now c.in-Build.placement asked)
+
+pub serve-requires-clause-sizes : goal.serve-requires-clause-sizes
+serve-requires-clause-sizes g c =
+    let asked = rw c.in-Serve.is at c.requires.1 in
+    rw c.options_of-in-Serve.ensures (serve-sizes c.requires.0 c.in-Serve.source.now c.in-Serve.placement c.in-Serve.policy asked)
+
+pub serve-requires-clause-policy : goal.serve-requires-clause-policy
+serve-requires-clause-policy g c =
+    let asked = rw c.in-Serve.is at c.requires.1 in
+    serve-policy c.requires.0 c.in-Serve.source.now c.in-Serve.placement c.in-Serve.policy asked
+
+pub serve-requires-clause-pool : goal.serve-requires-clause-pool
+serve-requires-clause-pool g c =
+    let asked = rw c.in-Serve.is at c.requires.1 in
+    rw c.options_of-in-Serve.ensures (serve-pool c.requires.0 c.in-Serve.source.now c.in-Serve.placement c.in-Serve.policy asked)
+
+pub run_pair-requires : goal.run_pair-requires
+run_pair-requires g c =
+    let asked = rw c.in-Run.is at c.requires.1 in
+    run-policy c.requires.0 c.in-Run.source.now c.in-Run.image.now c.in-Run.certificate.now c.in-Run.policy asked
+
+pub returns-in-Graph : goal.returns-in-Graph
+returns-in-Graph g c =
+    let F = g.F.Shelf in let S = g.S.Source in let K = g.K.Sink in let a = c.args in
+    let before : Outside = record { files = F.files a.shelf.now; loads = F.load_faults a.shelf.now; stores = F.store_faults a.shelf.now; left = S.left a.trace.now; reads = S.faults a.trace.now; taken = K.taken a.out.now; writes = K.faults a.out.now } in
+    let after : Outside = record { files = F.files c.graph.new.shelf; loads = F.load_faults c.graph.new.shelf; stores = F.store_faults c.graph.new.shelf; left = S.left a.trace.now; reads = S.faults a.trace.now; taken = K.taken c.graph.new.out; writes = K.faults c.graph.new.out } in
+    let P : Options → Type 0 = λ o. EndsAs (Graphs before.files c.in-Graph.source.now o.max_path) before after c.graph.result in
+    let Q : Command → Type 0 = λ x. EndsAs (Does (request_of x) before) before after c.graph.result in
+    let done : P (sizes_of c.in-Graph.placement) = subst P c.options_of.ensures (c.graph.ensures before.left before.reads) in
+    subst Q (sym c.in-Graph.is) done
+
+pub returns-in-Check : goal.returns-in-Check
+returns-in-Check g c =
+    let F = g.F.Shelf in let S = g.S.Source in let K = g.K.Sink in let a = c.args in
+    let before : Outside = record { files = F.files a.shelf.now; loads = F.load_faults a.shelf.now; stores = F.store_faults a.shelf.now; left = S.left a.trace.now; reads = S.faults a.trace.now; taken = K.taken a.out.now; writes = K.faults a.out.now } in
+    let after : Outside = record { files = F.files c.check.new.shelf; loads = F.load_faults c.check.new.shelf; stores = F.store_faults c.check.new.shelf; left = S.left a.trace.now; reads = S.faults a.trace.now; taken = K.taken c.check.new.out; writes = K.faults c.check.new.out } in
+    let Q : Command → Type 0 = λ x. EndsAs (Does (request_of x) before) before after c.check.result in
+    subst Q (sym c.in-Check.is) (c.check.ensures before.left before.reads)
+
+pub returns-in-Serve : goal.returns-in-Serve
+returns-in-Serve g c =
+    let F = g.F.Shelf in let S = g.S.Source in let K = g.K.Sink in let a = c.args in
+    let before : Outside = record { files = F.files a.shelf.now; loads = F.load_faults a.shelf.now; stores = F.store_faults a.shelf.now; left = S.left a.trace.now; reads = S.faults a.trace.now; taken = K.taken a.out.now; writes = K.faults a.out.now } in
+    let after : Outside = record { files = F.files c.serve.new.shelf; loads = F.load_faults c.serve.new.shelf; stores = F.store_faults c.serve.new.shelf; left = S.left c.serve.new.trace; reads = S.faults c.serve.new.trace; taken = K.taken c.serve.new.out; writes = K.faults c.serve.new.out } in
+    let P : Options → Type 0 = λ o. EndsAs (Serves before.files before.left c.in-Serve.source.now o c.in-Serve.policy) before after c.serve.result in
+    let Q : Command → Type 0 = λ x. EndsAs (Does (request_of x) before) before after c.serve.result in
+    let done : P (sizes_of c.in-Serve.placement) = subst P c.options_of-in-Serve.ensures (c.serve.ensures) in
+    subst Q (sym c.in-Serve.is) done
+
+pub returns-in-Run : goal.returns-in-Run
+returns-in-Run g c =
+    let F = g.F.Shelf in let S = g.S.Source in let K = g.K.Sink in let a = c.args in
+    let before : Outside = record { files = F.files a.shelf.now; loads = F.load_faults a.shelf.now; stores = F.store_faults a.shelf.now; left = S.left a.trace.now; reads = S.faults a.trace.now; taken = K.taken a.out.now; writes = K.faults a.out.now } in
+    let after : Outside = record { files = F.files c.run_pair.new.shelf; loads = F.load_faults c.run_pair.new.shelf; stores = F.store_faults c.run_pair.new.shelf; left = S.left c.run_pair.new.trace; reads = S.faults c.run_pair.new.trace; taken = K.taken c.run_pair.new.out; writes = K.faults c.run_pair.new.out } in
+    let Q : Command → Type 0 = λ x. EndsAs (Does (request_of x) before) before after c.run_pair.result in
+    subst Q (sym c.in-Run.is) (c.run_pair.ensures)
+
+pub returns-in-Build : goal.returns-in-Build
+returns-in-Build g c =
+    let F = g.F.Shelf in let S = g.S.Source in let K = g.K.Sink in let a = c.args in
+    let before : Outside = record { files = F.files a.shelf.now; loads = F.load_faults a.shelf.now; stores = F.store_faults a.shelf.now; left = S.left a.trace.now; reads = S.faults a.trace.now; taken = K.taken a.out.now; writes = K.faults a.out.now } in
+    let after : Outside = record { files = F.files c.build.new.shelf; loads = F.load_faults c.build.new.shelf; stores = F.store_faults c.build.new.shelf; left = S.left a.trace.now; reads = S.faults a.trace.now; taken = K.taken c.build.new.out; writes = K.faults c.build.new.out } in
+    let P : Options → Type 0 = λ o. EndsAs (Builds before.files c.in-Build.source.now c.in-Build.image.now c.in-Build.certificate.now o) before after c.build.result in
+    let Q : Command → Type 0 = λ x. EndsAs (Does (request_of x) before) before after c.build.result in
+    let done : P (sizes_of c.in-Build.placement) = subst P c.options_of-in-Build.ensures (c.build.ensures before.left before.reads) in
+    subst Q (sym c.in-Build.is) done
+
+pub returns-in-Demo : goal.returns-in-Demo
+returns-in-Demo g c =
+    let F = g.F.Shelf in let S = g.S.Source in let K = g.K.Sink in let a = c.args in
+    let before : Outside = record { files = F.files a.shelf.now; loads = F.load_faults a.shelf.now; stores = F.store_faults a.shelf.now; left = S.left a.trace.now; reads = S.faults a.trace.now; taken = K.taken a.out.now; writes = K.faults a.out.now } in
+    let Q : Command → Type 0 = λ x. EndsAs (Does (request_of x) before) before before (Err (Refused NotBuilt)) in
+    subst Q (sym c.in-Demo.is) (refused-at-once (Does (request_of (Command.Demo c.in-Demo.number)) before) before NotBuilt refl)

@@ -1,0 +1,35 @@
+use Rattle.std.proofs.Common.{inl, inr, refl, ap, subst, map, Err}
+use Rattle.std.specs.String.{string_bytes}
+use Rattle.command_words.specs.WordList.{request_of}
+use Rattle.command_words.specs.declared.commands.WordsError.{WordsError}
+use Rattle.capriccio_commands.specs.Due.{Does, IsDue, IsUnlisted}
+use Rattle.capriccio_commands.specs.Done.{Outside}
+use Rattle.capriccio_commands.proofs.Ending.{ends-follow, refused-at-once, memory-at-once}
+use Rattle.capriccio_commands.proofs.commands.do_words.Goals as goal
+
+pub do_command-requires : goal.do_command-requires
+do_command-requires g c = (map (λ word. string_bytes word) c.args.words.now.items, c.in-Ok.ensures.read)
+
+pub returns-in-Ok : goal.returns-in-Ok
+returns-in-Ok g c =
+    let request = request_of c.in-Ok.command in
+    let F = g.F.Shelf in let S = g.S.Source in let K = g.K.Sink in
+    let a = c.args in
+    let before : Outside = record { files = F.files a.shelf.now; loads = F.load_faults a.shelf.now; stores = F.store_faults a.shelf.now; left = S.left a.trace.now; reads = S.faults a.trace.now; taken = K.taken a.out.now; writes = K.faults a.out.now } in
+    ends-follow (Does request before) (IsDue (map (λ word. string_bytes word) a.words.now.items) before) _ _ c.do_command.result (λ o h. inl (request, c.in-Ok.ensures.read, h)) c.do_command.ensures
+
+pub returns-in-Err-NotWords : goal.returns-in-Err-NotWords
+returns-in-Err-NotWords g c =
+    let F = g.F.Shelf in let S = g.S.Source in let K = g.K.Sink in
+    let a = c.args in
+    let before : Outside = record { files = F.files a.shelf.now; loads = F.load_faults a.shelf.now; stores = F.store_faults a.shelf.now; left = S.left a.trace.now; reads = S.faults a.trace.now; taken = K.taken a.out.now; writes = K.faults a.out.now } in
+    let none = c.in-Err-NotWords.ensures.refused (ap (λ (e : WordsError). Err e) c.in-Err-NotWords.field-0-is) in
+    let why = subst (λ items. IsUnlisted (map (λ word. string_bytes word) items) c.unlisted.result) c.as_slice.ensures.value c.unlisted.ensures in
+    refused-at-once (IsDue (map (λ word. string_bytes word) a.words.now.items) before) before c.unlisted.result (inr (none, c.unlisted.result, why, refl))
+
+pub returns-in-Err-Memory : goal.returns-in-Err-Memory
+returns-in-Err-Memory g c =
+    let F = g.F.Shelf in let S = g.S.Source in let K = g.K.Sink in
+    let a = c.args in
+    let before : Outside = record { files = F.files a.shelf.now; loads = F.load_faults a.shelf.now; stores = F.store_faults a.shelf.now; left = S.left a.trace.now; reads = S.faults a.trace.now; taken = K.taken a.out.now; writes = K.faults a.out.now } in
+    memory-at-once (IsDue (map (λ word. string_bytes word) a.words.now.items) before) before

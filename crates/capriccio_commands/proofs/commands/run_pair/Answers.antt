@@ -1,0 +1,33 @@
+use Rattle.std.proofs.Common.{refl}
+use Rattle.std.proofs.lemmas.Result.{err_from_is_err_and}
+use Rattle.certificate_check.specs.Accepting.{accepted_tree}
+use Rattle.capriccio_commands.specs.Done.{Outside}
+use Rattle.capriccio_commands.specs.Runs.{RunsOn, Runs, setup_of}
+use Rattle.capriccio_commands.proofs.Ending.{ends-follow, stopped, keeps-itself}
+use Rattle.capriccio_commands.proofs.commands.run_pair.Goals as goal
+
+pub run_accepted-requires-clause-pool : goal.run_accepted-requires-clause-pool
+run_accepted-requires-clause-pool g c = let is = c.in_ok-accepted.ensures.answer (g.S.Source.left c.args.trace.now) in is.1
+
+pub accept_files-requires : goal.accept_files-requires
+accept_files-requires g c = let h = c.requires in h.chunks
+
+pub returns-in_err-accepted : goal.returns-in_err-accepted
+returns-in_err-accepted g c =
+    let p = err_from_is_err_and c.from_residual.result c.from_residual.ensures.1 in
+    let F = g.F.Shelf in let S = g.S.Source in let K = g.K.Sink in let a = c.args in let shelf = c.accept_files.new.shelf in
+    let before : Outside = record { files = F.files a.shelf.now; loads = F.load_faults a.shelf.now; stores = F.store_faults a.shelf.now; left = S.left a.trace.now; reads = S.faults a.trace.now; taken = K.taken a.out.now; writes = K.faults a.out.now } in
+    let after : Outside = record { files = F.files shelf; loads = F.load_faults shelf; stores = F.store_faults shelf; left = S.left a.trace.now; reads = S.faults a.trace.now; taken = K.taken a.out.now; writes = K.faults a.out.now } in
+    let step = c.in_err-accepted.ensures in
+    rw (p.1, p.2) (stopped (Runs before.files before.left a.source.now a.image.now a.certificate.now a.policy) before after c.in_err-accepted.field-0.0 step.files step.stores
+    (keeps-itself before.left) refl (keeps-itself before.taken) refl (step.answer before.left))
+
+pub returns : goal.returns
+returns g c =
+    let F = g.F.Shelf in let S = g.S.Source in let K = g.K.Sink in let a = c.args in
+    let before : Outside = record { files = F.files a.shelf.now; loads = F.load_faults a.shelf.now; stores = F.store_faults a.shelf.now; left = S.left a.trace.now; reads = S.faults a.trace.now; taken = K.taken a.out.now; writes = K.faults a.out.now } in
+    let accepted = c.in_ok-accepted.accepted in
+    let step = c.in_ok-accepted.ensures in
+    let is = step.answer before.left in
+    ends-follow (RunsOn before.left (setup_of (accepted_tree accepted) accepted.image accepted.certificate a.policy)) (Runs before.files before.left a.source.now a.image.now a.certificate.now a.policy) _ _ c.run_accepted.result is.0
+    (c.run_accepted.ensures _ _ _ _ _ _ step.files is.2 step.stores)

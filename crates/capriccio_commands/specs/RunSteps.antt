@@ -1,0 +1,42 @@
+-- What the steps of a run are given, and what they hand on.
+use Rattle.std.specs.Prelude.{ℕ, ◌<◌, ◌≤◌, List, slice_index, Option}
+use Rattle.c_lower.specs.ProgramCode.{lowered}
+use Rattle.certificate_rules.specs.Validity.{IsValid}
+use Rattle.command_words.specs.declared.options.Policy.{Policy as RunOptions}
+use Rattle.lawful_log.specs.Setup.{Setup}
+use Rattle.certificate_check.specs.Accepting.{accepted_tree}
+use Rattle.certificate_check.specs.Acceptance.{Acceptance}
+use Rattle.thread_core.specs.Making.{IsPolicy, IsStart}
+use Rattle.thread_core.specs.Worlds.{Held}
+use Rattle.thread_core.specs.declared.policy.WorldPolicy.{WorldPolicy}
+use Rattle.capriccio_commands.specs.Outcome.{Outcome}
+use Rattle.capriccio_commands.specs.Runs.{RunsOn, setup_of}
+
+-- the options of a run are in their ranges
+pub record IsRunPolicy (options : RunOptions) : Type 0 where
+  pub some_chunks : 1 ≤ options.chunks
+  pub chunks : options.chunks ≤ 65536
+  pub fuel : options.fuel ≤ 1000000000
+  pub some_backlog : 1 ≤ options.backlog
+  pub backlog : options.backlog ≤ 4096
+  pub caps : (r : ℕ) → 0 < r → r < 8 → slice_index options.caps r ≤ 1000000
+  pub high : options.high ≤ 1000
+  pub low : options.low < options.high
+
+-- what the run of an accepted pair does under these options is due
+abbrev pub LeadsOn : Option (List ℕ) → RunOptions → Acceptance → (Outcome → Type 0) → Type 0
+LeadsOn trace policy accepted due =
+    (outcome : Outcome) → RunsOn trace (setup_of (accepted_tree accepted) accepted.image accepted.certificate policy) outcome → due outcome
+
+-- what a world is given of the options
+abbrev pub world_policy_of : RunOptions → WorldPolicy
+world_policy_of options = record { chunks = options.chunks; backlog = options.backlog; caps = options.caps }
+
+-- a world that was just made under these options
+pub record IsMade (options : RunOptions) (held : Held) : Type 0 where
+  pub ranges : IsPolicy held.accepted (world_policy_of options) options.fuel
+  pub made : IsStart held.accepted (world_policy_of options) options.fuel held
+  pub valid : IsValid (lowered (accepted_tree held.accepted)) held.accepted.image held.accepted.certificate
+
+abbrev pub setup_in : Held → RunOptions → Setup
+setup_in held options = setup_of (accepted_tree held.accepted) held.accepted.image held.accepted.certificate options

@@ -1,0 +1,239 @@
+// The commands, over the objects that they are handed.
+ghost use Rattle.std.specs.Prelude.{ℕ, List, Option, ◌≡◌, ◌≤◌, ◌*◌, map};
+ghost use Rattle.std.specs.String.{string_bytes};
+ghost use Rattle.command_words.specs.WordList.{IsWordList, request_of};
+ghost use Rattle.codegen_link.specs.Plans.{AreInRange};
+ghost use Rattle.capriccio_commands.specs.BuildsFiles.{Builds};
+ghost use Rattle.capriccio_commands.specs.Checks.{Checks};
+ghost use Rattle.capriccio_commands.specs.Done.{Outside, outside_by};
+ghost use Rattle.capriccio_commands.specs.Due.{Does, IsDue, IsUnlisted, sizes_of};
+ghost use Rattle.capriccio_commands.specs.Graphs.{Graphs};
+ghost use Rattle.capriccio_commands.specs.Runs.{Serves, Runs};
+ghost use Rattle.capriccio_commands.specs.RunSteps.{IsRunPolicy};
+ghost use Rattle.capriccio_commands.specs.Steps.{EndsAs};
+
+use crate::build_command::build_source;
+use crate::check_command::check_files;
+use crate::faults::Fault;
+use crate::graph_command::graph_source;
+use crate::run_command::{accept_files, accept_source};
+use crate::running::{Ended, run_accepted};
+use crate::stops::{Cause, Stop};
+use crate::stores::store_both;
+use crate::telling::print;
+use cap_io::{Shelf, Sink, Source};
+use codegen_link::Options;
+use command_words::{Command, Placement, Policy, WordsError, read_words};
+use std::alloc::Global;
+
+/// Does what the words ask, and answers the status of what was printed.
+pub fn do_words<F: Shelf, S: Source, K: Sink>(
+    alloc: Global,
+    words: &Vec<String>,
+    shelf: &mut F,
+    trace: &mut S,
+    out: &mut K,
+) -> Result<Ended, Stop>
+    ensures { let outside = outside_by F.files F.load_faults F.store_faults S.left S.faults K.taken K.faults in
+        let before : Outside = outside shelf.old trace.old out.old in
+        let after : Outside = outside shelf.new trace.new out.new in
+        EndsAs (IsDue (map (λ word. string_bytes word) words.now.items) before) before after result }
+{
+    match read_words(alloc, words) {
+        Ok(command) => do_command(alloc, shelf, trace, out, command),
+        Err(WordsError::NotWords) => Err(Stop::Refused(unlisted(words.as_slice()))),
+        Err(WordsError::Memory) => Err(Stop::Failed(Fault::Memory)),
+    }
+}
+
+/// Why words that are no word list are refused.
+fn unlisted(words: &[String]) -> Cause
+    ensures { IsUnlisted (map (λ word. string_bytes word) words.now) result }
+{
+    match words {
+        [first, ..] => match first.as_str() {
+            "demo" => Cause::NotBuilt,
+            _ => Cause::Usage,
+        },
+        [] => Cause::Usage,
+    }
+}
+
+/// Does a command.
+fn do_command<F: Shelf, S: Source, K: Sink>(
+    alloc: Global,
+    shelf: &mut F,
+    trace: &mut S,
+    out: &mut K,
+    command: Command,
+) -> Result<Ended, Stop>
+    requires { (words : List (List ℕ)) × IsWordList words (request_of command) }
+    ensures { let outside = outside_by F.files F.load_faults F.store_faults S.left S.faults K.taken K.faults in
+        let before : Outside = outside shelf.old trace.old out.old in
+        let after : Outside = outside shelf.new trace.new out.new in
+        EndsAs (Does (request_of command.entry) before) before after result }
+{
+    match command {
+        Command::Graph { source, placement } => {
+            graph(alloc, shelf, out, source, options_of(placement))
+        }
+        Command::Check {
+            source,
+            image,
+            certificate,
+        } => check(alloc, shelf, out, source, image, certificate),
+        Command::Serve {
+            source,
+            placement,
+            policy,
+        } => serve(
+            alloc,
+            shelf,
+            trace,
+            out,
+            source,
+            options_of(placement),
+            policy,
+        ),
+        Command::Run {
+            source,
+            image,
+            certificate,
+            policy,
+        } => run_pair(alloc, shelf, trace, out, source, image, certificate, policy),
+        Command::Build {
+            source,
+            image,
+            certificate,
+            placement,
+        } => build(
+            alloc,
+            shelf,
+            out,
+            source,
+            image,
+            certificate,
+            options_of(placement),
+        ),
+        Command::Demo { .. } => Err(Stop::Refused(Cause::NotBuilt)),
+    }
+}
+
+/// The sizes that the words give.
+fn options_of(placement: Placement) -> Options
+    ensures { result ≡ sizes_of placement }
+{
+    Options {
+        chunk: placement.chunk,
+        max_path: placement.max_path,
+    }
+}
+
+/// The command `graph`.
+fn graph<F: Shelf, K: Sink>(
+    alloc: Global,
+    shelf: &mut F,
+    out: &mut K,
+    source: &str,
+    options: Options,
+) -> Result<Ended, Stop>
+    ensures { (left : Option (List ℕ)) (reads : ℕ) →
+        let before : Outside = record { files = F.files shelf.old; loads = F.load_faults shelf.old; stores = F.store_faults shelf.old; left = left; reads = reads; taken = K.taken out.old; writes = K.faults out.old } in
+        let after : Outside = record { files = F.files shelf.new; loads = F.load_faults shelf.new; stores = F.store_faults shelf.new; left = left; reads = reads; taken = K.taken out.new; writes = K.faults out.new } in
+        EndsAs (Graphs before.files source.now options.max_path) before after result }
+{
+    let text = graph_source(alloc, shelf, source, options)?;
+    print(out, text.as_slice(), 0)
+}
+
+/// The command `serve`.
+fn serve<F: Shelf, S: Source, K: Sink>(
+    alloc: Global,
+    shelf: &mut F,
+    trace: &mut S,
+    out: &mut K,
+    source: &str,
+    sizes: Options,
+    policy: Policy,
+) -> Result<Ended, Stop>
+    requires sizes { AreInRange sizes }
+    requires policy { IsRunPolicy policy }
+    requires pool { policy.chunks * sizes.chunk ≤ 67108864 }
+    ensures { let outside = outside_by F.files F.load_faults F.store_faults S.left S.faults K.taken K.faults in
+        let before : Outside = outside shelf.old trace.old out.old in
+        let after : Outside = outside shelf.new trace.new out.new in
+        EndsAs (Serves before.files before.left source.now sizes policy) before after result }
+{
+    let accepted = accept_source(alloc, shelf, source, sizes)?;
+    run_accepted(alloc, accepted, policy, trace, out)
+}
+
+/// The command `run`.
+fn run_pair<F: Shelf, S: Source, K: Sink>(
+    alloc: Global,
+    shelf: &mut F,
+    trace: &mut S,
+    out: &mut K,
+    source: &str,
+    image: &str,
+    certificate: &str,
+    policy: Policy,
+) -> Result<Ended, Stop>
+    requires { IsRunPolicy policy }
+    ensures { let outside = outside_by F.files F.load_faults F.store_faults S.left S.faults K.taken K.faults in
+        let before : Outside = outside shelf.old trace.old out.old in
+        let after : Outside = outside shelf.new trace.new out.new in
+        EndsAs (Runs before.files before.left source.now image.now certificate.now policy) before after result }
+{
+    let accepted = accept_files(alloc, shelf, source, image, certificate, policy)?;
+    run_accepted(alloc, accepted, policy, trace, out)
+}
+
+/// The command `build`.
+fn build<F: Shelf, K: Sink>(
+    alloc: Global,
+    shelf: &mut F,
+    out: &mut K,
+    source: &str,
+    image: &str,
+    certificate: &str,
+    options: Options,
+) -> Result<Ended, Stop>
+    requires { AreInRange options }
+    ensures { (left : Option (List ℕ)) (reads : ℕ) →
+        let before : Outside = record { files = F.files shelf.old; loads = F.load_faults shelf.old; stores = F.store_faults shelf.old; left = left; reads = reads; taken = K.taken out.old; writes = K.faults out.old } in
+        let after : Outside = record { files = F.files shelf.new; loads = F.load_faults shelf.new; stores = F.store_faults shelf.new; left = left; reads = reads; taken = K.taken out.new; writes = K.faults out.new } in
+        EndsAs (Builds before.files source.now image.now certificate.now options) before after result }
+{
+    let products = build_source(alloc, shelf, source, options)?;
+    store_both(
+        alloc,
+        shelf,
+        image,
+        products.image.as_slice(),
+        certificate,
+        products.certificate.as_slice(),
+    )?;
+    print(out, products.line.as_slice(), 0)
+}
+
+/// The command `check`.
+fn check<F: Shelf, K: Sink>(
+    alloc: Global,
+    shelf: &mut F,
+    out: &mut K,
+    source: &str,
+    image: &str,
+    certificate: &str,
+) -> Result<Ended, Stop>
+    ensures { (left : Option (List ℕ)) (reads : ℕ) →
+        let before : Outside = record { files = F.files shelf.old; loads = F.load_faults shelf.old; stores = F.store_faults shelf.old; left = left; reads = reads; taken = K.taken out.old; writes = K.faults out.old } in
+        let after : Outside = record { files = F.files shelf.new; loads = F.load_faults shelf.new; stores = F.store_faults shelf.new; left = left; reads = reads; taken = K.taken out.new; writes = K.faults out.new } in
+        EndsAs (Checks before.files source.now image.now certificate.now) before after result }
+{
+    let verdict = check_files(alloc, shelf, source, image, certificate)?;
+    match verdict.line(alloc) {
+        Ok(line) => print(out, line.as_slice(), verdict.status()),
+        Err(_) => Err(Stop::Failed(Fault::Memory)),
+    }
+}

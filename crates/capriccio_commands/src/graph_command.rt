@@ -1,0 +1,109 @@
+// The command `graph`: what the calls of a source need of the stack.
+ghost use Rattle.std.specs.Prelude.{◌≡◌, ◌≤◌, length, ◌⊎◌, Some, MatchResult};
+ghost use Rattle.cap_io.specs.Files.{KeepsFiles};
+ghost use Rattle.c_tree.specs.ProgramView.{program_tree};
+ghost use Rattle.c_lower.specs.ProgramCode.{lowered};
+ghost use Rattle.stack_build.specs.Builds.{frame_refusal, IsPlacedBy};
+ghost use Rattle.stack_build.specs.declared.refusals.BuildError.TheVariants as errors;
+ghost use Rattle.stack_plan.specs.Plans.{IsEnough};
+ghost use Rattle.capriccio_commands.specs.Outcome.{printed};
+ghost use Rattle.capriccio_commands.specs.Loads.{AfterSource};
+ghost use Rattle.capriccio_commands.specs.Graphs.{Graphs, GraphsProgram, IsFrameRefused, IsAnalysed};
+ghost use Rattle.capriccio_commands.specs.Steps.{IsStop, IsShelfStop};
+
+use crate::documents::Document;
+use crate::faults::Fault;
+use crate::frames::frame_stop;
+use crate::loading::{load, read_source};
+use crate::stops::Stop;
+use analysis_lines::{Findings, analysis_text};
+use c_tree::Program;
+use cap_io::Shelf;
+use codegen_link::Options;
+use stack_build::{Analysis, BuildError, analyse};
+use std::alloc::{AllocError, Global};
+
+/// The text of the analysis of the source of this name.
+pub(crate) fn graph_source<F: Shelf>(
+    alloc: Global,
+    shelf: &mut F,
+    name: &str,
+    options: Options,
+) -> Result<Vec<u8>, Stop>
+    ensures answer { MatchResult result
+        (λ text. Graphs (F.files shelf.old) name.now options.max_path (printed 0 text.items) × (F.load_faults shelf.new ≡ F.load_faults shelf.old))
+        (IsShelfStop (Graphs (F.files shelf.old) name.now options.max_path) (F.load_faults shelf.old) (F.load_faults shelf.new)) }
+    ensures files { KeepsFiles (F.files shelf.old) (F.files shelf.new) }
+    ensures stores { F.store_faults shelf.new ≡ F.store_faults shelf.old }
+{
+    let source = load(alloc, shelf, Document::Source, name)?;
+    graph_bytes(alloc, source.as_slice(), options)
+}
+
+/// The text of the analysis of a source of these bytes.
+fn graph_bytes(alloc: Global, source: &[u8], options: Options) -> Result<Vec<u8>, Stop>
+    requires { length source.now ≤ 1048576 }
+    ensures { MatchResult result
+        (λ text. AfterSource source.now (GraphsProgram options.max_path) (printed 0 text.items))
+        (IsStop (AfterSource source.now (GraphsProgram options.max_path))) }
+{
+    let program = read_source(alloc, source)?;
+    graph_program(alloc, &program, options)
+}
+
+/// The text of the analysis of a program.
+fn graph_program(alloc: Global, program: &Program, options: Options) -> Result<Vec<u8>, Stop>
+    ensures { MatchResult result
+        (λ text. GraphsProgram options.max_path (program_tree program.now) (printed 0 text.items))
+        (IsStop (GraphsProgram options.max_path (program_tree program.now))) }
+{
+    let analysis = match analyse(alloc, program, options) {
+        Ok(analysis) => analysis,
+        Err(error) => return Err(analysis_stop(alloc, program, options.max_path, error)),
+    };
+    text_of(alloc, program, &analysis, options.max_path)
+}
+
+/// Why a program isn't analysed for paths of at most so many bytes.
+fn analysis_stop(alloc: Global, program: &Program, max_path: u32, error: BuildError) -> Stop
+    requires { (error ≡ errors.Memory) ⊎ (frame_refusal (lowered (program_tree program.now)) max_path ≡ Some error) }
+    ensures { IsStop (IsFrameRefused (program_tree program.now) max_path) result }
+{
+    match error {
+        BuildError::FrameTooLarge { function, bytes } => {
+            frame_stop(alloc, program, max_path, function, bytes)
+        }
+        BuildError::CodeTooLarge { .. } => unreachable!(),
+        BuildError::Memory => Stop::Failed(Fault::Memory),
+    }
+}
+
+/// The text of a program's analysis for paths of at most so many bytes.
+fn text_of(
+    alloc: Global,
+    program: &Program,
+    analysis: &Analysis,
+    max_path: u32,
+) -> Result<Vec<u8>, Stop>
+    requires planned { IsPlacedBy (lowered (program_tree program.now)) max_path
+        (record { weights = analysis.now.weights; tables = (program_tree program.now).tables; sites = analysis.now.sites.items; main = (program_tree program.now).main })
+        analysis.now.back (record { checkpointed = analysis.now.checkpointed; bounds = analysis.now.bounds }) }
+    requires enough { IsEnough (lowered (program_tree program.now)) max_path (record { checkpointed = analysis.now.checkpointed; bounds = analysis.now.bounds }) }
+    ensures { MatchResult result (λ text. IsAnalysed (program_tree program.now) max_path text.items) (IsStop (λ _. ⊥)) }
+{
+    let text = analysis_text(
+        alloc,
+        Findings {
+            functions: program.functions(),
+            weights: analysis.weights.as_slice(),
+            bounds: analysis.bounds.as_slice(),
+            sites: analysis.sites.as_slice(),
+            back: analysis.back.as_slice(),
+            checkpointed: analysis.checkpointed.as_slice(),
+        },
+    );
+    match text {
+        Ok(text) => Ok(text),
+        Err(AllocError) => Err(Stop::Failed(Fault::Memory)),
+    }
+}

@@ -1,0 +1,163 @@
+// A run of an accepted program on the trace, under a policy.
+ghost use Rattle.std.specs.Prelude.{◌≡◌, ◌≤◌, ◌*◌, ◌∷◌, Some, IfOk, IsTrue, replicate, drop};
+ghost use Rattle.certificate_check.specs.Accepting.{accepted_tree};
+ghost use Rattle.resource_monitor.specs.Pressure.{AnswersCurve, IsReading, curve_value};
+ghost use Rattle.resource_monitor.specs.declared.curves.Curve.TheVariants.{Linear};
+ghost use Rattle.capriccio_commands.specs.declared.stops.Stop.TheVariants.{Failed};
+ghost use Rattle.capriccio_commands.specs.Runs.{RunsOn, setup_of};
+ghost use Rattle.capriccio_commands.specs.RunSteps.{IsRunPolicy, IsMade, setup_in, world_policy_of};
+ghost use Rattle.capriccio_commands.specs.Steps.{IsClosed, RunEnds};
+
+use crate::faults::Fault;
+use crate::stops::Stop;
+use cap_io::{Sink, Source};
+use certificate_check::Accepted;
+use command_words::Policy;
+use resource_monitor::{Curve, Gauge, Measure, Monitor};
+use runner::{RunEnd, run};
+use std::alloc::{AllocError, Global};
+use thread_core::{World, WorldError, WorldPolicy};
+
+/// How a command ended that did what its words ask.
+#[derive(Drop)]
+pub struct Ended {
+    /// The status that it ends with.
+    pub status: u8,
+    /// The world that it ran, if any, as it is at the stop.
+    pub last: Option<World>,
+}
+
+/// Runs an accepted program to its stop.
+pub(crate) fn run_accepted<S: Source, K: Sink>(
+    alloc: Global,
+    accepted: Accepted,
+    policy: Policy,
+    trace: &mut S,
+    out: &mut K,
+) -> Result<Ended, Stop>
+    requires range { IsRunPolicy policy }
+    requires pool { policy.chunks * accepted.certificate.chunk ≤ 67108864 }
+    ensures { RunEnds (RunsOn (S.left trace.old) (setup_of (accepted_tree accepted) accepted.image accepted.certificate policy)) (S.left trace.old) (S.left trace.new) (S.faults trace.old) (S.faults trace.new) (K.taken out.old) (K.taken out.new) (K.faults out.old) (K.faults out.new) result }
+{
+    // What the image's call tells: the pair is valid.
+    let _image = accepted.image();
+    match World::make(alloc, accepted, world_policy(policy), policy.fuel) {
+        Ok(world) => run_world(alloc, world, policy, trace, out),
+        Err(WorldError::Memory { accepted }) => {
+            drop(accepted);
+            Err(Stop::Failed(Fault::Memory))
+        }
+    }
+}
+
+/// Runs a world that was just made, with the pressures of all resources linear in their uses.
+fn run_world<S: Source, K: Sink>(
+    alloc: Global,
+    world: World,
+    policy: Policy,
+    trace: &mut S,
+    out: &mut K,
+) -> Result<Ended, Stop>
+    requires range { IsRunPolicy policy }
+    requires made { IsMade policy world }
+    ensures { RunEnds (RunsOn (S.left trace.old) (setup_in world policy)) (S.left trace.old) (S.left trace.new) (S.faults trace.old) (S.faults trace.new) (K.taken out.old) (K.taken out.new) (K.faults out.old) (K.faults out.new) result }
+{
+    let linear = |used: u32, cap: u32| -> u32
+        requires { IsReading used cap }
+        ensures { result ≡ curve_value Linear used cap }
+    { 1000 * used / cap };
+    run_measured(alloc, world, policy, trace, out, linear)
+}
+
+/// Runs a world that was just made, with this way to measure pressures.
+fn run_measured<S: Source, K: Sink, C: Measure + Copy + Drop>(
+    alloc: Global,
+    mut world: World,
+    policy: Policy,
+    trace: &mut S,
+    out: &mut K,
+    call: C,
+) -> Result<Ended, Stop>
+    requires curve { AnswersCurve (C.can_measure call) (C.measure_gives call) Linear }
+    requires range { IsRunPolicy policy }
+    requires made { IsMade policy world }
+    ensures { RunEnds (RunsOn (S.left trace.old) (setup_in world policy)) (S.left trace.old) (S.left trace.new) (S.faults trace.old) (S.faults trace.new) (K.taken out.old) (K.taken out.new) (K.faults out.old) (K.faults out.new) result }
+{
+    match monitor_of(alloc, policy, call) {
+        Ok(monitor) => {
+            let end = run(alloc, &mut world, monitor, trace, out);
+            close(world, end)
+        }
+        Err(AllocError) => {
+            drop(world);
+            Err(Stop::Failed(Fault::Memory))
+        }
+    }
+}
+
+/// What a world is given of a policy.
+fn world_policy(policy: Policy) -> WorldPolicy
+    ensures { result ≡ world_policy_of policy }
+{
+    let caps = policy.caps;
+    WorldPolicy {
+        chunks: policy.chunks,
+        backlog: policy.backlog,
+        caps,
+    }
+}
+
+/// The monitor of a policy, with eight gauges of this way to measure.
+fn monitor_of<C: Measure + Copy>(
+    alloc: Global,
+    policy: Policy,
+    call: C,
+) -> Result<Monitor<C>, AllocError>
+    requires curve { AnswersCurve (C.can_measure call) (C.measure_gives call) Linear }
+    requires range { IsRunPolicy policy }
+    ensures { IfOk result (λ monitor. (monitor.curves ≡ replicate 8 Linear) × (monitor.caps ≡ policy.chunks ∷ drop 1 policy.caps) × (monitor.high ≡ policy.high) × (monitor.low ≡ policy.low) × IsTrue monitor.is_open) }
+{
+    let mut gauges = Vec::new(alloc);
+    for _ in 0..8usize {
+        gauges.push(Gauge::new(Curve::Linear, call))?;
+    }
+    let mut caps = policy.caps;
+    caps[0] = policy.chunks;
+    Ok(Monitor::new(gauges, caps, policy.high, policy.low))
+}
+
+/// How the command ends by the end of its run.
+fn close(world: World, end: RunEnd) -> Result<Ended, Stop>
+    ensures { IsClosed world end result }
+{
+    match end {
+        RunEnd::Done => Ok(at_stop(world, 0)),
+        RunEnd::BadTrace { .. } => Ok(at_stop(world, 4)),
+        RunEnd::Idle => Ok(at_stop(world, 10)),
+        RunEnd::Trap { .. } => Ok(at_stop(world, 11)),
+        RunEnd::NoChunk { .. } => Ok(at_stop(world, 12)),
+        RunEnd::Fuel { .. } => Ok(at_stop(world, 13)),
+        RunEnd::Threads { .. } => Ok(at_stop(world, 14)),
+        RunEnd::ReadFault => Err(failed(world, Fault::Read)),
+        RunEnd::WriteFault => Err(failed(world, Fault::Write)),
+        RunEnd::Memory => Err(failed(world, Fault::Memory)),
+    }
+}
+
+/// The end at a fault, with which the world is let go.
+fn failed<T: Drop>(world: T, fault: Fault) -> Stop
+    ensures { result ≡ Failed fault }
+{
+    drop(world);
+    Stop::Failed(fault)
+}
+
+/// The end at a stop.
+fn at_stop(world: World, status: u8) -> Ended
+    ensures { result ≡ record { status = status; last = Some world } }
+{
+    Ended {
+        status,
+        last: Some(world),
+    }
+}
