@@ -2,8 +2,9 @@
 ghost use Rattle.std.specs.Prelude.{ℕ, List, ◌≡◌, ◌^◌, map, Err, IfOk, ◌↔◌, Some, false};
 ghost use Rattle.std.specs.String.{string_bytes};
 ghost use Rattle.clap.specs.Words.{app_of, first_value, found_of, new_rule, rule_of};
+ghost use Rattle.clap.specs.Simple.{App};
 ghost use Rattle.command_words.specs.Said.{Said};
-ghost use Rattle.command_words.specs.Parse.{IsReadable, IsSaid, IsReadAs, words_app, with_positionals, with_placement, with_policy};
+ghost use Rattle.command_words.specs.Parse.{IsReadable, IsSaid, IsReadAs, words_app, with_positional, with_option, with_positionals, with_placement, with_policy};
 
 use crate::commands::WordsError;
 use clap::error::ErrorKind;
@@ -25,49 +26,63 @@ pub(crate) fn parse<'a>(alloc: Global, words: &'a Vec<String>) -> Result<ArgMatc
     }
 }
 
+/// A parser, or the failure of a step before.
+type Built<'a> = Result<Command<'a>, AllocError>;
+
 /// The command with all options, whose name is the first of four positional words.
-fn parser<'a>(alloc: Global) -> Result<Command<'a>, AllocError>
+fn parser<'a>(alloc: Global) -> Built<'a>
     ensures { IfOk result (λ parser. app_of parser ≡ words_app) }
 {
     let command = Command::new(alloc, "capriccio")
         .no_binary_name(true)
         .disable_help_flag(true);
-    let command = with_positionals(alloc, command)?;
-    let command = with_placement(alloc, command)?;
+    let command = with_positionals(alloc, Ok(command));
+    let command = with_placement(alloc, command);
     with_policy(alloc, command)
 }
 
 /// Adds the command's name and three names of files.
-fn with_positionals<'a>(alloc: Global, command: Command<'a>) -> Result<Command<'a>, AllocError>
-    ensures { IfOk result (λ parser. app_of parser ≡ with_positionals (app_of command.entry)) }
+fn with_positionals<'a>(alloc: Global, command: Built<'a>) -> Built<'a>
+    ensures { (app : App) → IfOk command.entry (λ old. app_of old ≡ app) → IfOk result (λ new. app_of new ≡ with_positionals app) }
 {
-    command
-        .arg(Arg::new(alloc, "command"))?
-        .arg(Arg::new(alloc, "first"))?
-        .arg(Arg::new(alloc, "second"))?
-        .arg(Arg::new(alloc, "third"))
+    let command = with_positional(alloc, command, "command");
+    let command = with_positional(alloc, command, "first");
+    let command = with_positional(alloc, command, "second");
+    with_positional(alloc, command, "third")
 }
 
 /// Adds the options of placement.
-fn with_placement<'a>(alloc: Global, command: Command<'a>) -> Result<Command<'a>, AllocError>
-    ensures { IfOk result (λ parser. app_of parser ≡ with_placement (app_of command.entry)) }
+fn with_placement<'a>(alloc: Global, command: Built<'a>) -> Built<'a>
+    ensures { (app : App) → IfOk command.entry (λ old. app_of old ≡ app) → IfOk result (λ new. app_of new ≡ with_placement app) }
 {
-    command
-        .arg(option(alloc, "--chunk", "chunk"))?
-        .arg(option(alloc, "--max-path", "max-path"))
+    let command = with_option(alloc, command, "--chunk", "chunk");
+    with_option(alloc, command, "--max-path", "max-path")
 }
 
 /// Adds the options of a run.
-fn with_policy<'a>(alloc: Global, command: Command<'a>) -> Result<Command<'a>, AllocError>
-    ensures { IfOk result (λ parser. app_of parser ≡ with_policy (app_of command.entry)) }
+fn with_policy<'a>(alloc: Global, command: Built<'a>) -> Built<'a>
+    ensures { (app : App) → IfOk command.entry (λ old. app_of old ≡ app) → IfOk result (λ new. app_of new ≡ with_policy app) }
 {
-    command
-        .arg(option(alloc, "--chunks", "chunks"))?
-        .arg(option(alloc, "--fuel", "fuel"))?
-        .arg(option(alloc, "--backlog", "backlog"))?
-        .arg(option(alloc, "--caps", "caps"))?
-        .arg(option(alloc, "--high", "high"))?
-        .arg(option(alloc, "--low", "low"))
+    let command = with_option(alloc, command, "--chunks", "chunks");
+    let command = with_option(alloc, command, "--fuel", "fuel");
+    let command = with_option(alloc, command, "--backlog", "backlog");
+    let command = with_option(alloc, command, "--caps", "caps");
+    let command = with_option(alloc, command, "--high", "high");
+    with_option(alloc, command, "--low", "low")
+}
+
+/// Adds a positional word.
+fn with_positional<'a>(alloc: Global, command: Built<'a>, name: &'a str) -> Built<'a>
+    ensures { (app : App) → IfOk command.entry (λ old. app_of old ≡ app) → IfOk result (λ new. app_of new ≡ with_positional name.entry.now app) }
+{
+    command?.arg(Arg::new(alloc, name))
+}
+
+/// Adds an option.
+fn with_option<'a>(alloc: Global, command: Built<'a>, name: &'a str, long: &'a str) -> Built<'a>
+    ensures { (app : App) → IfOk command.entry (λ old. app_of old ≡ app) → IfOk result (λ new. app_of new ≡ with_option name.entry.now long.entry.now app) }
+{
+    command?.arg(option(alloc, name, long))
 }
 
 /// An option, which takes one text.

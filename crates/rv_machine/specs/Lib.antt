@@ -2,6 +2,7 @@ pub mod Access
 pub mod Bytes
 pub mod Effect
 pub mod Registers
+pub mod RowEffect
 pub mod Rows
 pub mod Step
 pub mod WordBytes

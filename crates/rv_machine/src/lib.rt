@@ -14,6 +14,7 @@ mod memory;
 mod moves;
 mod registers;
 mod results;
+mod rows;
 mod stepping;
 mod words;
 

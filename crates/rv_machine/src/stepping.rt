@@ -5,6 +5,7 @@ use crate::execution::execute;
 use crate::memory::Memory;
 use crate::registers::Regs;
 use crate::results::StepResult;
+use crate::rows::row_of;
 use cap_word::FaultKind;
 use rv_code::{Instr, decode};
 use stack_image::Image;
@@ -29,7 +30,7 @@ pub fn step<M: Memory>(image: &Image, memory: &mut M, regs: &mut Regs) -> StepRe
     ensures whole { memory.new ≡ memory_after M.with_byte (outcome image.now.code (machine regs.old (M.byte_at memory.old) (M.is_writable memory.old))) memory.old }
 {
     match fetch(image.code.as_slice(), regs.pc) {
-        Ok(instr) => execute(instr, memory, regs),
+        Ok(instr) => execute(row_of(instr, memory, regs), memory, regs),
         Err(kind) => regs.fault(kind),
     }
 }
