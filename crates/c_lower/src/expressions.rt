@@ -4,23 +4,14 @@ ghost use Rattle.std.specs.Prelude.{◌≡◌, ◌<◌, ◌+◌, ◌^◌, ◌++�
 ghost use Rattle.c_tree.specs.Temporaries.{expr_temporaries, operand_temporaries};
 ghost use Rattle.c_tree.specs.Views.{expr_tree};
 ghost use Rattle.c_lower.specs.ExprCode.{expr_code};
-ghost use Rattle.c_lower.specs.Chains.{truth_code, operand_code};
+ghost use Rattle.c_lower.specs.Chains.{operand_code};
 
+use crate::jumps::{close_jump, put_between, put_both, put_either, put_unless};
 use crate::operators::{operator_for, put_unary};
-use crate::places::{patch, place_after, put, put_open};
+use crate::places::{put, put_open};
 use c_tree::{Expr, Infix};
 use flat_code::Op;
 use std::alloc::AllocError;
-
-// 1 or 0 in variable k: 1 where it isn't 0 there, and 0 where it is or where `zero` is jumped to.
-fn put_truth(code: &mut Vec<Op>, k: u32, zero: u32, end: u32) -> Result<(), AllocError>
-    ensures { OnOk result (code.new.items ≡ code.old.items ++ truth_code k zero end) }
-{
-    put(code, Op::JumpZero { s: k, to: zero })?;
-    put(code, Op::Const { d: k, value: 1 })?;
-    put(code, Op::Jump { to: end })?;
-    put(code, Op::Const { d: k, value: 0 })
-}
 
 // The value of the expression in variable k, which is a temporary; it uses the temporaries from k on.
 #[cycle(expressions)]
@@ -80,13 +71,9 @@ pub fn put_expr(code: &mut Vec<Op>, k: u32, expr: &Expr) -> Result<(), AllocErro
             put_expr(code, k, condition)?;
             let test = put_open(code)?;
             put_expr(code, k, then)?;
-            let second = place_after(code, 0, 1)?;
-            patch(code, test, Op::JumpZero { s: k, to: second });
-            let jump = put_open(code)?;
+            let jump = put_between(code, k, test)?;
             put_expr(code, k, otherwise)?;
-            let end = place_after(code, 0, 0)?;
-            patch(code, jump, Op::Jump { to: end });
-            Ok(())
+            close_jump(code, jump, 0)
         }
     }
 }
@@ -118,21 +105,12 @@ fn put_operand(
         Infix::LogicalAnd => {
             let test = put_open(code)?;
             put_expr(code, k, operand)?;
-            let zero = place_after(code, 0, 3)?;
-            let end = place_after(code, 0, 4)?;
-            patch(code, test, Op::JumpZero { s: k, to: zero });
-            put_truth(code, k, zero, end)
+            put_both(code, k, test)
         }
         Infix::LogicalOr => {
-            let right = place_after(code, 0, 2)?;
-            put(code, Op::JumpZero { s: k, to: right })?;
-            let jump = put_open(code)?;
+            let jump = put_unless(code, k)?;
             put_expr(code, k, operand)?;
-            let one = place_after(code, 0, 1)?;
-            let zero = place_after(code, 0, 3)?;
-            let end = place_after(code, 0, 4)?;
-            patch(code, jump, Op::Jump { to: one });
-            put_truth(code, k, zero, end)
+            put_either(code, k, jump)
         }
     }
 }

@@ -13,6 +13,7 @@
 mod calls;
 mod expressions;
 mod functions;
+mod jumps;
 mod laws;
 mod operators;
 mod places;

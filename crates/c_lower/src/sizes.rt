@@ -1,7 +1,7 @@
 // How many operations the code of a tree has. Each statement is counted once, before any code is there, and the sizes
 // of those that a jump passes over are kept in a list, so that the jump can be written before them.
 
-ghost use Rattle.std.specs.Prelude.{◌≡◌, ℕ, List, [], ◌∷◌, ◌++◌, IfOk, OnOk, map, option_map};
+ghost use Rattle.std.specs.Prelude.{◌≡◌, ℕ, ◌+◌, List, [], ◌∷◌, ◌++◌, IfOk, OnOk, map, option_map};
 ghost use Rattle.c_tree.specs.Views.{expr_tree, call_tree, right_tree, simple_tree, stmt_tree, stmt_trees};
 ghost use Rattle.c_lower.specs.ExprCode.{expr_size};
 ghost use Rattle.c_lower.specs.CallCode.{arguments_size, call_size, set_size, held_size};
@@ -13,20 +13,24 @@ use crate::places::sum;
 use c_tree::{Call, Expr, RightSide, Simple, Stmt};
 use std::alloc::AllocError;
 
-fn size_of_expr(expr: &Expr) -> Result<u32, AllocError>
-    ensures { IfOk result (λ n. n ≡ expr_size (expr_tree expr.now)) }
+// `size` and the number of operations of an expression. The functions after it add what they are named after in the
+// same way.
+fn add_expr(size: u32, expr: &Expr) -> Result<u32, AllocError>
+    ensures { IfOk result (λ n. n ≡ size + expr_size (expr_tree expr.now)) }
 {
     match expr {
-        Expr::Number(_) | Expr::Local(_) | Expr::Global(_) => Ok(1),
+        Expr::Number(_) | Expr::Local(_) | Expr::Global(_) => sum(size, 1),
         Expr::LocalElement { index, .. } | Expr::GlobalElement { index, .. } => {
-            sum(size_of_expr(index)?, 1)
+            add_expr(sum(size, 1)?, index)
         }
-        Expr::Unary { operator, operand } => sum(size_of_expr(operand)?, size_of_unary(*operator)),
-        Expr::Parenthesized(inner) => size_of_expr(inner),
+        Expr::Unary { operator, operand } => {
+            add_expr(sum(size, size_of_unary(*operator))?, operand)
+        }
+        Expr::Parenthesized(inner) => add_expr(size, inner),
         Expr::Chain { first, rest } => {
-            let mut size = size_of_expr(first)?;
+            let mut size = add_expr(size, first)?;
             for (operator, operand) in rest {
-                size = sum(size, sum(size_of_expr(operand)?, size_of_infix(*operator))?)?;
+                size = add_expr(sum(size, size_of_infix(*operator))?, operand)?;
             }
             Ok(size)
         }
@@ -35,106 +39,126 @@ fn size_of_expr(expr: &Expr) -> Result<u32, AllocError>
             then,
             otherwise,
         } => {
-            let sides = sum(size_of_expr(then)?, size_of_expr(otherwise)?)?;
-            sum(sum(size_of_expr(condition)?, sides)?, 2)
+            let size = add_expr(sum(size, 2)?, condition)?;
+            add_expr(add_expr(size, then)?, otherwise)
         }
     }
 }
 
-fn size_of_arguments(arguments: &[Expr]) -> Result<u32, AllocError>
-    ensures { IfOk result (λ n. n ≡ arguments_size (map expr_tree arguments.now)) }
+fn add_arguments(mut size: u32, arguments: &[Expr]) -> Result<u32, AllocError>
+    ensures { IfOk result (λ n. n ≡ size + arguments_size (map expr_tree arguments.now)) }
 {
-    let mut size = 0;
     for argument in arguments {
-        size = sum(size, size_of_expr(argument)?)?;
+        size = add_expr(size, argument)?;
     }
     Ok(size)
 }
 
-fn size_of_call(call: &Call) -> Result<u32, AllocError>
-    ensures { IfOk result (λ n. n ≡ call_size (call_tree call.now)) }
+fn add_call(size: u32, call: &Call) -> Result<u32, AllocError>
+    ensures { IfOk result (λ n. n ≡ size + call_size (call_tree call.now)) }
 {
+    let size = sum(size, 1)?;
     match call {
         Call::Function { arguments, .. } | Call::Modelled { arguments, .. } => {
-            sum(size_of_arguments(arguments)?, 1)
+            add_arguments(size, arguments)
         }
         Call::Table {
             index,
             argument,
             ..
-        } => sum(sum(size_of_expr(index)?, size_of_expr(argument)?)?, 1),
-        Call::Spawn { argument, .. } => sum(size_of_expr(argument)?, 1),
+        } => add_expr(add_expr(size, index)?, argument),
+        Call::Spawn { argument, .. } => add_expr(size, argument),
     }
 }
 
-fn size_of_set(value: &RightSide) -> Result<u32, AllocError>
-    ensures { IfOk result (λ n. n ≡ set_size (right_tree value.now)) }
+fn add_set(size: u32, value: &RightSide) -> Result<u32, AllocError>
+    ensures { IfOk result (λ n. n ≡ size + set_size (right_tree value.now)) }
 {
     match value {
-        RightSide::Expr(expr) => sum(size_of_expr(expr)?, 1),
-        RightSide::Call(call) => size_of_call(call),
+        RightSide::Expr(expr) => add_expr(sum(size, 1)?, expr),
+        RightSide::Call(call) => add_call(size, call),
     }
 }
 
-fn size_of_held(value: &RightSide) -> Result<u32, AllocError>
-    ensures { IfOk result (λ n. n ≡ held_size (right_tree value.now)) }
+fn add_held(size: u32, value: &RightSide) -> Result<u32, AllocError>
+    ensures { IfOk result (λ n. n ≡ size + held_size (right_tree value.now)) }
 {
     match value {
-        RightSide::Expr(expr) => size_of_expr(expr),
-        RightSide::Call(call) => size_of_call(call),
+        RightSide::Expr(expr) => add_expr(size, expr),
+        RightSide::Call(call) => add_call(size, call),
     }
 }
 
-fn size_of_simple(simple: &Simple) -> Result<u32, AllocError>
-    ensures { IfOk result (λ n. n ≡ simple_size (simple_tree simple.now)) }
+fn add_simple(size: u32, simple: &Simple) -> Result<u32, AllocError>
+    ensures { IfOk result (λ n. n ≡ size + simple_size (simple_tree simple.now)) }
 {
     match simple {
-        Simple::DeclareScalar { .. } | Simple::DeclareArray { .. } => Ok(1),
-        Simple::DeclareWith { value, .. } | Simple::SetLocal { value, .. } => size_of_set(value),
-        Simple::SetGlobal { value, .. } => sum(size_of_held(value)?, 1),
+        Simple::DeclareScalar { .. } | Simple::DeclareArray { .. } => sum(size, 1),
+        Simple::DeclareWith { value, .. } | Simple::SetLocal { value, .. } => add_set(size, value),
+        Simple::SetGlobal { value, .. } => add_held(sum(size, 1)?, value),
         Simple::SetLocalElement { index, value, .. }
         | Simple::SetGlobalElement { index, value, .. } => {
-            sum(sum(size_of_expr(index)?, size_of_held(value)?)?, 1)
+            add_held(add_expr(sum(size, 1)?, index)?, value)
         }
-        Simple::Call(call) => size_of_call(call),
+        Simple::Call(call) => add_call(size, call),
     }
 }
 
-fn size_of_simples(simples: &[Simple]) -> Result<u32, AllocError>
-    ensures { IfOk result (λ n. n ≡ simples_size (map simple_tree simples.now)) }
+fn add_simples(mut size: u32, simples: &[Simple]) -> Result<u32, AllocError>
+    ensures { IfOk result (λ n. n ≡ size + simples_size (map simple_tree simples.now)) }
 {
-    let mut size = 0;
     for simple in simples {
-        size = sum(size, size_of_simple(simple)?)?;
+        size = add_simple(size, simple)?;
     }
     Ok(size)
 }
 
-pub fn size_of_step(step: &Option<Simple>) -> Result<u32, AllocError>
-    ensures { IfOk result (λ n. n ≡ step_size (option_map simple_tree step.now)) }
+pub fn add_step(size: u32, step: &Option<Simple>) -> Result<u32, AllocError>
+    ensures { IfOk result (λ n. n ≡ size + step_size (option_map simple_tree step.now)) }
 {
     match step {
-        None => Ok(0),
-        Some(simple) => size_of_simple(simple),
+        None => Ok(size),
+        Some(simple) => add_simple(size, simple),
     }
 }
 
-pub fn size_of_test(condition: &Option<Expr>) -> Result<u32, AllocError>
-    ensures { IfOk result (λ n. n ≡ test_size (option_map expr_tree condition.now)) }
+pub fn add_test(size: u32, condition: &Option<Expr>) -> Result<u32, AllocError>
+    ensures { IfOk result (λ n. n ≡ size + test_size (option_map expr_tree condition.now)) }
 {
     match condition {
-        None => Ok(0),
-        Some(expr) => sum(size_of_expr(expr)?, 1),
+        None => Ok(size),
+        Some(expr) => add_expr(sum(size, 1)?, expr),
     }
 }
 
-fn size_of_return(value: &Option<RightSide>) -> Result<u32, AllocError>
-    ensures { IfOk result (λ n. n ≡ return_size (option_map right_tree value.now)) }
+fn add_return(size: u32, value: &Option<RightSide>) -> Result<u32, AllocError>
+    ensures { IfOk result (λ n. n ≡ size + return_size (option_map right_tree value.now)) }
 {
+    let size = sum(size, 1)?;
     match value {
-        None => Ok(1),
-        Some(value) => sum(size_of_held(value)?, 1),
+        None => Ok(size),
+        Some(value) => add_held(size, value),
     }
+}
+
+// The size of a statement whose sides have `size` operations, and which has `more` beside them and its condition.
+fn size_of_choice(condition: &Expr, size: u32, more: u32) -> Result<u32, AllocError>
+    ensures { IfOk result (λ n. n ≡ expr_size (expr_tree condition.now) + size + more) }
+{
+    add_expr(sum(size, more)?, condition)
+}
+
+// The size of a `for` whose body has `size` operations.
+fn size_of_for(
+    init: &[Simple],
+    condition: &Option<Expr>,
+    step: &Option<Simple>,
+    size: u32,
+) -> Result<u32, AllocError>
+    ensures { IfOk result (λ n. n ≡ simples_size (map simple_tree init.now) + test_size (option_map expr_tree condition.now) + size + step_size (option_map simple_tree step.now) + 1) }
+{
+    let turn = add_step(add_test(sum(size, 1)?, condition)?, step)?;
+    add_simples(turn, init)
 }
 
 // The size of a statement. The sizes of those in it that jumps pass over are put at the end of `sizes`, from the last
@@ -145,29 +169,25 @@ fn size_of_stmt(sizes: &mut Vec<u32>, stmt: &Stmt) -> Result<u32, AllocError>
     ensures passed { OnOk result (sizes.new.items ≡ sizes.old.items ++ stmt_sizes (stmt_tree stmt.now)) }
 {
     match stmt {
-        Stmt::Simple(simple) => size_of_simple(simple),
+        Stmt::Simple(simple) => add_simple(0, simple),
         Stmt::Empty => Ok(0),
         Stmt::Block(stmts) => size_of_stmts(sizes, stmts),
         Stmt::If { condition, then } => {
-            let side = size_of_stmt(sizes, then)?;
-            sizes.push(side)?;
-            sum(sum(size_of_expr(condition)?, side)?, 1)
+            let side = size_of_passed(sizes, then)?;
+            size_of_choice(condition, side, 1)
         }
         Stmt::IfElse {
             condition,
             then,
             otherwise,
         } => {
-            let second = size_of_stmt(sizes, otherwise)?;
-            sizes.push(second)?;
-            let first = size_of_stmt(sizes, then)?;
-            sizes.push(first)?;
-            sum(sum(size_of_expr(condition)?, sum(first, second)?)?, 2)
+            let second = size_of_passed(sizes, otherwise)?;
+            let first = size_of_passed(sizes, then)?;
+            size_of_choice(condition, sum(first, second)?, 2)
         }
         Stmt::While { condition, body } => {
-            let side = size_of_stmt(sizes, body)?;
-            sizes.push(side)?;
-            sum(sum(size_of_expr(condition)?, side)?, 2)
+            let side = size_of_passed(sizes, body)?;
+            size_of_choice(condition, side, 2)
         }
         Stmt::For {
             init,
@@ -175,15 +195,23 @@ fn size_of_stmt(sizes: &mut Vec<u32>, stmt: &Stmt) -> Result<u32, AllocError>
             step,
             body,
         } => {
-            let side = size_of_stmt(sizes, body)?;
-            sizes.push(side)?;
-            let tested = sum(size_of_test(condition)?, side)?;
-            let turn = sum(sum(tested, size_of_step(step)?)?, 1)?;
-            sum(size_of_simples(init)?, turn)
+            let side = size_of_passed(sizes, body)?;
+            size_of_for(init, condition, step, side)
         }
         Stmt::Break | Stmt::Continue => Ok(1),
-        Stmt::Return(value) => size_of_return(value),
+        Stmt::Return(value) => add_return(0, value),
     }
+}
+
+// The size of a statement that a jump passes over, which is put at the end of `sizes` too.
+#[cycle(sizes)]
+fn size_of_passed(sizes: &mut Vec<u32>, stmt: &Stmt) -> Result<u32, AllocError>
+    ensures size { IfOk result (λ n. n ≡ stmt_size (stmt_tree stmt.now)) }
+    ensures passed { OnOk result (sizes.new.items ≡ sizes.old.items ++ (stmt_sizes (stmt_tree stmt.now) ++ stmt_size (stmt_tree stmt.now) ∷ [])) }
+{
+    let size = size_of_stmt(sizes, stmt)?;
+    sizes.push(size)?;
+    Ok(size)
 }
 
 // The same of statements one after another.

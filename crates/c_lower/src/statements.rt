@@ -11,7 +11,7 @@ ghost use Rattle.c_lower.specs.StmtSizes.{stmt_sizes, stmts_sizes};
 use crate::expressions::put_expr;
 use crate::places::{place_after, put, sum};
 use crate::simples::{put_return, put_simple, put_simples, put_step, put_test};
-use crate::sizes::{last_size, size_of_step, size_of_test};
+use crate::sizes::{add_step, add_test, last_size};
 use c_tree::{Expr, Simple, Stmt};
 use flat_code::Op;
 use std::alloc::{AllocError, Global};
@@ -64,8 +64,8 @@ fn in_turn(
     ensures skip { IfOk result (λ inside. inside.skip ≡ length code.now.items + test_size (option_map expr_tree condition.now) + body_size) }
     ensures leave { IfOk result (λ inside. inside.leave ≡ inside.skip + step_size (option_map simple_tree step.now) + 1) }
 {
-    let skip = place_after(code, size_of_test(condition)?, body_size)?;
-    let leave = sum(sum(skip, size_of_step(step)?)?, 1)?;
+    let skip = add_test(place_after(code, body_size, 0)?, condition)?;
+    let leave = add_step(sum(skip, 1)?, step)?;
     Ok(Context { t, leave, skip })
 }
 

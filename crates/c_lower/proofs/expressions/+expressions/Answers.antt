@@ -57,47 +57,40 @@ put_expr-returns-in_ok-put_expr-in-Unary t c =
     rw (c.in-Unary.is, expr_tree-Unary c.in-Unary.operator c.in-Unary.operand)
     (then_on_ok c.put_unary.result (glued2 _ _ _ _ _ operand) c.put_unary.ensures)
 
-pub put_expr-returns-in_ok-end-in-Conditional : goal.put_expr-returns-in_ok-end-in-Conditional
-put_expr-returns-in_ok-end-in-Conditional t c =
+pub put_expr-returns-in_ok-put_expr-in-Conditional-3 : goal.put_expr-returns-in_ok-put_expr-in-Conditional-3
+put_expr-returns-in_ok-put_expr-in-Conditional-3 t c =
     let k = c.args.k in
     let c0 = c.args.code.now.items in
     let c1 = c.put_expr-in-Conditional.new.code.items in
     let d2 = c.put_open.new.code.items in
     let d3 = c.put_expr-in-Conditional-2.new.code.items in
-    let c3 = c.patch.new.code.items in
-    let d4 = c.put_open-in-Conditional.new.code.items in
+    let d4 = c.put_between.new.code.items in
     let d5 = c.put_expr-in-Conditional-3.new.code.items in
-    let c5 = c.patch-in-Conditional.new.code.items in
     let condition = expr_tree c.in-Conditional.condition.value in
     let first = expr_tree c.in-Conditional.then.value in
     let other = expr_tree c.in-Conditional.otherwise.value in
+    let test = c.in_ok-test-in-Conditional in
+    let jump = c.in_ok-jump-in-Conditional in
     let e1 : c1 ≡ c0 ++ expr_code condition (length c0) k = rw (← c.deref-in-Conditional.ensures) c.in_ok-put_expr-in-Conditional.ensures in
     let e3 : d3 ≡ d2 ++ expr_code first (length d2) k = rw (← c.deref-in-Conditional-2.ensures) c.in_ok-put_expr-in-Conditional-2.ensures in
     let e5 : d5 ≡ d4 ++ expr_code other (length d4) k = rw (← c.deref-in-Conditional-3.ensures) c.in_ok-put_expr-in-Conditional-3.ensures in
     rw (c.in-Conditional.is, expr_tree-Conditional c.in-Conditional.condition c.in-Conditional.then c.in-Conditional.otherwise)
-    (conditional_patched c0 c1 d2 d3 c3 d4 d5 c5 condition first other k c.in_ok-second-in-Conditional.second c.in_ok-end-in-Conditional.end c.in_ok-test-in-Conditional.test c.in_ok-jump-in-Conditional.jump e1 c.in_ok-test-in-Conditional.ensures.place c.in_ok-test-in-Conditional.ensures.code e3 c.in_ok-second-in-Conditional.ensures c.patch.ensures c.in_ok-jump-in-Conditional.ensures.place c.in_ok-jump-in-Conditional.ensures.code e5 c.in_ok-end-in-Conditional.ensures c.patch-in-Conditional.ensures)
+    (then_on_ok c.close_jump.result
+    (conditional_patched c0 c1 d2 d3 d4 d5 c.close_jump.new.code.items condition first other k test.test jump.jump e1 test.ensures.place test.ensures.code e3 jump.ensures.place jump.ensures.code e5)
+    c.close_jump.ensures)
 
-pub put_operand-returns-in_ok-end-in-LogicalAnd : goal.put_operand-returns-in_ok-end-in-LogicalAnd
-put_operand-returns-in_ok-end-in-LogicalAnd t c =
-    let c0 = c.args.code.now.items in
-    let d1 = c.put_open.new.code.items in
-    let d2 = c.put_expr-in-LogicalAnd.new.code.items in
-    let c2 = c.patch.new.code.items in
-    let c3 = c.put_truth.new.code.items in
+pub put_operand-returns-in_ok-put_expr-in-LogicalAnd : goal.put_operand-returns-in_ok-put_expr-in-LogicalAnd
+put_operand-returns-in_ok-put_expr-in-LogicalAnd t c =
+    let test = c.in_ok-test-in-LogicalAnd in
     rw c.in-LogicalAnd.is
-    (then_on_ok c.put_truth.result
-    (and_patched c0 d1 d2 c2 c3 (expr_tree c.args.operand.now) c.args.k c.in_ok-zero-in-LogicalAnd.zero c.in_ok-end-in-LogicalAnd.end c.in_ok-test-in-LogicalAnd.test c.in_ok-test-in-LogicalAnd.ensures.place c.in_ok-test-in-LogicalAnd.ensures.code c.in_ok-put_expr-in-LogicalAnd.ensures c.in_ok-zero-in-LogicalAnd.ensures c.in_ok-end-in-LogicalAnd.ensures c.patch.ensures)
-    c.put_truth.ensures)
+    (then_on_ok c.put_both.result
+    (and_patched c.args.code.now.items c.put_open.new.code.items c.put_expr-in-LogicalAnd.new.code.items c.put_both.new.code.items (expr_tree c.args.operand.now) c.args.k test.test test.ensures.place test.ensures.code c.in_ok-put_expr-in-LogicalAnd.ensures)
+    c.put_both.ensures)
 
-pub put_operand-returns-in_ok-end-in-LogicalOr : goal.put_operand-returns-in_ok-end-in-LogicalOr
-put_operand-returns-in_ok-end-in-LogicalOr t c =
-    let c0 = c.args.code.now.items in
-    let d0 = c.put-in-LogicalOr.new.code.items in
-    let d1 = c.put_open-in-LogicalOr.new.code.items in
-    let d2 = c.put_expr-in-LogicalOr.new.code.items in
-    let c2 = c.patch-in-LogicalOr.new.code.items in
-    let c3 = c.put_truth-in-LogicalOr.new.code.items in
+pub put_operand-returns-in_ok-put_expr-in-LogicalOr : goal.put_operand-returns-in_ok-put_expr-in-LogicalOr
+put_operand-returns-in_ok-put_expr-in-LogicalOr t c =
+    let jump = c.in_ok-jump-in-LogicalOr in
     rw c.in-LogicalOr.is
-    (then_on_ok c.put_truth-in-LogicalOr.result
-    (or_patched c0 d0 d1 d2 c2 c3 (expr_tree c.args.operand.now) c.args.k c.in_ok-right-in-LogicalOr.right c.in_ok-one-in-LogicalOr.one c.in_ok-zero-in-LogicalOr.zero c.in_ok-end-in-LogicalOr.end c.in_ok-jump-in-LogicalOr.jump c.in_ok-right-in-LogicalOr.ensures c.in_ok-put-in-LogicalOr.ensures c.in_ok-jump-in-LogicalOr.ensures.place c.in_ok-jump-in-LogicalOr.ensures.code c.in_ok-put_expr-in-LogicalOr.ensures c.in_ok-one-in-LogicalOr.ensures c.in_ok-zero-in-LogicalOr.ensures c.in_ok-end-in-LogicalOr.ensures c.patch-in-LogicalOr.ensures)
-    c.put_truth-in-LogicalOr.ensures)
+    (then_on_ok c.put_either.result
+    (or_patched c.args.code.now.items c.put_unless.new.code.items c.put_expr-in-LogicalOr.new.code.items c.put_either.new.code.items (expr_tree c.args.operand.now) c.args.k jump.jump jump.ensures.place jump.ensures.code c.in_ok-put_expr-in-LogicalOr.ensures)
+    c.put_either.ensures)

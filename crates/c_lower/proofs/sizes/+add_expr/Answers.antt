@@ -1,13 +1,12 @@
-use Rattle.std.proofs.Common.{◌≡◌, ◌+◌, map, ap}
+use Rattle.std.proofs.Common.{◌≡◌, ◌+◌, map, arith}
 use Rattle.c_tree.specs.Views.{expr_tree}
 use Rattle.c_tree.proofs.ExprEquations.{operand_tree, expr_tree-Chain}
 use Rattle.c_lower.specs.ExprCode.{expr_size}
-use Rattle.c_lower.specs.Chains.{operands_size}
 use Rattle.c_lower.proofs.ChainCode.{chained_size}
-use Rattle.c_lower.proofs.sizes.+size_of_expr.Goals as goal
+use Rattle.c_lower.proofs.sizes.+add_expr.Goals as goal
 
 pub loop-operator-init : goal.loop-operator-init
 loop-operator-init t c =
-    let first : c.in_ok-size-in-Chain.size ≡ expr_size (expr_tree c.in-Chain.first.value) = rw (← c.deref-in-Chain.ensures) c.in_ok-size-in-Chain.ensures in
+    let first : c.in_ok-size-in-Chain.size ≡ c.args.size + expr_size (expr_tree c.in-Chain.first.value) = rw (← c.deref-in-Chain.ensures) c.in_ok-size-in-Chain.ensures in
     rw (c.in-Chain.is, expr_tree-Chain c.in-Chain.first c.in-Chain.rest, chained_size (expr_tree c.in-Chain.first.value) (map operand_tree c.in-Chain.rest.items), c.deref-operator-items.ensures.value)
-    (ap (λ n. n + operands_size (map operand_tree c.in-Chain.rest.items)) first)
+    (omega arith)

@@ -1,7 +1,7 @@
 use Rattle.std.proofs.Common.{◌≡◌, ◌+◌, map, drop}
 use Rattle.c_tree.specs.Views.{simple_tree}
 use Rattle.c_lower.specs.StmtCode.{simples_size}
-use Rattle.c_lower.proofs.sizes.size_of_simples.Given as goal
+use Rattle.c_lower.proofs.sizes.add_simples.Given as goal
 
 abbrev pub invariant-loop-simple : goal.invariant-loop-simple
-invariant-loop-simple l = l.size + simples_size (map simple_tree (drop l.simple-index l.simples)) ≡ simples_size (map simple_tree l.simples)
+invariant-loop-simple l = l.size + simples_size (map simple_tree (drop l.simple-index l.simples)) ≡ l.fn.size + simples_size (map simple_tree l.simples)

@@ -1,0 +1,7 @@
+use Rattle.std.proofs.Common.{◌≡◌, ◌+◌, map, drop}
+use Rattle.c_tree.specs.Views.{expr_tree}
+use Rattle.c_lower.specs.CallCode.{arguments_size}
+use Rattle.c_lower.proofs.sizes.add_arguments.Given as goal
+
+abbrev pub invariant-loop-argument : goal.invariant-loop-argument
+invariant-loop-argument l = l.size + arguments_size (map expr_tree (drop l.argument-index l.arguments)) ≡ l.fn.size + arguments_size (map expr_tree l.arguments)
