@@ -1,5 +1,6 @@
 // Expressions (ISO/IEC 9899:2018, 6.5).
 ghost use Rattle.std.specs.Prelude.{◌≡◌, ◌≤◌, ◌<◌, ◌+◌, ◌*◌, [], ◌∷◌, IfOk, IfErr, IfSome, IfNone, map, length};
+ghost use Rattle.c_tree.specs.RawTrees.{RawExprTree, RawConditional};
 ghost use Rattle.c_tree.specs.RawViews.{name_tree, raw_expr_tree, raw_expr_trees};
 ghost use Rattle.c_tree.specs.RawTemporaries.{raw_temporaries};
 ghost use Rattle.c_tree.proofs.RawExprEquations.{raw_operand_tree};
@@ -10,6 +11,7 @@ ghost use Rattle.c_parse.specs.Steps.{Leads, Refused, NoneFrom, IsNextOperator, 
 
 use crate::cursor::{Cursor, Text};
 use crate::errors::ParseError;
+use crate::held::{before_sign, both, boxed_pair};
 use crate::operators::{LEVELS, infix_of, level_of, unary_of};
 use crate::signs::Sign;
 use c_tree::{Infix, Name, RawExpr};
@@ -41,18 +43,33 @@ fn conditional(
     ensures read { IfOk result (λ e. ReadsConditional text.entry.bytes.now text.entry.end depth (raw_expr_tree first) cursor.old.tokens.now (raw_expr_tree e) cursor.new.tokens.now) }
     ensures refused { IfErr result (λ error. Refused text.entry.end depth (Tail ∷ []) cursor.old.tokens.now error) }
 {
-    let inside = cursor.open(text, depth)?;
-    let then = expression(text, cursor, inside)?;
-    cursor.take(text, Sign::Colon)?;
-    let otherwise = expression(text, cursor, inside)?;
     let condition = Box::new(text.alloc, first)?;
-    let then = Box::new(text.alloc, then)?;
-    let otherwise = Box::new(text.alloc, otherwise)?;
+    let (condition, branches) = both(condition, branches(text, cursor, depth))?;
+    let (then, otherwise) = branches;
     Ok(RawExpr::Conditional {
         condition,
         then,
         otherwise,
     })
+}
+
+// The two branches of a conditional expression, from its `?` on, whatever the condition before it.
+#[cycle(expression)]
+fn branches(
+    text: Text,
+    cursor: &mut Cursor,
+    depth: u32,
+) -> Result<(Box<RawExpr>, Box<RawExpr>), ParseError>
+    requires fits { depth ≤ 64 }
+    requires question { next_sign cursor.old.tokens.now ≡ Sign.Question }
+    ensures read { IfOk result (λ made. (first : RawExprTree) → ReadsConditional text.entry.bytes.now text.entry.end depth first cursor.old.tokens.now (RawConditional first (raw_expr_tree made.0.value) (raw_expr_tree made.1.value)) cursor.new.tokens.now) }
+    ensures refused { IfErr result (λ error. Refused text.entry.end depth (Tail ∷ []) cursor.old.tokens.now error) }
+{
+    let inside = cursor.open(text, depth)?;
+    let then = expression(text, cursor, inside)?;
+    let then = before_sign(then, text, cursor, Sign::Colon)?;
+    let pair = both(then, expression(text, cursor, inside))?;
+    boxed_pair(text, pair)
 }
 
 // Operands with operators of this level and the tighter ones between them.

@@ -13,6 +13,7 @@ mod errors;
 mod expressions;
 mod functions;
 mod globals;
+mod held;
 mod items;
 mod laws;
 mod loops;

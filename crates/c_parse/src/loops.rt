@@ -9,6 +9,7 @@ ghost use Rattle.c_parse.specs.BodySteps.{RefusedInside, ReadsForParts, ReadsFor
 
 use crate::cursor::{Cursor, Text};
 use crate::errors::ParseError;
+use crate::held::{alone, before_sign};
 use crate::plain_statements::up_to_semicolon;
 use crate::signs::Sign;
 use crate::simples::{locals, simple};
@@ -64,10 +65,8 @@ fn simple_init(text: Text, cursor: &mut Cursor, depth: u32) -> Result<Vec<RawSim
     ensures refused { IfErr result (λ error. RefusedInside text.entry.end depth ForInit cursor.old.tokens.now error) }
 {
     let first = simple(text, cursor, depth)?;
-    cursor.take(text, Sign::Semicolon)?;
-    let mut init = Vec::new(text.alloc);
-    init.push(first)?;
-    Ok(init)
+    let first = before_sign(first, text, cursor, Sign::Semicolon)?;
+    alone(text, first)
 }
 
 // The last part, with the `)` behind it.
@@ -81,6 +80,6 @@ fn for_step(text: Text, cursor: &mut Cursor, depth: u32) -> Result<Option<RawSim
         return Ok(None);
     }
     let step = simple(text, cursor, depth)?;
-    cursor.take(text, Sign::RightParenthesis)?;
+    let step = before_sign(step, text, cursor, Sign::RightParenthesis)?;
     Ok(Some(step))
 }

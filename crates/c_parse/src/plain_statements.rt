@@ -12,6 +12,7 @@ ghost use Rattle.c_parse.specs.BodySteps.{RefusedInside, NoStatement, ReadsBody,
 use crate::cursor::{Cursor, Text};
 use crate::errors::ParseError;
 use crate::expressions::expression;
+use crate::held::before_sign;
 use crate::signs::Sign;
 use crate::simples::{locals, simple};
 use c_tree::{RawExpr, RawSimple, RawStmt};
@@ -106,7 +107,7 @@ pub(crate) fn simple_statement(
     ensures refused { IfErr result (λ error. Refused text.entry.end depth (Body ∷ []) cursor.old.tokens.now error) }
 {
     let simple = simple(text, cursor, depth)?;
-    cursor.take(text, Sign::Semicolon)?;
+    let simple = before_sign(simple, text, cursor, Sign::Semicolon)?;
     Ok(RawStmt::Simple(simple))
 }
 
@@ -125,6 +126,6 @@ pub(crate) fn up_to_semicolon(
         return Ok(None);
     }
     let value = expression(text, cursor, depth)?;
-    cursor.take(text, Sign::Semicolon)?;
+    let value = before_sign(value, text, cursor, Sign::Semicolon)?;
     Ok(Some(value))
 }

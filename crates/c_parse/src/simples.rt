@@ -10,6 +10,7 @@ ghost use Rattle.c_parse.specs.StmtSteps.{ReadsSimple, RefusedSimple, ReadsIndex
 use crate::cursor::{Cursor, Text};
 use crate::errors::ParseError;
 use crate::expressions::{arguments, bracketed, expression, parenthesized};
+use crate::held::{before_sign, both};
 use crate::signs::Sign;
 use c_tree::{Name, RawExpr, RawSimple};
 
@@ -50,15 +51,17 @@ fn indexed(
     ensures refused { IfErr result (λ error. Refused text.entry.end depth (AfterSimpleIndex ∷ []) cursor.old.tokens.now error) }
 {
     if cursor.sign() == Sign::LeftParenthesis {
-        let argument = parenthesized(text, cursor, depth)?;
+        let (called, argument) = both((name, index), parenthesized(text, cursor, depth))?;
+        let (name, index) = called;
         return Ok(RawSimple::TableCall {
             name,
             index,
             argument,
         });
     }
-    cursor.take(text, Sign::Assign)?;
-    let value = expression(text, cursor, depth)?;
+    let target = before_sign((name, index), text, cursor, Sign::Assign)?;
+    let (target, value) = both(target, expression(text, cursor, depth))?;
+    let (name, index) = target;
     Ok(RawSimple::SetElement { name, index, value })
 }
 

@@ -10,7 +10,8 @@ ghost use Rattle.c_parse.specs.BodySteps.{RefusedInside, ReadsBody, ReadsBlock, 
 use crate::cursor::{Cursor, Text};
 use crate::errors::ParseError;
 use crate::expressions::parenthesized;
-use crate::loops::for_parts;
+use crate::held::both;
+use crate::loops::{Parts, for_parts};
 use crate::plain_statements::{
     break_statement, continue_statement, declarations, return_statement, simple_statement,
 };
@@ -82,6 +83,18 @@ fn statement(text: Text, cursor: &mut Cursor, depth: u32) -> Result<RawStmt, Par
     }
 }
 
+// A statement that is no declaration, in a box.
+#[cycle(statement)]
+fn boxed_statement(text: Text, cursor: &mut Cursor, depth: u32) -> Result<Box<RawStmt>, ParseError>
+    requires { depth ≤ 64 }
+    ensures read { IfOk result (λ made. ReadsBody text.entry.bytes.now text.entry.end depth cursor.old.tokens.now (raw_stmt_tree made.value) cursor.new.tokens.now) }
+    ensures refused { IfErr result (λ error. Refused text.entry.end depth (Body ∷ []) cursor.old.tokens.now error) }
+{
+    let stmt = statement(text, cursor, depth)?;
+    let made = Box::new(text.alloc, stmt)?;
+    Ok(made)
+}
+
 // An `if`, which comes next, with the `else` behind it, which belongs to the nearest `if`.
 #[cycle(statement)]
 fn if_statement(text: Text, cursor: &mut Cursor, depth: u32) -> Result<RawStmt, ParseError>
@@ -92,14 +105,13 @@ fn if_statement(text: Text, cursor: &mut Cursor, depth: u32) -> Result<RawStmt, 
 {
     let inside = cursor.open(text, depth)?;
     let condition = parenthesized(text, cursor, inside)?;
-    let then = statement(text, cursor, inside)?;
-    let then = Box::new(text.alloc, then)?;
+    let (condition, then) = both(condition, boxed_statement(text, cursor, inside))?;
     if cursor.sign() != Sign::Else {
         return Ok(RawStmt::If { condition, then });
     }
     cursor.pass();
-    let otherwise = statement(text, cursor, inside)?;
-    let otherwise = Box::new(text.alloc, otherwise)?;
+    let (held, otherwise) = both((condition, then), boxed_statement(text, cursor, inside))?;
+    let (condition, then) = held;
     Ok(RawStmt::IfElse {
         condition,
         then,
@@ -117,8 +129,7 @@ fn while_statement(text: Text, cursor: &mut Cursor, depth: u32) -> Result<RawStm
 {
     let inside = cursor.open(text, depth)?;
     let condition = parenthesized(text, cursor, inside)?;
-    let body = statement(text, cursor, inside)?;
-    let body = Box::new(text.alloc, body)?;
+    let (condition, body) = both(condition, boxed_statement(text, cursor, inside))?;
     Ok(RawStmt::While { condition, body })
 }
 
@@ -132,12 +143,16 @@ fn for_statement(text: Text, cursor: &mut Cursor, depth: u32) -> Result<RawStmt,
 {
     let inside = cursor.open(text, depth)?;
     let parts = for_parts(text, cursor, inside)?;
-    let body = statement(text, cursor, inside)?;
-    let body = Box::new(text.alloc, body)?;
+    let (parts, body) = both(parts, boxed_statement(text, cursor, inside))?;
+    let Parts {
+        init,
+        condition,
+        step,
+    } = parts;
     Ok(RawStmt::For {
-        init: parts.init,
-        condition: parts.condition,
-        step: parts.step,
+        init,
+        condition,
+        step,
         body,
     })
 }

@@ -1,13 +1,18 @@
 use Rattle.std.proofs.Common.{ℕ, ◌≡◌, ◌∙◌, ◌∷◌, [], List, map, length, vec_len, nat_eq, refl, subst, arith, Bool, true}
 use Rattle.std.proofs.lemmas.Bool.Decides.{nat_tests}
 use Rattle.std.proofs.lemmas.List.{map-append}
-use Rattle.std.proofs.lemmas.Result.{IfOk-weaker, IfErr-weaker, err_from_is_err_and}
+use Rattle.std.proofs.lemmas.Result.{IfOk-at_ok, IfErr-at_err, IfOk-weaker, IfErr-weaker, err_from_is_err_and}
+use Rattle.std.specs.Prelude.{Box}
+use Rattle.std.specs.declared.alloc.Global.{Global}
+use Rattle.c_lex.specs.declared.tokens.Token.{Token}
+use Rattle.c_tree.specs.RawTrees.{RawExprTree, RawConditional}
 use Rattle.c_tree.specs.declared.operators.Infix.{Infix}
 use Rattle.c_tree.specs.declared.raw_expressions.RawExpr.{RawExpr}
 use Rattle.c_tree.specs.RawViews.{name_tree, raw_expr_tree, raw_expr_trees, raw_chained}
 use Rattle.c_tree.proofs.RawExprEquations.{raw_operand_tree, raw_expr_tree-Number, raw_expr_tree-Name, raw_expr_tree-Element, raw_expr_tree-Unary, raw_expr_tree-Parenthesized, raw_expr_tree-Chain, raw_expr_tree-Conditional, raw_expr_tree-Call, raw_expr_tree-TableCall}
 use Rattle.c_parse.specs.Machine as tasks
-use Rattle.c_parse.specs.Steps.{Refused, NoPrefix, ReadsBinary}
+use Rattle.c_parse.specs.Steps.{Refused, NoPrefix, ReadsExpr, ReadsConditional, ReadsBinary}
+use Rattle.c_parse.proofs.Paths.{exit}
 use Rattle.c_parse.proofs.SignTests.{is_sign, other_sign, no_other_sign, not_that_sign}
 use Rattle.c_parse.proofs.ExprRules as rules
 use Rattle.c_parse.proofs.OperandRules as operands
@@ -29,36 +34,58 @@ pub expression-returns-clause-refused : goal.expression-returns-clause-refused
 expression-returns-clause-refused t c =
     IfErr-weaker c.conditional.result (λ error. Refused c.args.text.end c.args.depth (tasks.Tail ∷ []) c.binary.new.cursor.tokens.now error) (λ error. Refused c.args.text.end c.args.depth (tasks.Expr ∷ []) c.args.cursor.now.tokens.now error) (λ error h. rules.expr_refused_later c.in_ok-first.ensures.read h) c.conditional.ensures.refused
 
-pub conditional-returns-in_err-inside-clause-refused : goal.conditional-returns-in_err-inside-clause-refused
-conditional-returns-in_err-inside-clause-refused t c =
-    let p = err_from_is_err_and c.from_residual.result c.from_residual.ensures.1 in
-    rw (p.1, p.2) (rules.conditional_deep c.args.text.end c.args.depth c.args.cursor.now.tokens.now c.in_err-inside.field-0.0 c.requires.question c.in_err-inside.ensures.deep)
+pub conditional-returns-in_err-condition-2-clause-refused : goal.conditional-returns-in_err-condition-2-clause-refused
+conditional-returns-in_err-condition-2-clause-refused t c =
+    exit _ _ c.from_residual-in_err-condition-2.ensures.1
+    (IfErr-at_err (Refused c.args.text.end c.args.depth (tasks.Tail ∷ []) c.args.cursor.now.tokens.now) c.in_err-condition-2.ensures.refused c.branches.ensures.refused)
 
-pub conditional-returns-in_err-then-clause-refused : goal.conditional-returns-in_err-then-clause-refused
-conditional-returns-in_err-then-clause-refused t c =
-    let p = err_from_is_err_and c.from_residual-in_err-then.result c.from_residual-in_err-then.ensures.1 in
-    rw (p.1, p.2)
-    (rules.conditional_then c.args.text.end c.args.depth c.in_ok-inside.inside c.args.cursor.now.tokens.now c.open.new.self.tokens.now c.in_err-then.field-0.0 c.requires.question c.in_ok-inside.ensures.taken c.in_ok-inside.ensures.fits c.in_err-then.ensures.refused)
-
-pub conditional-returns-in_err-take-clause-refused : goal.conditional-returns-in_err-take-clause-refused
-conditional-returns-in_err-take-clause-refused t c =
-    let p = err_from_is_err_and c.from_residual-in_err-take.result c.from_residual-in_err-take.ensures.1 in
-    rw (p.1, p.2)
-    (rules.conditional_colon c.args.text.bytes.now c.args.text.end c.args.depth c.in_ok-inside.inside c.args.cursor.now.tokens.now c.open.new.self.tokens.now c.expression.new.cursor.tokens.now (raw_expr_tree c.in_ok-then.then) c.in_err-take.field-0.0 c.requires.question
-    c.in_ok-inside.ensures.taken c.in_ok-inside.ensures.fits c.in_ok-then.ensures.read c.in_err-take.ensures.place c.in_err-take.ensures.other)
-
-pub conditional-returns-in_err-otherwise-clause-refused : goal.conditional-returns-in_err-otherwise-clause-refused
-conditional-returns-in_err-otherwise-clause-refused t c =
-    let p = err_from_is_err_and c.from_residual-in_err-otherwise.result c.from_residual-in_err-otherwise.ensures.1 in
-    rw (p.1, p.2)
-    (rules.conditional_otherwise c.args.text.bytes.now c.args.text.end c.args.depth c.in_ok-inside.inside c.args.cursor.now.tokens.now c.open.new.self.tokens.now c.expression.new.cursor.tokens.now c.take.new.self.tokens.now (raw_expr_tree c.in_ok-then.then)
-    c.in_err-otherwise.field-0.0 c.requires.question c.in_ok-inside.ensures.taken c.in_ok-inside.ensures.fits c.in_ok-then.ensures.read c.in_ok-take.ensures.taken c.in_err-otherwise.ensures.refused)
+-- the branches, whatever the condition before them
+abbrev ReadsBranches : List ℕ → ℕ → ℕ → List Token → List Token → Box RawExpr Global × Box RawExpr Global → Type 0
+ReadsBranches source end depth before after made = (first : RawExprTree) → ReadsConditional source end depth first before (RawConditional first (raw_expr_tree made.0.value) (raw_expr_tree made.1.value)) after
 
 pub conditional-returns-clause-read : goal.conditional-returns-clause-read
 conditional-returns-clause-read t c =
-    rw (raw_expr_tree-Conditional c.in_ok-condition.condition c.in_ok-then-2.then c.in_ok-otherwise-2.otherwise, c.in_ok-condition.ensures.ok, c.in_ok-then-2.ensures.ok, c.in_ok-otherwise-2.ensures.ok)
-    (rules.conditional_read c.args.text.bytes.now c.args.text.end c.args.depth c.in_ok-inside.inside c.args.cursor.now.tokens.now c.open.new.self.tokens.now c.expression.new.cursor.tokens.now c.take.new.self.tokens.now c.expression-2.new.cursor.tokens.now
-    (raw_expr_tree c.args.first) (raw_expr_tree c.in_ok-then.then) (raw_expr_tree c.in_ok-otherwise.otherwise) c.requires.question c.in_ok-inside.ensures.taken c.in_ok-inside.ensures.fits c.in_ok-then.ensures.read c.in_ok-take.ensures.taken c.in_ok-otherwise.ensures.read)
+    let read : ReadsBranches c.args.text.bytes.now c.args.text.end c.args.depth c.args.cursor.now.tokens.now c.branches.new.cursor.tokens.now c.in_ok-condition-2.branches =
+    IfOk-at_ok (ReadsBranches c.args.text.bytes.now c.args.text.end c.args.depth c.args.cursor.now.tokens.now c.branches.new.cursor.tokens.now) c.in_ok-condition-2.ensures.had c.branches.ensures.read
+    in
+    rw (raw_expr_tree-Conditional c.in_ok-condition-2.condition c.in_ok-condition-2.branches.0 c.in_ok-condition-2.branches.1, c.in_ok-condition-2.ensures.held, c.in_ok-condition.ensures.ok) (read (raw_expr_tree c.args.first))
+
+pub branches-returns-in_err-inside-clause-refused : goal.branches-returns-in_err-inside-clause-refused
+branches-returns-in_err-inside-clause-refused t c =
+    exit _ _ c.from_residual.ensures.1 (rules.conditional_deep c.args.text.end c.args.depth c.args.cursor.now.tokens.now c.in_err-inside.field-0.0 c.requires.question c.in_err-inside.ensures.deep)
+
+pub branches-returns-in_err-then-clause-refused : goal.branches-returns-in_err-then-clause-refused
+branches-returns-in_err-then-clause-refused t c =
+    exit _ _ c.from_residual-in_err-then.ensures.1
+    (rules.conditional_then c.args.text.end c.args.depth c.in_ok-inside.inside c.args.cursor.now.tokens.now c.open.new.self.tokens.now c.in_err-then.field-0.0 c.requires.question c.in_ok-inside.ensures.taken c.in_ok-inside.ensures.fits c.in_err-then.ensures.refused)
+
+pub branches-returns-in_err-then-2-clause-refused : goal.branches-returns-in_err-then-2-clause-refused
+branches-returns-in_err-then-2-clause-refused t c =
+    exit _ _ c.from_residual-in_err-then-2.ensures.1
+    (rules.conditional_colon c.args.text.bytes.now c.args.text.end c.args.depth c.in_ok-inside.inside c.args.cursor.now.tokens.now c.open.new.self.tokens.now c.expression.new.cursor.tokens.now (raw_expr_tree c.in_ok-then.then) c.in_err-then-2.field-0.0 c.requires.question
+    c.in_ok-inside.ensures.taken c.in_ok-inside.ensures.fits c.in_ok-then.ensures.read c.in_err-then-2.ensures.place c.in_err-then-2.ensures.other)
+
+pub branches-returns-in_err-pair-clause-refused : goal.branches-returns-in_err-pair-clause-refused
+branches-returns-in_err-pair-clause-refused t c =
+    exit _ _ c.from_residual-in_err-pair.ensures.1
+    (rules.conditional_otherwise c.args.text.bytes.now c.args.text.end c.args.depth c.in_ok-inside.inside c.args.cursor.now.tokens.now c.open.new.self.tokens.now c.expression.new.cursor.tokens.now c.before_sign.new.cursor.tokens.now (raw_expr_tree c.in_ok-then.then)
+    c.in_err-pair.field-0.0 c.requires.question c.in_ok-inside.ensures.taken c.in_ok-inside.ensures.fits c.in_ok-then.ensures.read c.in_ok-then-2.ensures.taken
+    (IfErr-at_err (Refused c.args.text.end c.in_ok-inside.inside (tasks.Expr ∷ []) c.before_sign.new.cursor.tokens.now) c.in_err-pair.ensures.refused c.expression-2.ensures.refused))
+
+abbrev ReadsOther : List ℕ → ℕ → ℕ → List Token → List Token → RawExpr → Type 0
+ReadsOther source end depth before after e = ReadsExpr source end depth before (raw_expr_tree e) after
+
+pub branches-returns-clause-read : goal.branches-returns-clause-read
+branches-returns-clause-read t c =
+    let read = IfOk-at_ok (ReadsOther c.args.text.bytes.now c.args.text.end c.in_ok-inside.inside c.before_sign.new.cursor.tokens.now c.expression-2.new.cursor.tokens.now) c.in_ok-pair.ensures.had c.expression-2.ensures.read in
+    IfOk-weaker c.boxed_pair.result _ _
+    (λ made h first. rw (h.0, h.1, c.in_ok-pair.ensures.held, c.in_ok-then-2.ensures.held)
+    (rules.conditional_read c.args.text.bytes.now c.args.text.end c.args.depth c.in_ok-inside.inside c.args.cursor.now.tokens.now c.open.new.self.tokens.now c.expression.new.cursor.tokens.now c.before_sign.new.cursor.tokens.now c.expression-2.new.cursor.tokens.now
+    first (raw_expr_tree c.in_ok-then.then) (raw_expr_tree c.in_ok-pair.pair.1) c.requires.question c.in_ok-inside.ensures.taken c.in_ok-inside.ensures.fits c.in_ok-then.ensures.read c.in_ok-then-2.ensures.taken read))
+    c.boxed_pair.ensures.held
+
+pub branches-returns-clause-refused : goal.branches-returns-clause-refused
+branches-returns-clause-refused t c = IfErr-weaker c.boxed_pair.result _ _ (λ error e other. absurd (other e)) c.boxed_pair.ensures.memory
 
 pub binary-returns-then-level-ge-LEVELS-clause-read : goal.binary-returns-then-level-ge-LEVELS-clause-read
 binary-returns-then-level-ge-LEVELS-clause-read t c =

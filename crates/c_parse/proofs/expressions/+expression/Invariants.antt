@@ -15,7 +15,10 @@ abbrev pub decreases-parenthesized : goal.decreases-parenthesized
 decreases-parenthesized l = 32 * length l.cursor.now.tokens.now + 1
 
 abbrev pub decreases-conditional : goal.decreases-conditional
-decreases-conditional l = 32 * length l.cursor.now.tokens.now + 1
+decreases-conditional l = 32 * length l.cursor.now.tokens.now + 2
+
+abbrev pub decreases-branches : goal.decreases-branches
+decreases-branches l = 32 * length l.cursor.now.tokens.now + 1
 
 abbrev pub decreases-repeated : goal.decreases-repeated
 decreases-repeated l = 32 * length l.cursor.now.tokens.now + 1

@@ -8,8 +8,8 @@ returns-then-eq-clause-read c = step_none _ _ _ _ _ c.requires (sign_is c.sign.e
 pub returns-in_err-step-clause-refused : goal.returns-in_err-step-clause-refused
 returns-in_err-step-clause-refused c = exit _ _ c.from_residual.ensures.1 (step_refused _ _ _ _ c.requires (sign_other c.sign.ensures c.if-eq.ensures) c.in_err-step.ensures.refused)
 
-pub returns-in_err-take-clause-refused : goal.returns-in_err-take-clause-refused
-returns-in_err-take-clause-refused c = exit _ _ c.from_residual-in_err-take.ensures.1 (step_open_end _ _ _ _ _ _ _ c.requires c.in_ok-step.ensures.read c.in_err-take.ensures.place c.in_err-take.ensures.other)
+pub returns-in_err-step-2-clause-refused : goal.returns-in_err-step-2-clause-refused
+returns-in_err-step-2-clause-refused c = exit _ _ c.from_residual-in_err-step-2.ensures.1 (step_open_end _ _ _ _ _ _ _ c.requires c.in_ok-step.ensures.read c.in_err-step-2.ensures.place c.in_err-step-2.ensures.other)
 
 pub returns-clause-read : goal.returns-clause-read
-returns-clause-read c = step_read _ _ _ _ _ _ _ c.requires c.in_ok-step.ensures.read c.in_ok-take.ensures.taken
+returns-clause-read c = rw c.in_ok-step-2.ensures.held (step_read _ _ _ _ _ _ _ c.requires c.in_ok-step.ensures.read c.in_ok-step-2.ensures.taken)

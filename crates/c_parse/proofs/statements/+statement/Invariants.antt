@@ -19,6 +19,9 @@ decreases-for_statement l = 4 * length l.cursor.now.tokens.now
 abbrev pub decreases-statement : goal.decreases-statement
 decreases-statement l = 4 * length l.cursor.now.tokens.now + 1
 
+abbrev pub decreases-boxed_statement : goal.decreases-boxed_statement
+decreases-boxed_statement l = 4 * length l.cursor.now.tokens.now + 2
+
 abbrev pub decreases-block_item : goal.decreases-block_item
 decreases-block_item l = 4 * length l.cursor.now.tokens.now + 2
 
