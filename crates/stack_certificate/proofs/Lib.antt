@@ -10,6 +10,7 @@ pub mod Otherwise
 pub mod PartLemmas
 pub mod Passing
 pub mod PlaceLemmas
+pub mod PushedLemmas
 pub mod Rising
 pub mod SizeLemmas
 pub mod SlotLemmas

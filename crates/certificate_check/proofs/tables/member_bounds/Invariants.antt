@@ -3,7 +3,4 @@ use Rattle.certificate_rules.specs.Sites.{greatest_bound}
 use Rattle.certificate_check.proofs.tables.member_bounds.Given as goal
 
 abbrev pub invariant-loop-table : goal.invariant-loop-table
-invariant-loop-table l = record {
-  items : l.table-items ≡ l.flat.tables.items;
-  bounds : l.bounds.items ≡ map (greatest_bound l.certificate) (take l.table-index l.flat.tables.items);
-}
+invariant-loop-table l = l.bounds.items ≡ map (greatest_bound l.certificate) (take l.table-index l.table-items)

@@ -1,10 +1,9 @@
-use Rattle.std.proofs.Common.{◌≡◌, ◌++◌, [], ◌∷◌, map, ap, sym, ◌∙◌, arith}
-use Rattle.std.specs.List.{range_with_len}
-use Rattle.std.proofs.lemmas.List.FromFn.{map-range_with_len_more}
+use Rattle.std.proofs.Common.{◌≡◌, ap, sym, ◌∙◌, arith}
 use Rattle.flat_code.specs.Codes.{function_at, operation_at}
 use Rattle.flat_code.specs.ProgramView.{program_code}
 use Rattle.stack_certificate.specs.Templates.{begin, kind_of, size, size_at}
 use Rattle.stack_certificate.proofs.AddressLemmas.{words_step}
+use Rattle.stack_certificate.proofs.PushedLemmas.{numbered-pushed}
 use Rattle.codegen_link.proofs.AddressLemmas.{ahead}
 use Rattle.codegen_link.proofs.SiteLemmas.{kind-link}
 use Rattle.codegen_link.proofs.settings.begins.Goals as goal
@@ -26,10 +25,7 @@ loop-op-preserved c =
     (ap (λ kind. size sizes kind op) (sym (kind-link code plan certificate f i op flat.well_formed c.requires.ready.facts c.requires.function (sym there))) ∙
     ap (λ o. size_at sizes (kind_of certificate op) o) there)))) in
     record {
-      begins =
-          c.in_ok-push.ensures.items ∙ (ap (λ xs. xs ++ c.loop-op.here ∷ []) c.loop-op.invariant.begins ∙
-          (ap (λ h. map (begin code certificate f) (range_with_len 0 i) ++ h ∷ []) c.loop-op.invariant.here ∙
-          sym (map-range_with_len_more (begin code certificate f) 0 i i (omega arith))));
+      begins = numbered-pushed (begin code certificate f) i _ _ _ c.loop-op.invariant.begins c.in_ok-push.ensures.items c.loop-op.invariant.here;
       here = ahead _ _ _ _ _ _ c.loop-op.invariant.here next (words_step code certificate f i op there);
       range = omega (arith, c.loop-op.invariant.range, c.operation_size.ensures.few, c.from-in-loop-op.ensures);
     }
