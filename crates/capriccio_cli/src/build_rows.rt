@@ -2,7 +2,7 @@
 use crate::command_rows::{
     CERTIFICATE_OF_SEVEN, IMAGE_OF_SEVEN, IMAGE_OF_TWO, NONE, PUT_SEVEN, TWO, bytes_of,
 };
-use crate::rows::{failing_shelf, failing_sink, shelf_of, status_of, words_of};
+use crate::rows::{failing_shelf, failing_sink, shelf_of, status_alone, words_of};
 use cap_io::{CleanSink, CleanSource, Shelf, ShelfError};
 use std::alloc::{AllocError, Global};
 use std::process::Abort;
@@ -57,10 +57,7 @@ fn built(alloc: Global, words: &[&str], source: &[u8]) -> Result<Left, AllocErro
     let mut trace = CleanSource::new(Vec::new(alloc));
     let mut out = CleanSink::new(alloc);
     let mut err = CleanSink::new(alloc);
-    let mut last = None;
-    let status = status_of(
-        alloc, &words, &mut shelf, &mut trace, &mut out, &mut err, &mut last,
-    );
+    let status = status_alone(alloc, &words, &mut shelf, &mut trace, &mut out, &mut err);
     left_by(alloc, &mut shelf, status, out.bytes(), err.bytes())
 }
 
@@ -168,10 +165,7 @@ fn failing(alloc: Global, call: u64, bytes: u32, write: u64) -> Result<Left, All
     let mut trace = CleanSource::new(Vec::new(alloc));
     let mut out = failing_sink(alloc, 4, write)?;
     let mut err = CleanSink::new(alloc);
-    let mut last = None;
-    let status = status_of(
-        alloc, &words, &mut shelf, &mut trace, &mut out, &mut err, &mut last,
-    );
+    let status = status_alone(alloc, &words, &mut shelf, &mut trace, &mut out, &mut err);
     left_by(alloc, &mut shelf, status, out.bytes(), err.bytes())
 }
 

@@ -1,6 +1,7 @@
 // The commands `graph`, `check`, `build` and `run` over files in memory, with ample memory.
 use crate::rows::{
-    Row, call, failing_shelf, failing_sink, hold, is_answer, shelf_of, status_of, words_of,
+    Row, call, failing_shelf, failing_sink, hold, is_answer, is_call, shelf_of, status_alone,
+    words_of,
 };
 use cap_io::{CleanShelf, CleanSink, CleanSource, Shelf};
 use std::alloc::{AllocError, Global};
@@ -224,8 +225,18 @@ fn checks(rt: HostRuntime) -> Result<(), Fail> {
 fn hold_checks(rt: &impl Abort, alloc: Global, rows: &[CheckRow]) -> Result<(), Fail> {
     for (source, image, certificate, status, out, err) in rows {
         let mut shelf = shelf_of(alloc, &[("P", source), ("I", image), ("C", certificate)])?;
-        let given = call(alloc, &["check", "P", "I", "C"], &mut shelf, NONE)?;
-        assert!(rt; is_answer(&given, *status, out, err), "{err:?}");
+        assert!(rt;
+            is_call(
+                alloc,
+                &["check", "P", "I", "C"],
+                &mut shelf,
+                NONE,
+                *status,
+                out,
+                err
+            )?,
+            "{err:?}"
+        );
     }
     Ok(())
 }
@@ -244,9 +255,7 @@ fn failing(alloc: Global, load: u64, write: u64) -> Result<(u8, Vec<u8>), AllocE
     let mut trace = CleanSource::new(Vec::new(alloc));
     let mut out = failing_sink(alloc, 4, write)?;
     let mut err = CleanSink::new(alloc);
-    let status = status_of(
-        alloc, &words, &mut shelf, &mut trace, &mut out, &mut err, &mut None,
-    );
+    let status = status_alone(alloc, &words, &mut shelf, &mut trace, &mut out, &mut err);
     Ok((status, out.bytes().to_vec(alloc)?))
 }
 
@@ -312,35 +321,56 @@ fn holds(alloc: Global, shelf: &mut CleanShelf, name: &str, bytes: &[u8]) -> boo
     }
 }
 
+/// Whether a call without a trace ends with this status, writes this, and hands out the world of the log at its end or none.
+fn leaves(
+    alloc: Global,
+    words: &[&str],
+    shelf: &mut CleanShelf,
+    wanted: (u8, &[u8], &[u8]),
+    has_run: bool,
+) -> Result<bool, AllocError> {
+    let (status, out, err) = wanted;
+    let answer = call(alloc, words, shelf, NONE)?;
+    let is_world = is_at_end(&answer.last) == has_run && answer.last.is_some() == has_run;
+    let is_so = is_answer(&answer, status, out, err) && is_world;
+    drop(answer);
+    Ok(is_so)
+}
+
+const BUILT: (u8, &[u8], &[u8]) = (0, b"built code 24 globals 0 tables 0\n", NONE);
+
+const RAN: (u8, &[u8], &[u8]) = (0, LOG_OF_SEVEN, NONE);
+
+const ACCEPTED: (u8, &[u8], &[u8]) = (0, b"accepted\n", NONE);
+
+const LARGE: (u8, &[u8], &[u8]) = (5, NONE, b"limit: pool is 268435456 bytes\n");
+
+const MISSING: (u8, &[u8], &[u8]) = (9, NONE, b"absent: certificate\n");
+
+const OF_LARGE: &[&str] = &["run", "P", "I", "C", "--chunks", "65536"];
+
 #[test]
 fn builds_checks_and_runs(rt: HostRuntime) -> Result<(), Fail> {
     let alloc = rt.alloc();
     let mut shelf = shelf_of(alloc, &[("P", PUT_SEVEN)])?;
-    let serve = call(alloc, &["serve", "P"], &mut shelf, NONE)?;
-    assert!(rt; is_answer(&serve, 0, LOG_OF_SEVEN, NONE) && is_at_end(&serve.last));
-    let build = call(alloc, &["build", "P", "I", "C"], &mut shelf, NONE)?;
-    assert!(rt;
-        is_answer(&build, 0, b"built code 24 globals 0 tables 0\n", NONE) && build.last.is_none()
-    );
+    assert!(rt; leaves(alloc, &["serve", "P"], &mut shelf, RAN, true)?);
+    assert!(rt; leaves(alloc, &["build", "P", "I", "C"], &mut shelf, BUILT, false)?);
     let image = bytes_of(alloc, &IMAGE_OF_SEVEN)?;
     assert!(rt;
         holds(alloc, &mut shelf, "I", image.as_slice())
             && holds(alloc, &mut shelf, "C", CERTIFICATE_OF_SEVEN)
     );
-    let check = call(alloc, &["check", "P", "I", "C"], &mut shelf, NONE)?;
-    assert!(rt; is_answer(&check, 0, b"accepted\n", NONE) && check.last.is_none());
-    let run = call(alloc, &["run", "P", "I", "C"], &mut shelf, NONE)?;
-    assert!(rt; is_answer(&run, 0, LOG_OF_SEVEN, NONE) && is_at_end(&run.last));
-    let large = call(
-        alloc,
-        &["run", "P", "I", "C", "--chunks", "65536"],
-        &mut shelf,
-        NONE,
-    )?;
     assert!(rt;
-        is_answer(&large, 5, NONE, b"limit: pool is 268435456 bytes\n") && large.last.is_none()
+        leaves(
+            alloc,
+            &["check", "P", "I", "C"],
+            &mut shelf,
+            ACCEPTED,
+            false
+        )?
     );
-    let missing = call(alloc, &["run", "P", "I", "D"], &mut shelf, NONE)?;
-    assert!(rt; is_answer(&missing, 9, NONE, b"absent: certificate\n") && missing.last.is_none());
+    assert!(rt; leaves(alloc, &["run", "P", "I", "C"], &mut shelf, RAN, true)?);
+    assert!(rt; leaves(alloc, OF_LARGE, &mut shelf, LARGE, false)?);
+    assert!(rt; leaves(alloc, &["run", "P", "I", "D"], &mut shelf, MISSING, false)?);
     Ok(())
 }

@@ -96,6 +96,34 @@ pub(crate) fn status_of<F: Shelf, S: Source, K: Sink, E: Sink>(
     capriccio(alloc, words, shelf, trace, out, err, last)
 }
 
+/// The status of a call whose world nobody looks at.
+pub(crate) fn status_alone<F: Shelf, S: Source, K: Sink, E: Sink>(
+    alloc: Global,
+    words: &Vec<String>,
+    shelf: &mut F,
+    trace: &mut S,
+    out: &mut K,
+    err: &mut E,
+) -> u8 {
+    let mut last = None;
+    let status = status_of(alloc, words, shelf, trace, out, err, &mut last);
+    drop(last);
+    status
+}
+
+/// What is held, beside copies of what two sinks took. It is generic, so that what becomes of the value where memory is
+/// wanting is proved once.
+fn beside<T: Drop>(
+    alloc: Global,
+    held: T,
+    out: &[u8],
+    err: &[u8],
+) -> Result<(T, Vec<u8>, Vec<u8>), AllocError> {
+    let out = out.to_vec(alloc)?;
+    let err = err.to_vec(alloc)?;
+    Ok((held, out, err))
+}
+
 /// A call over a shelf and a trace.
 pub(crate) fn call(
     alloc: Global,
@@ -111,10 +139,11 @@ pub(crate) fn call(
     let status = status_of(
         alloc, &words, shelf, &mut trace, &mut out, &mut err, &mut last,
     );
+    let (last, out, err) = beside(alloc, last, out.bytes(), err.bytes())?;
     Ok(Answer {
         status,
-        out: out.bytes().to_vec(alloc)?,
-        err: err.bytes().to_vec(alloc)?,
+        out,
+        err,
         last,
     })
 }
@@ -128,8 +157,23 @@ pub(crate) fn is_answer(answer: &Answer, status: u8, out: &[u8], err: &[u8]) -> 
 pub(crate) fn is_row(alloc: Global, row: &Row) -> Result<bool, AllocError> {
     let (words, source, trace, status, out, err) = *row;
     let mut shelf = shelf_of(alloc, &[("P", source)])?;
-    let answer = call(alloc, words, &mut shelf, trace)?;
-    Ok(is_answer(&answer, status, out, err))
+    is_call(alloc, words, &mut shelf, trace, status, out, err)
+}
+
+/// Whether a call over a shelf and a trace ends with this status, and writes this.
+pub(crate) fn is_call(
+    alloc: Global,
+    words: &[&str],
+    shelf: &mut CleanShelf,
+    trace: &[u8],
+    status: u8,
+    out: &[u8],
+    err: &[u8],
+) -> Result<bool, AllocError> {
+    let answer = call(alloc, words, shelf, trace)?;
+    let is_so = is_answer(&answer, status, out, err);
+    drop(answer);
+    Ok(is_so)
 }
 
 /// Holds each row.

@@ -2,7 +2,7 @@
 ghost use Rattle.std.specs.Io.{WritesAtMost};
 
 use super::words_of as given_words;
-use crate::rows::{failing_shelf, failing_sink, failing_trace, is_row, status_of, words_of};
+use crate::rows::{failing_shelf, failing_sink, failing_trace, is_row, status_alone, words_of};
 use cap_io::MemSink;
 use std::alloc::{AllocError, Global};
 use std::env::FillError;
@@ -37,10 +37,7 @@ fn failing(alloc: Global, fails: [u64; 4]) -> Result<(u8, Vec<u8>, Vec<u8>), All
     let mut trace = failing_trace(alloc, read)?;
     let mut out = failing_sink(alloc, 10, write)?;
     let mut err = failing_sink(alloc, 100, line)?;
-    let mut last = None;
-    let status = status_of(
-        alloc, &words, &mut shelf, &mut trace, &mut out, &mut err, &mut last,
-    );
+    let status = status_alone(alloc, &words, &mut shelf, &mut trace, &mut out, &mut err);
     copied(alloc, status, &out, &err)
 }
 
