@@ -1,5 +1,5 @@
 -- The pieces of an expression's code make its code.
-use Rattle.std.proofs.Common.{◌≡◌, ◌+◌, ℕ, List, [], ◌∷◌, ◌++◌, length, length-append, append_assoc, sym, ap, ◌∙◌, arith}
+use Rattle.std.proofs.Common.{◌≡◌, ◌+◌, ℕ, List, [], ◌∷◌, ◌++◌, length, length-append, append_assoc, sym, ap, refl, ◌∙◌, arith}
 use Rattle.c_tree.specs.declared.operators.Infix.{Infix}
 use Rattle.c_tree.specs.Trees.{ExprTree, Conditional}
 use Rattle.flat_code.specs.declared.operations.Op.{Op}
@@ -55,3 +55,8 @@ pub expr_then_glued : (c0 c1 c2 c3 : List Op) (e : ExprTree) (k : ℕ) (code : �
 expr_then_glued c0 c1 c2 c3 e k code rest e1 e2 e3 =
     let after : length c1 ≡ length c0 + expr_size e = grown c0 c1 (expr_code e (length c0) k) (expr_size e) e1 (expr_length e (length c0) k) in
     glued3 c0 c1 c2 c3 _ _ _ e1 (e2 ∙ ap (λ n. c1 ++ code n) after) e3
+
+-- the same where the code and the rest are put at once
+pub expr_then_put : (c0 c1 c3 : List Op) (e : ExprTree) (k : ℕ) (code : ℕ → List Op) (rest : List Op) → c1 ≡ c0 ++ expr_code e (length c0) k → c3 ≡ c1 ++ (code (length c1) ++ rest) → c3 ≡ c0 ++ ((expr_code e (length c0) k ++ code (length c0 + expr_size e)) ++ rest)
+expr_then_put c0 c1 c3 e k code rest e1 e3 =
+    expr_then_glued c0 c1 (c1 ++ code (length c1)) c3 e k code rest e1 refl (e3 ∙ sym (append_assoc c1 (code (length c1)) rest))

@@ -5,7 +5,7 @@ ghost use Rattle.c_tree.specs.Temporaries.{arguments_temporaries, call_temporari
 ghost use Rattle.c_tree.specs.Views.{expr_tree, call_tree, right_tree};
 ghost use Rattle.c_lower.specs.CallCode.{arguments_code, arguments_in, call_code, set_code, held_code};
 
-use crate::expressions::put_expr;
+use crate::expressions::{put_expr, put_then};
 use crate::places::put;
 use c_tree::{Call, Expr, RightSide};
 use cap_word::Words;
@@ -68,9 +68,10 @@ pub fn put_call(
             argument,
         } => {
             put_expr(code, k, index)?;
-            put_expr(code, k + 1, argument)?;
-            put(
+            put_then(
                 code,
+                k + 1,
+                argument,
                 Op::CallTable {
                     site: *site,
                     d,
@@ -85,9 +86,10 @@ pub fn put_call(
             function,
             argument,
         } => {
-            put_expr(code, k, argument)?;
-            put(
+            put_then(
                 code,
+                k,
+                argument,
                 Op::Spawn {
                     site: *site,
                     d,
@@ -127,10 +129,7 @@ pub fn put_set(
     ensures { OnOk result (code.new.items ≡ code.old.items ++ set_code (right_tree value.now) (length code.old.items) k x) }
 {
     match value {
-        RightSide::Expr(expr) => {
-            put_expr(code, k, expr)?;
-            put(code, Op::Copy { d: x, s: k })
-        }
+        RightSide::Expr(expr) => put_then(code, k, expr, Op::Copy { d: x, s: k }),
         RightSide::Call(call) => put_call(alloc, code, k, Some(x), call),
     }
 }

@@ -1,6 +1,6 @@
 // The operations of expressions.
 
-ghost use Rattle.std.specs.Prelude.{◌≡◌, ◌<◌, ◌+◌, ◌^◌, ◌++◌, OnOk, length};
+ghost use Rattle.std.specs.Prelude.{◌≡◌, ◌<◌, ◌+◌, ◌^◌, [], ◌∷◌, ◌++◌, OnOk, length};
 ghost use Rattle.c_tree.specs.Temporaries.{expr_temporaries, operand_temporaries};
 ghost use Rattle.c_tree.specs.Views.{expr_tree};
 ghost use Rattle.c_lower.specs.ExprCode.{expr_code};
@@ -30,9 +30,10 @@ pub fn put_expr(code: &mut Vec<Op>, k: u32, expr: &Expr) -> Result<(), AllocErro
         Expr::Local(x) => put(code, Op::Copy { d: k, s: *x }),
         Expr::Global(g) => put(code, Op::LoadGlobal { d: k, g: *g }),
         Expr::LocalElement { array, index } => {
-            put_expr(code, k, index)?;
-            put(
+            put_then(
                 code,
+                k,
+                index,
                 Op::LoadLocal {
                     d: k,
                     a: *array,
@@ -41,9 +42,10 @@ pub fn put_expr(code: &mut Vec<Op>, k: u32, expr: &Expr) -> Result<(), AllocErro
             )
         }
         Expr::GlobalElement { array, index } => {
-            put_expr(code, k, index)?;
-            put(
+            put_then(
                 code,
+                k,
+                index,
                 Op::LoadArray {
                     d: k,
                     a: *array,
@@ -78,6 +80,16 @@ pub fn put_expr(code: &mut Vec<Op>, k: u32, expr: &Expr) -> Result<(), AllocErro
     }
 }
 
+// An expression, and an operation after it.
+#[cycle(expressions)]
+pub fn put_then(code: &mut Vec<Op>, k: u32, expr: &Expr, op: Op) -> Result<(), AllocError>
+    requires { k + expr_temporaries (expr_tree expr.now) < 2 ^ 32 }
+    ensures { OnOk result (code.new.items ≡ code.old.items ++ (expr_code (expr_tree expr.now) (length code.old.items) k ++ op ∷ [])) }
+{
+    put_expr(code, k, expr)?;
+    put(code, op)
+}
+
 // An operator and its right operand, where the value of the left one is in variable k.
 #[cycle(expressions)]
 fn put_operand(
@@ -91,9 +103,10 @@ fn put_operand(
 {
     match operator {
         Infix::Binary(operator) => {
-            put_expr(code, k + 1, operand)?;
-            put(
+            put_then(
                 code,
+                k + 1,
+                operand,
                 Op::Bin {
                     op: operator_for(operator),
                     d: k,

@@ -6,7 +6,7 @@ ghost use Rattle.c_tree.specs.Views.{expr_tree, right_tree, simple_tree};
 ghost use Rattle.c_lower.specs.StmtCode.{simple_code, simples_code, step_code, test_code, return_code};
 
 use crate::calls::{put_call, put_held, put_set};
-use crate::expressions::put_expr;
+use crate::expressions::{put_expr, put_then};
 use crate::places::put;
 use c_tree::{Expr, RightSide, Simple};
 use flat_code::Op;
@@ -114,10 +114,7 @@ pub fn put_test(
 {
     match condition {
         None => Ok(()),
-        Some(expr) => {
-            put_expr(code, t, expr)?;
-            put(code, Op::JumpZero { s: t, to })
-        }
+        Some(expr) => put_then(code, t, expr, Op::JumpZero { s: t, to }),
     }
 }
 

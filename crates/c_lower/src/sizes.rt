@@ -15,22 +15,21 @@ use std::alloc::AllocError;
 
 // `size` and the number of operations of an expression. The functions after it add what they are named after in the
 // same way.
+#[cycle(expressions)]
 fn add_expr(size: u32, expr: &Expr) -> Result<u32, AllocError>
     ensures { IfOk result (λ n. n ≡ size + expr_size (expr_tree expr.now)) }
 {
     match expr {
         Expr::Number(_) | Expr::Local(_) | Expr::Global(_) => sum(size, 1),
         Expr::LocalElement { index, .. } | Expr::GlobalElement { index, .. } => {
-            add_expr(sum(size, 1)?, index)
+            add_more(size, 1, index)
         }
-        Expr::Unary { operator, operand } => {
-            add_expr(sum(size, size_of_unary(*operator))?, operand)
-        }
+        Expr::Unary { operator, operand } => add_more(size, size_of_unary(*operator), operand),
         Expr::Parenthesized(inner) => add_expr(size, inner),
         Expr::Chain { first, rest } => {
             let mut size = add_expr(size, first)?;
             for (operator, operand) in rest {
-                size = add_expr(sum(size, size_of_infix(*operator))?, operand)?;
+                size = add_more(size, size_of_infix(*operator), operand)?;
             }
             Ok(size)
         }
@@ -39,10 +38,18 @@ fn add_expr(size: u32, expr: &Expr) -> Result<u32, AllocError>
             then,
             otherwise,
         } => {
-            let size = add_expr(sum(size, 2)?, condition)?;
+            let size = add_more(size, 2, condition)?;
             add_expr(add_expr(size, then)?, otherwise)
         }
     }
+}
+
+// The same where `more` operations belong to the expression.
+#[cycle(expressions)]
+fn add_more(size: u32, more: u32, expr: &Expr) -> Result<u32, AllocError>
+    ensures { IfOk result (λ n. n ≡ size + more + expr_size (expr_tree expr.now)) }
+{
+    add_expr(sum(size, more)?, expr)
 }
 
 fn add_arguments(mut size: u32, arguments: &[Expr]) -> Result<u32, AllocError>
@@ -75,7 +82,7 @@ fn add_set(size: u32, value: &RightSide) -> Result<u32, AllocError>
     ensures { IfOk result (λ n. n ≡ size + set_size (right_tree value.now)) }
 {
     match value {
-        RightSide::Expr(expr) => add_expr(sum(size, 1)?, expr),
+        RightSide::Expr(expr) => add_more(size, 1, expr),
         RightSide::Call(call) => add_call(size, call),
     }
 }
@@ -98,7 +105,7 @@ fn add_simple(size: u32, simple: &Simple) -> Result<u32, AllocError>
         Simple::SetGlobal { value, .. } => add_held(sum(size, 1)?, value),
         Simple::SetLocalElement { index, value, .. }
         | Simple::SetGlobalElement { index, value, .. } => {
-            add_held(add_expr(sum(size, 1)?, index)?, value)
+            add_held(add_more(size, 1, index)?, value)
         }
         Simple::Call(call) => add_call(size, call),
     }
@@ -127,7 +134,7 @@ pub fn add_test(size: u32, condition: &Option<Expr>) -> Result<u32, AllocError>
 {
     match condition {
         None => Ok(size),
-        Some(expr) => add_expr(sum(size, 1)?, expr),
+        Some(expr) => add_more(size, 1, expr),
     }
 }
 
@@ -139,13 +146,6 @@ fn add_return(size: u32, value: &Option<RightSide>) -> Result<u32, AllocError>
         None => Ok(size),
         Some(value) => add_held(size, value),
     }
-}
-
-// The size of a statement whose sides have `size` operations, and which has `more` beside them and its condition.
-fn size_of_choice(condition: &Expr, size: u32, more: u32) -> Result<u32, AllocError>
-    ensures { IfOk result (λ n. n ≡ expr_size (expr_tree condition.now) + size + more) }
-{
-    add_expr(sum(size, more)?, condition)
 }
 
 // The size of a `for` whose body has `size` operations.
@@ -174,7 +174,7 @@ fn size_of_stmt(sizes: &mut Vec<u32>, stmt: &Stmt) -> Result<u32, AllocError>
         Stmt::Block(stmts) => size_of_stmts(sizes, stmts),
         Stmt::If { condition, then } => {
             let side = size_of_passed(sizes, then)?;
-            size_of_choice(condition, side, 1)
+            add_more(side, 1, condition)
         }
         Stmt::IfElse {
             condition,
@@ -183,11 +183,11 @@ fn size_of_stmt(sizes: &mut Vec<u32>, stmt: &Stmt) -> Result<u32, AllocError>
         } => {
             let second = size_of_passed(sizes, otherwise)?;
             let first = size_of_passed(sizes, then)?;
-            size_of_choice(condition, sum(first, second)?, 2)
+            add_more(sum(first, second)?, 2, condition)
         }
         Stmt::While { condition, body } => {
             let side = size_of_passed(sizes, body)?;
-            size_of_choice(condition, side, 2)
+            add_more(side, 2, condition)
         }
         Stmt::For {
             init,

@@ -1,13 +1,13 @@
 use Rattle.std.proofs.Common.{◌+◌}
 use Rattle.c_tree.specs.Views.{expr_tree}
 use Rattle.c_lower.specs.ExprCode.{expr_code}
-use Rattle.c_lower.proofs.ExprGlue.{expr_then_glued}
+use Rattle.c_lower.proofs.ExprGlue.{expr_then_put}
 use Rattle.c_lower.proofs.Glue.{then_on_ok}
 use Rattle.c_lower.proofs.calls.put_call.Goals as goal
 
-pub returns-in_ok-put_expr-in-Table-2 : goal.returns-in_ok-put_expr-in-Table-2
-returns-in_ok-put_expr-in-Table-2 c =
+pub returns-in_ok-put_expr-in-Table : goal.returns-in_ok-put_expr-in-Table
+returns-in_ok-put_expr-in-Table c =
     rw c.in-Table.is
-    (then_on_ok c.put-in-Table.result
-    (expr_then_glued _ _ _ _ (expr_tree c.in-Table.index) c.args.k (λ p. expr_code (expr_tree c.in-Table.argument) p (c.args.k + 1)) _ c.in_ok-put_expr-in-Table.ensures c.in_ok-put_expr-in-Table-2.ensures)
-    c.put-in-Table.ensures)
+    (then_on_ok c.put_then.result
+    (expr_then_put _ _ _ (expr_tree c.in-Table.index) c.args.k (λ p. expr_code (expr_tree c.in-Table.argument) p (c.args.k + 1)) _ c.in_ok-put_expr-in-Table.ensures)
+    c.put_then.ensures)

@@ -39,21 +39,15 @@ put_expr-loop-operator-preserved t c =
       fits = fits.1;
     }
 
-pub put_expr-returns-in_ok-put_expr-in-LocalElement : goal.put_expr-returns-in_ok-put_expr-in-LocalElement
-put_expr-returns-in_ok-put_expr-in-LocalElement t c =
-    let index : c.put_expr.new.code.items ≡ c.args.code.now.items ++ expr_code (expr_tree c.in-LocalElement.index.value) (length c.args.code.now.items) c.args.k = rw (← c.deref.ensures) c.in_ok-put_expr-in-LocalElement.ensures in
-    rw (c.in-LocalElement.is, expr_tree-LocalElement c.in-LocalElement.array c.in-LocalElement.index)
-    (then_on_ok c.put-in-LocalElement.result (glued2 _ _ _ _ _ index) c.put-in-LocalElement.ensures)
+pub put_expr-returns-in-LocalElement : goal.put_expr-returns-in-LocalElement
+put_expr-returns-in-LocalElement t c = rw (c.in-LocalElement.is, expr_tree-LocalElement c.in-LocalElement.array c.in-LocalElement.index, ← c.deref.ensures) c.put_then.ensures
 
-pub put_expr-returns-in_ok-put_expr-in-GlobalElement : goal.put_expr-returns-in_ok-put_expr-in-GlobalElement
-put_expr-returns-in_ok-put_expr-in-GlobalElement t c =
-    let index : c.put_expr-in-GlobalElement.new.code.items ≡ c.args.code.now.items ++ expr_code (expr_tree c.in-GlobalElement.index.value) (length c.args.code.now.items) c.args.k = rw (← c.deref-in-GlobalElement.ensures) c.in_ok-put_expr-in-GlobalElement.ensures in
-    rw (c.in-GlobalElement.is, expr_tree-GlobalElement c.in-GlobalElement.array c.in-GlobalElement.index)
-    (then_on_ok c.put-in-GlobalElement.result (glued2 _ _ _ _ _ index) c.put-in-GlobalElement.ensures)
+pub put_expr-returns-in-GlobalElement : goal.put_expr-returns-in-GlobalElement
+put_expr-returns-in-GlobalElement t c = rw (c.in-GlobalElement.is, expr_tree-GlobalElement c.in-GlobalElement.array c.in-GlobalElement.index, ← c.deref-in-GlobalElement.ensures) c.put_then-in-GlobalElement.ensures
 
 pub put_expr-returns-in_ok-put_expr-in-Unary : goal.put_expr-returns-in_ok-put_expr-in-Unary
 put_expr-returns-in_ok-put_expr-in-Unary t c =
-    let operand : c.put_expr-in-Unary.new.code.items ≡ c.args.code.now.items ++ expr_code (expr_tree c.in-Unary.operand.value) (length c.args.code.now.items) c.args.k = rw (← c.deref-in-Unary.ensures) c.in_ok-put_expr-in-Unary.ensures in
+    let operand : c.put_expr.new.code.items ≡ c.args.code.now.items ++ expr_code (expr_tree c.in-Unary.operand.value) (length c.args.code.now.items) c.args.k = rw (← c.deref-in-Unary.ensures) c.in_ok-put_expr-in-Unary.ensures in
     rw (c.in-Unary.is, expr_tree-Unary c.in-Unary.operator c.in-Unary.operand)
     (then_on_ok c.put_unary.result (glued2 _ _ _ _ _ operand) c.put_unary.ensures)
 
@@ -84,7 +78,7 @@ put_operand-returns-in_ok-put_expr-in-LogicalAnd t c =
     let test = c.in_ok-test-in-LogicalAnd in
     rw c.in-LogicalAnd.is
     (then_on_ok c.put_both.result
-    (and_patched c.args.code.now.items c.put_open.new.code.items c.put_expr-in-LogicalAnd.new.code.items c.put_both.new.code.items (expr_tree c.args.operand.now) c.args.k test.test test.ensures.place test.ensures.code c.in_ok-put_expr-in-LogicalAnd.ensures)
+    (and_patched c.args.code.now.items c.put_open.new.code.items c.put_expr.new.code.items c.put_both.new.code.items (expr_tree c.args.operand.now) c.args.k test.test test.ensures.place test.ensures.code c.in_ok-put_expr-in-LogicalAnd.ensures)
     c.put_both.ensures)
 
 pub put_operand-returns-in_ok-put_expr-in-LogicalOr : goal.put_operand-returns-in_ok-put_expr-in-LogicalOr

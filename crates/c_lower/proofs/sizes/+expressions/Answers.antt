@@ -3,10 +3,10 @@ use Rattle.c_tree.specs.Views.{expr_tree}
 use Rattle.c_tree.proofs.ExprEquations.{operand_tree, expr_tree-Chain}
 use Rattle.c_lower.specs.ExprCode.{expr_size}
 use Rattle.c_lower.proofs.ChainCode.{chained_size}
-use Rattle.c_lower.proofs.sizes.+add_expr.Goals as goal
+use Rattle.c_lower.proofs.sizes.+expressions.Goals as goal
 
-pub loop-operator-init : goal.loop-operator-init
-loop-operator-init t c =
+pub add_expr-loop-operator-init : goal.add_expr-loop-operator-init
+add_expr-loop-operator-init t c =
     let first : c.in_ok-size-in-Chain.size ≡ c.args.size + expr_size (expr_tree c.in-Chain.first.value) = rw (← c.deref-in-Chain.ensures) c.in_ok-size-in-Chain.ensures in
     rw (c.in-Chain.is, expr_tree-Chain c.in-Chain.first c.in-Chain.rest, chained_size (expr_tree c.in-Chain.first.value) (map operand_tree c.in-Chain.rest.items), c.deref-operator-items.ensures.value)
     (omega arith)

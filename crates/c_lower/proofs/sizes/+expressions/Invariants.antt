@@ -2,8 +2,8 @@ use Rattle.std.proofs.Common.{◌≡◌, ◌+◌, map, drop}
 use Rattle.c_tree.specs.Views.{expr_tree}
 use Rattle.c_lower.specs.ExprCode.{expr_size}
 use Rattle.c_lower.specs.Chains.{operands_size}
-use Rattle.c_lower.proofs.sizes.+add_expr.Given as goal
+use Rattle.c_lower.proofs.sizes.+expressions.Given as goal
 
-abbrev pub invariant-loop-operator : goal.invariant-loop-operator
-invariant-loop-operator l =
+abbrev pub invariant-add_expr-loop-operator : goal.invariant-add_expr-loop-operator
+invariant-add_expr-loop-operator l =
     l.size + operands_size (map (λ p. (p.0, expr_tree p.1)) (drop l.operator-index l.operator-items)) ≡ l.fn.size + expr_size (expr_tree l.expr)
