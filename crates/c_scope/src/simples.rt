@@ -1,6 +1,6 @@
 // Declarations, assignments and calls.
 
-ghost use Rattle.std.specs.Prelude.{◌≡◌, ◌∷◌, IfOk, OnOk, map, if◌then◌else◌};
+ghost use Rattle.std.specs.Prelude.{◌≡◌, ◌∷◌, IfOk, OnOk, map, false, if◌then◌else◌};
 ghost use Rattle.c_tree.specs.RawViews.{name_tree, raw_simple_tree};
 ghost use Rattle.c_tree.specs.Views.{simple_tree};
 ghost use Rattle.c_tree.specs.Temporaries.{capped};
@@ -70,6 +70,17 @@ impl<'a> Place<'a> {
         Ok(variable)
     }
 
+    // Declares a variable of one word, and gives what stands before it and its number.
+    fn then_declare<T: Drop>(&mut self, before: T, name: &'a Name) -> Result<(T, u32), AllocError>
+        ensures before { IfOk result (λ p. p.0 ≡ before) }
+        ensures number { IfOk result (λ p. p.1 ≡ next_variable (spot_of self.old)) }
+        ensures place { OnOk result (spot_of self.new ≡ with_variable (spot_of self.old) (name_tree name.now) false 1) }
+        ensures faults { self.new.least ≡ self.old.least }
+    {
+        let variable = self.declare(name, false, 1)?;
+        Ok((before, variable))
+    }
+
     // What is wrong with a name that is declared here.
     pub fn check_declare(&mut self, name: &Name)
         ensures place { spot_of self.new ≡ spot_of self.old }
@@ -103,10 +114,8 @@ impl<'a> Place<'a> {
             RawSimple::DeclareWith { name, value } => {
                 self.check_declare(name);
                 let value = self.right(value)?;
-                Ok(Simple::DeclareWith {
-                    variable: self.declare(name, false, 1)?,
-                    value,
-                })
+                let (value, variable) = self.then_declare(value, name)?;
+                Ok(Simple::DeclareWith { variable, value })
             }
             RawSimple::Set { name, value } => {
                 let variable = scalar(&self.names, &mut self.least, name);
@@ -119,7 +128,7 @@ impl<'a> Place<'a> {
             RawSimple::SetElement { name, index, value } => {
                 let array = array(&self.names, &mut self.least, name);
                 let index = expr(self.alloc, &self.names, &mut self.least, index)?;
-                let value = self.right(value)?;
+                let (index, value) = self.then_right(index, value)?;
                 match array {
                     Variable::Local(array) => Ok(Simple::SetLocalElement {
                         array,

@@ -1,10 +1,10 @@
-use Rattle.std.proofs.Common.{◌≡◌, ◌++◌, ◌∷◌, [], ◌+◌, ◌∙◌, sym, ap, subst, map, drop, append_assoc, true}
+use Rattle.std.proofs.Common.{◌≡◌, ◌++◌, ◌∷◌, [], ◌+◌, ◌∙◌, sym, ap, subst, map, drop, append_assoc}
 use Rattle.std.specs.Prelude.{option_map}
 use Rattle.std.proofs.lemmas.List.{map-append, append-nil}
 use Rattle.std.proofs.Math.ListN.{drop_of_length-le}
 use Rattle.c_tree.specs.RawViews.{raw_expr_tree, raw_simple_tree, raw_stmt_tree, raw_stmt_trees}
 use Rattle.c_tree.specs.Views.{stmt_tree, in_order}
-use Rattle.c_tree.proofs.RawStmtEquations.{raw_stmt_tree-If, raw_stmt_tree-IfElse, raw_stmt_tree-While, raw_stmt_tree-For}
+use Rattle.c_tree.proofs.RawStmtEquations.{raw_stmt_tree-IfElse, raw_stmt_tree-For}
 use Rattle.c_scope.specs.Faults.{least_of}
 use Rattle.c_scope.specs.Expressions.{expr_faults}
 use Rattle.c_scope.specs.Places.{spot_of}
@@ -36,52 +36,51 @@ body-returns-clause-place t c =
     (subst (λ x. Extends x.names s.names) (sym h) (stmt_extends (inside s) raw)) c.leave.ensures.place
     ∙ ap (λ x. left s x) h
 
-pub stmt-returns-in_ok-then-in-If-clause-faults : goal.stmt-returns-in_ok-then-in-If-clause-faults
-stmt-returns-in_ok-then-in-If-clause-faults t c =
+pub guarded-returns-clause-faults : goal.guarded-returns-clause-faults
+guarded-returns-clause-faults t c =
     let s = spot_of c.args.self.now in
-    rw (c.in-If.is, raw_stmt_tree-If c.in-If.condition c.in-If.then, ← c.deref-in-If.ensures)
-    (least_of_then c.args.self.now.least c.expr.new.least c.body.new.self.least (expr_faults s.names (raw_expr_tree c.in-If.condition)) (stmt_faults c.args.gives c.args.loops (inside s) (raw_stmt_tree c.deref-in-If.result.now))
-    c.in_ok-condition-in-If.ensures.faults c.in_ok-body-in-If.ensures.faults)
+    let b = rw c.in_ok-condition-2.ensures.next at c.body-body.ensures.faults in
+    least_of_then c.args.self.now.least c.expr.new.least c.body-body.new.self.least (expr_faults s.names (raw_expr_tree c.args.condition.now)) (stmt_faults c.args.gives c.args.loops (inside s) (raw_stmt_tree c.args.raw.now))
+    c.in_ok-condition.ensures.faults b
 
-pub stmt-returns-in_ok-otherwise-in-IfElse-clause-faults : goal.stmt-returns-in_ok-otherwise-in-IfElse-clause-faults
-stmt-returns-in_ok-otherwise-in-IfElse-clause-faults t c =
+pub stmt-returns-in_ok-condition-in-IfElse-clause-faults : goal.stmt-returns-in_ok-condition-in-IfElse-clause-faults
+stmt-returns-in_ok-condition-in-IfElse-clause-faults t c =
     let s = spot_of c.args.self.now in
     let g = c.args.gives in
     let l = c.args.loops in
+    let old = c.args.self.now.least in
+    let o1 = c.guarded-in-IfElse.new.self.least in
     let p = raw_stmt_tree c.deref-in-IfElse.result.now in
     let r = raw_stmt_tree c.deref-in-IfElse-2.result.now in
     let m = left s (stmt_after (inside s) p) in
+    let fc = expr_faults s.names (raw_expr_tree c.in-IfElse.condition) in
+    let fp = stmt_faults g l (inside s) p in
+    let fr = stmt_faults g l (inside m) r in
+    let b = rw c.in_ok-condition-in-IfElse.ensures.next at c.body-otherwise.ensures.faults in
     rw (c.in-IfElse.is, raw_stmt_tree-IfElse c.in-IfElse.condition c.in-IfElse.then c.in-IfElse.otherwise, ← c.deref-in-IfElse.ensures, ← c.deref-in-IfElse-2.ensures)
-    (least_of_then c.args.self.now.least c.expr-in-IfElse.new.least c.body-in-IfElse-2.new.self.least (expr_faults s.names (raw_expr_tree c.in-IfElse.condition)) (stmt_faults g l (inside s) p ++ stmt_faults g l (inside m) r)
-    c.in_ok-condition-in-IfElse.ensures.faults
-    (least_of_then c.expr-in-IfElse.new.least c.body-in-IfElse.new.self.least c.body-in-IfElse-2.new.self.least (stmt_faults g l (inside s) p) (stmt_faults g l (inside m) r)
-    c.in_ok-body-in-IfElse.ensures.faults
-    (c.in_ok-body-in-IfElse-2.ensures.faults ∙ ap (λ x. least_of c.body-in-IfElse.new.self.least (stmt_faults g l (inside x) r)) c.in_ok-body-in-IfElse.ensures.place)))
+    (least_of_then old o1 c.body-otherwise.new.self.least (fc ++ fp) fr c.in_ok-before-in-IfElse.ensures.faults
+    (b ∙ ap (λ x. least_of o1 (stmt_faults g l (inside x) r)) c.in_ok-before-in-IfElse.ensures.place)
+    ∙ ap (λ x. least_of old x) (append_assoc fc fp fr))
 
-pub stmt-returns-in_ok-body-in-While-2-clause-faults : goal.stmt-returns-in_ok-body-in-While-2-clause-faults
-stmt-returns-in_ok-body-in-While-2-clause-faults t c =
-    let s = spot_of c.args.self.now in
-    rw (c.in-While.is, raw_stmt_tree-While c.in-While.condition c.in-While.body, ← c.deref-in-While.ensures)
-    (least_of_then c.args.self.now.least c.expr-in-While.new.least c.body-in-While.new.self.least (expr_faults s.names (raw_expr_tree c.in-While.condition)) (stmt_faults c.args.gives true (inside s) (raw_stmt_tree c.deref-in-While.result.now))
-    c.in_ok-condition-in-While.ensures.faults c.in_ok-body-in-While.ensures.faults)
-
-pub stmt-returns-in_ok-body-in-For-2-clause-place : goal.stmt-returns-in_ok-body-in-For-2-clause-place
-stmt-returns-in_ok-body-in-For-2-clause-place t c =
+pub stmt-returns-in_ok-condition-in-For-3-clause-place : goal.stmt-returns-in_ok-condition-in-For-3-clause-place
+stmt-returns-in_ok-condition-in-For-3-clause-place t c =
+    let b = rw c.in_ok-condition-in-For-3.ensures.next at c.body-body.ensures.place in
     rw (c.in-For.is, raw_stmt_tree-For c.in-For.init c.in-For.condition c.in-For.step c.in-For.body, ← c.deref-in-For-2.ensures, ← c.deref-in-For.ensures.value)
-    (for_place (spot_of c.args.self.now) (spot_of c.enter-scope.new.self) (spot_of c.simples.new.self) (spot_of c.condition.new.self) (spot_of c.step.new.self) (spot_of c.body-in-For.new.self)
+    (for_place (spot_of c.args.self.now) (spot_of c.enter-scope.new.self) (spot_of c.simples.new.self) (spot_of c.condition.new.self) (spot_of c.then_step.new.self) (spot_of c.body-body.new.self)
     (map raw_simple_tree c.deref-in-For.result.now) (option_map raw_simple_tree c.in-For.step) (raw_stmt_tree c.deref-in-For-2.result.now)
-    c.enter-scope.ensures.place c.in_ok-init-in-For.ensures.place c.in_ok-condition-in-For.ensures.place c.in_ok-step-in-For.ensures.place
-    (spot_of c.leave.new.self) c.enter-scope.result.count c.enter-scope.result.outer c.in_ok-body-in-For.ensures.place c.enter-scope.ensures.count c.enter-scope.ensures.outer c.leave.ensures.place)
+    c.enter-scope.ensures.place c.in_ok-init-in-For.ensures.place c.in_ok-condition-in-For.ensures.place c.in_ok-condition-in-For-2.ensures.place
+    (spot_of c.leave.new.self) c.enter-scope.result.count c.enter-scope.result.outer b c.enter-scope.ensures.count c.enter-scope.ensures.outer c.leave.ensures.place)
 
-pub stmt-returns-in_ok-body-in-For-2-clause-faults : goal.stmt-returns-in_ok-body-in-For-2-clause-faults
-stmt-returns-in_ok-body-in-For-2-clause-faults t c =
+pub stmt-returns-in_ok-condition-in-For-3-clause-faults : goal.stmt-returns-in_ok-condition-in-For-3-clause-faults
+stmt-returns-in_ok-condition-in-For-3-clause-faults t c =
+    let b = rw c.in_ok-condition-in-For-3.ensures.next at c.body-body.ensures.faults in
     rw (c.in-For.is, raw_stmt_tree-For c.in-For.init c.in-For.condition c.in-For.step c.in-For.body, ← c.deref-in-For-2.ensures, ← c.deref-in-For.ensures.value)
     (c.leave.ensures.faults ∙
-    for_faults (spot_of c.args.self.now) (spot_of c.enter-scope.new.self) (spot_of c.simples.new.self) (spot_of c.condition.new.self) (spot_of c.step.new.self) (spot_of c.body-in-For.new.self)
+    for_faults (spot_of c.args.self.now) (spot_of c.enter-scope.new.self) (spot_of c.simples.new.self) (spot_of c.condition.new.self) (spot_of c.then_step.new.self) (spot_of c.body-body.new.self)
     (map raw_simple_tree c.deref-in-For.result.now) (option_map raw_simple_tree c.in-For.step) (raw_stmt_tree c.deref-in-For-2.result.now)
-    c.enter-scope.ensures.place c.in_ok-init-in-For.ensures.place c.in_ok-condition-in-For.ensures.place c.in_ok-step-in-For.ensures.place
-    c.args.gives (option_map raw_expr_tree c.in-For.condition) c.args.self.now.least c.enter-scope.new.self.least c.simples.new.self.least c.condition.new.self.least c.step.new.self.least c.body-in-For.new.self.least
-    c.enter-scope.ensures.faults c.in_ok-init-in-For.ensures.faults c.in_ok-condition-in-For.ensures.faults c.in_ok-step-in-For.ensures.faults c.in_ok-body-in-For.ensures.faults)
+    c.enter-scope.ensures.place c.in_ok-init-in-For.ensures.place c.in_ok-condition-in-For.ensures.place c.in_ok-condition-in-For-2.ensures.place
+    c.args.gives (option_map raw_expr_tree c.in-For.condition) c.args.self.now.least c.enter-scope.new.self.least c.simples.new.self.least c.condition.new.self.least c.then_step.new.self.least c.body-body.new.self.least
+    c.enter-scope.ensures.faults c.in_ok-init-in-For.ensures.faults c.in_ok-condition-in-For.ensures.faults c.in_ok-condition-in-For-2.ensures.faults b)
 
 pub stmts-loop-stmt-preserved : goal.stmts-loop-stmt-preserved
 stmts-loop-stmt-preserved t c =
