@@ -1,7 +1,8 @@
 // Declarations, assignments and calls.
 
 ghost use Rattle.std.specs.Prelude.{◌≡◌, ◌∷◌, IfOk, OnOk, map, false, if◌then◌else◌};
-ghost use Rattle.c_tree.specs.RawViews.{name_tree, raw_simple_tree};
+ghost use Rattle.c_tree.specs.RawTrees.{RawDeclareWith};
+ghost use Rattle.c_tree.specs.RawViews.{name_tree, raw_expr_tree, raw_simple_tree};
 ghost use Rattle.c_tree.specs.Views.{simple_tree};
 ghost use Rattle.c_tree.specs.Temporaries.{capped};
 ghost use Rattle.c_scope.specs.Names.{find};
@@ -14,7 +15,7 @@ use crate::faults::{Fault, Rule, note_if};
 use crate::meanings::{Found, Meaning, Variable};
 use crate::names::Names;
 use crate::places::Place;
-use c_tree::{Name, RawSimple, Simple};
+use c_tree::{Name, RawExpr, RawSimple, Simple};
 use std::alloc::AllocError;
 
 /// What is wrong with the declaration of a name that is this already.
@@ -90,6 +91,18 @@ impl<'a> Place<'a> {
         check_declared(&mut self.least, found, self.outer, name.at);
     }
 
+    // A declaration of one name with its initialiser, in which the name isn't in scope.
+    fn declare_with(&mut self, name: &'a Name, initial: &RawExpr) -> Result<Simple, AllocError>
+        ensures tree { IfOk result (λ s. simple_tree s ≡ simple_of (spot_of self.old) (RawDeclareWith (name_tree name.now) (raw_expr_tree initial.now))) }
+        ensures place { OnOk result (spot_of self.new ≡ simple_after (spot_of self.old) (RawDeclareWith (name_tree name.now) (raw_expr_tree initial.now))) }
+        ensures faults { OnOk result (self.new.least ≡ least_of self.old.least (simple_faults (spot_of self.old) (RawDeclareWith (name_tree name.now) (raw_expr_tree initial.now)))) }
+    {
+        self.check_declare(name);
+        let value = self.right(initial)?;
+        let (value, variable) = self.then_declare(value, name)?;
+        Ok(Simple::DeclareWith { variable, value })
+    }
+
     /// A declaration of one name, an assignment, or a call.
     pub fn simple(&mut self, raw: &'a RawSimple) -> Result<Simple, AllocError>
         ensures tree { IfOk result (λ s. simple_tree s ≡ simple_of (spot_of self.old) (raw_simple_tree raw.now)) }
@@ -111,12 +124,7 @@ impl<'a> Place<'a> {
                     words: *words,
                 })
             }
-            RawSimple::DeclareWith { name, value } => {
-                self.check_declare(name);
-                let value = self.right(value)?;
-                let (value, variable) = self.then_declare(value, name)?;
-                Ok(Simple::DeclareWith { variable, value })
-            }
+            RawSimple::DeclareWith { name, value } => self.declare_with(name, value),
             RawSimple::Set { name, value } => {
                 let variable = scalar(&self.names, &mut self.least, name);
                 let value = self.right(value)?;

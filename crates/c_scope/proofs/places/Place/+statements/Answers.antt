@@ -1,14 +1,19 @@
 use Rattle.std.proofs.Common.{◌≡◌, ◌++◌, ◌∷◌, [], ◌+◌, ◌∙◌, sym, ap, subst, map, drop, append_assoc}
-use Rattle.std.specs.Prelude.{option_map}
+use Rattle.std.specs.Prelude.{Box, option_map}
+use Rattle.std.specs.declared.alloc.Global.{Global}
 use Rattle.std.proofs.lemmas.List.{map-append, append-nil}
 use Rattle.std.proofs.Math.ListN.{drop_of_length-le}
 use Rattle.c_tree.specs.RawViews.{raw_expr_tree, raw_simple_tree, raw_stmt_tree, raw_stmt_trees}
-use Rattle.c_tree.specs.Views.{stmt_tree, in_order}
-use Rattle.c_tree.proofs.RawStmtEquations.{raw_stmt_tree-IfElse, raw_stmt_tree-For}
+use Rattle.c_tree.specs.Views.{expr_tree, stmt_tree, in_order}
+use Rattle.c_tree.specs.Trees.{ExprTree, StmtTree, If, IfElse, While}
+use Rattle.c_tree.specs.declared.expressions.Expr.{Expr}
+use Rattle.c_tree.specs.declared.statements.Stmt.{Stmt}
+use Rattle.c_tree.proofs.RawStmtEquations.{raw_stmt_tree-If, raw_stmt_tree-IfElse, raw_stmt_tree-While, raw_stmt_tree-For}
+use Rattle.c_tree.proofs.StmtEquations.{stmt_tree-If, stmt_tree-IfElse, stmt_tree-While}
 use Rattle.c_scope.specs.Faults.{least_of}
 use Rattle.c_scope.specs.Expressions.{expr_faults}
 use Rattle.c_scope.specs.Places.{spot_of}
-use Rattle.c_scope.specs.Statements.{inside, left, stmt_after, stmts_after, stmt_faults, stmts_faults}
+use Rattle.c_scope.specs.Statements.{inside, left, stmt_of, stmt_after, stmts_after, stmt_faults, stmts_faults}
 use Rattle.c_scope.proofs.Cuts.{drop_at}
 use Rattle.c_scope.proofs.Least.{least_of_append, least_of_then}
 use Rattle.c_scope.proofs.Scopes.{Extends, stmt_extends, stmts_extends, leaves}
@@ -42,6 +47,50 @@ guarded-returns-clause-faults t c =
     let b = rw c.in_ok-condition-2.ensures.next at c.body-body.ensures.faults in
     least_of_then c.args.self.now.least c.expr.new.least c.body-body.new.self.least (expr_faults s.names (raw_expr_tree c.args.condition.now)) (stmt_faults c.args.gives c.args.loops (inside s) (raw_stmt_tree c.args.raw.now))
     c.in_ok-condition.ensures.faults b
+
+-- conditions and bodies that are the same
+same_if : (c d : ExprTree) (p q : StmtTree) → c ≡ d → p ≡ q → If c p ≡ If d q
+same_if c d p q e f = ap (λ x. If x p) e ∙ ap (λ x. If d x) f
+
+same_while : (c d : ExprTree) (p q : StmtTree) → c ≡ d → p ≡ q → While c p ≡ While d q
+same_while c d p q e f = ap (λ x. While x p) e ∙ ap (λ x. While d x) f
+
+same_if_else : (c d : ExprTree) (p q r s : StmtTree) → c ≡ d → p ≡ q → r ≡ s → IfElse c p r ≡ IfElse d q s
+same_if_else c d p q r s e f g = ap (λ x. IfElse x p r) e ∙ (ap (λ x. IfElse d x r) f ∙ ap (λ x. IfElse d q x) g)
+
+pub stmt-returns-in_ok-condition-in-If-clause-tree : goal.stmt-returns-in_ok-condition-in-If-clause-tree
+stmt-returns-in_ok-condition-in-If-clause-tree t c =
+    rw (c.in-If.is, raw_stmt_tree-If c.in-If.condition c.in-If.then, stmt_tree-If, ← c.deref-in-If.ensures) (same_if _ _ _ _ c.in_ok-condition-in-If.ensures.condition c.in_ok-condition-in-If.ensures.tree)
+
+pub stmt-returns-in_ok-condition-in-If-clause-faults : goal.stmt-returns-in_ok-condition-in-If-clause-faults
+stmt-returns-in_ok-condition-in-If-clause-faults t c =
+    rw (c.in-If.is, raw_stmt_tree-If c.in-If.condition c.in-If.then, ← c.deref-in-If.ensures) c.in_ok-condition-in-If.ensures.faults
+
+pub stmt-returns-in_ok-condition-in-While-clause-tree : goal.stmt-returns-in_ok-condition-in-While-clause-tree
+stmt-returns-in_ok-condition-in-While-clause-tree t c =
+    rw (c.in-While.is, raw_stmt_tree-While c.in-While.condition c.in-While.body, stmt_tree-While, ← c.deref-in-While.ensures) (same_while _ _ _ _ c.in_ok-condition-in-While.ensures.condition c.in_ok-condition-in-While.ensures.tree)
+
+pub stmt-returns-in_ok-condition-in-While-clause-faults : goal.stmt-returns-in_ok-condition-in-While-clause-faults
+stmt-returns-in_ok-condition-in-While-clause-faults t c =
+    rw (c.in-While.is, raw_stmt_tree-While c.in-While.condition c.in-While.body, ← c.deref-in-While.ensures) c.in_ok-condition-in-While.ensures.faults
+
+pub stmt-returns-in_ok-condition-in-IfElse-clause-tree : goal.stmt-returns-in_ok-condition-in-IfElse-clause-tree
+stmt-returns-in_ok-condition-in-IfElse-clause-tree t c =
+    let s = spot_of c.args.self.now in
+    let r = raw_stmt_tree c.deref-in-IfElse-2.result.now in
+    let b = rw c.in_ok-condition-in-IfElse.ensures.next at c.body-otherwise.ensures.tree in
+    rw (c.in-IfElse.is, raw_stmt_tree-IfElse c.in-IfElse.condition c.in-IfElse.then c.in-IfElse.otherwise, stmt_tree-IfElse, ← c.deref-in-IfElse.ensures, ← c.deref-in-IfElse-2.ensures)
+    (same_if_else _ _ _ _ _ _
+    (ap (λ (q : Expr × Box Stmt Global). expr_tree q.0) c.in_ok-condition-in-IfElse.ensures.before ∙ c.in_ok-before-in-IfElse.ensures.condition)
+    (ap (λ (q : Expr × Box Stmt Global). stmt_tree q.1.value) c.in_ok-condition-in-IfElse.ensures.before ∙ c.in_ok-before-in-IfElse.ensures.tree)
+    (b ∙ ap (λ x. stmt_of (inside x) r) c.in_ok-before-in-IfElse.ensures.place))
+
+pub stmt-returns-in_ok-condition-in-IfElse-clause-place : goal.stmt-returns-in_ok-condition-in-IfElse-clause-place
+stmt-returns-in_ok-condition-in-IfElse-clause-place t c =
+    let r = raw_stmt_tree c.deref-in-IfElse-2.result.now in
+    let b = rw c.in_ok-condition-in-IfElse.ensures.next at c.body-otherwise.ensures.place in
+    rw (c.in-IfElse.is, raw_stmt_tree-IfElse c.in-IfElse.condition c.in-IfElse.then c.in-IfElse.otherwise, ← c.deref-in-IfElse.ensures, ← c.deref-in-IfElse-2.ensures)
+    (b ∙ ap (λ x. left x (stmt_after (inside x) r)) c.in_ok-before-in-IfElse.ensures.place)
 
 pub stmt-returns-in_ok-condition-in-IfElse-clause-faults : goal.stmt-returns-in_ok-condition-in-IfElse-clause-faults
 stmt-returns-in_ok-condition-in-IfElse-clause-faults t c =
