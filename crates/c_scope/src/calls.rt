@@ -8,7 +8,7 @@ ghost use Rattle.c_scope.specs.Faults.{least_of};
 ghost use Rattle.c_scope.specs.Calls.{call_name_faults, table_name_faults, spawned_faults, spawn_faults, call_faults, table_call_faults, right_faults, spawned_function, spawn_of, call_of, table_call_of, right_of, right_after, next};
 ghost use Rattle.c_scope.specs.Places.{spot_of, called};
 
-use crate::expressions::{expr, exprs};
+use crate::expressions::{expr, exprs, then_expr};
 use crate::faults::{Fault, Rule, note, note_if};
 use crate::forms::{Form, form_of};
 use crate::meanings::{Callee, Found, callee_of, function_of, table_of};
@@ -76,7 +76,7 @@ fn spawned(
         }
         Form::Call(..) | Form::TableCall(..) | Form::Neither => {
             note(least, at, Rule::Kind);
-            expr(alloc, names, least, raw)?;
+            drop(expr(alloc, names, least, raw)?);
             Ok(0)
         }
     }
@@ -183,7 +183,7 @@ impl<'a> Place<'a> {
         let found = self.names.find(&name.text);
         check_table_name(&mut self.least, found, name.at);
         let index = expr(alloc, &self.names, &mut self.least, index)?;
-        let argument = expr(alloc, &self.names, &mut self.least, argument)?;
+        let (index, argument) = then_expr(index, alloc, &self.names, &mut self.least, argument)?;
         Ok(Call::Table {
             site,
             table: table_of(found),
@@ -212,5 +212,20 @@ impl<'a> Place<'a> {
                 raw,
             )?)),
         }
+    }
+
+    /// A right side, and what stands before it.
+    pub fn then_right<T: Drop>(
+        &mut self,
+        before: T,
+        raw: &RawExpr,
+    ) -> Result<(T, RightSide), AllocError>
+        ensures before { IfOk result (λ p. p.0 ≡ before) }
+        ensures tree { IfOk result (λ p. right_tree p.1 ≡ right_of self.old.names self.old.site (raw_expr_tree raw.now)) }
+        ensures place { OnOk result (spot_of self.new ≡ record (spot_of self.old) { site = right_after self.old.site (raw_expr_tree raw.now) }) }
+        ensures faults { OnOk result (self.new.least ≡ least_of self.old.least (right_faults self.old.names (raw_expr_tree raw.now))) }
+    {
+        let value = self.right(raw)?;
+        Ok((before, value))
     }
 }

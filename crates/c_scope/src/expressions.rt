@@ -62,25 +62,25 @@ pub fn expr(
         }
         RawExpr::Element { name, index } => {
             let array = array(names, least, name);
-            let index = Box::new(alloc, expr(alloc, names, least, index)?)?;
+            let index = boxed(alloc, names, least, index)?;
             match array {
                 Variable::Local(array) => Ok(Expr::LocalElement { array, index }),
                 Variable::Global(array) => Ok(Expr::GlobalElement { array, index }),
             }
         }
         RawExpr::Unary { operator, operand } => {
-            let operand = Box::new(alloc, expr(alloc, names, least, operand)?)?;
+            let operand = boxed(alloc, names, least, operand)?;
             Ok(Expr::Unary {
                 operator: *operator,
                 operand,
             })
         }
         RawExpr::Parenthesized(inner) => {
-            let inner = Box::new(alloc, expr(alloc, names, least, inner)?)?;
+            let inner = boxed(alloc, names, least, inner)?;
             Ok(Expr::Parenthesized(inner))
         }
         RawExpr::Chain { first, rest } => {
-            let first = Box::new(alloc, expr(alloc, names, least, first)?)?;
+            let first = boxed(alloc, names, least, first)?;
             let rest = operands(alloc, names, least, rest)?;
             Ok(Expr::Chain { first, rest })
         }
@@ -89,9 +89,9 @@ pub fn expr(
             then,
             otherwise,
         } => {
-            let condition = Box::new(alloc, expr(alloc, names, least, condition)?)?;
-            let then = Box::new(alloc, expr(alloc, names, least, then)?)?;
-            let otherwise = Box::new(alloc, expr(alloc, names, least, otherwise)?)?;
+            let condition = boxed(alloc, names, least, condition)?;
+            let then = boxed(alloc, names, least, then)?;
+            let otherwise = boxed(alloc, names, least, otherwise)?;
             Ok(Expr::Conditional {
                 condition,
                 then,
@@ -100,6 +100,20 @@ pub fn expr(
         }
         RawExpr::Call { .. } | RawExpr::TableCall { .. } => Ok(Expr::Number(0)),
     }
+}
+
+// An expression in a box.
+#[cycle(expressions)]
+fn boxed(
+    alloc: Global,
+    names: &Names,
+    least: &mut Option<Fault>,
+    raw: &RawExpr,
+) -> Result<Box<Expr>, AllocError>
+    ensures tree { IfOk result (λ e. expr_tree e.value ≡ expr_of names.now (raw_expr_tree raw.now)) }
+    ensures faults { OnOk result (least.new ≡ least_of least.old (expr_faults names.now (raw_expr_tree raw.now))) }
+{
+    Ok(Box::new(alloc, expr(alloc, names, least, raw)?)?)
 }
 
 // The operators after the first operand of a chain, with their operands.
@@ -118,6 +132,22 @@ fn operands(
         operands.push((*operator, expr(alloc, names, least, operand)?))?;
     }
     Ok(operands)
+}
+
+/// An expression, and what stands before it.
+pub fn then_expr<T: Drop>(
+    before: T,
+    alloc: Global,
+    names: &Names,
+    least: &mut Option<Fault>,
+    raw: &RawExpr,
+) -> Result<(T, Expr), AllocError>
+    ensures before { IfOk result (λ p. p.0 ≡ before) }
+    ensures tree { IfOk result (λ p. expr_tree p.1 ≡ expr_of names.now (raw_expr_tree raw.now)) }
+    ensures faults { OnOk result (least.new ≡ least_of least.old (expr_faults names.now (raw_expr_tree raw.now))) }
+{
+    let value = expr(alloc, names, least, raw)?;
+    Ok((before, value))
 }
 
 /// Arguments, with numbers for names.

@@ -279,16 +279,16 @@ pub fn definitions<'a>(alloc: Global, raw: &'a [RawItem]) -> Result<Names<'a>, A
 fn modelled_names<'a>(alloc: Global) -> Result<Names<'a>, AllocError>
     ensures { IfOk result (λ names. names ≡ modelled_names) }
 {
-    let mut names = Names::new(alloc);
-    names.declare(b"accept", Meaning::Modelled(ModelledCall::Accept))?;
-    names.declare(b"wait", Meaning::Modelled(ModelledCall::Wait))?;
-    names.declare(b"sleep", Meaning::Modelled(ModelledCall::Sleep))?;
-    names.declare(b"yield", Meaning::Modelled(ModelledCall::Yield))?;
-    names.declare(b"take", Meaning::Modelled(ModelledCall::Take))?;
-    names.declare(b"put", Meaning::Modelled(ModelledCall::Put))?;
-    names.declare(b"give", Meaning::Modelled(ModelledCall::Give))?;
-    names.declare(b"self", Meaning::Modelled(ModelledCall::SelfNumber))?;
-    names.declare(b"spawn", Meaning::Spawn)?;
+    let names = Names::new(alloc);
+    let names = names.with(b"accept", Meaning::Modelled(ModelledCall::Accept))?;
+    let names = names.with(b"wait", Meaning::Modelled(ModelledCall::Wait))?;
+    let names = names.with(b"sleep", Meaning::Modelled(ModelledCall::Sleep))?;
+    let names = names.with(b"yield", Meaning::Modelled(ModelledCall::Yield))?;
+    let names = names.with(b"take", Meaning::Modelled(ModelledCall::Take))?;
+    let names = names.with(b"put", Meaning::Modelled(ModelledCall::Put))?;
+    let names = names.with(b"give", Meaning::Modelled(ModelledCall::Give))?;
+    let names = names.with(b"self", Meaning::Modelled(ModelledCall::SelfNumber))?;
+    let names = names.with(b"spawn", Meaning::Spawn)?;
     Ok(names)
 }
 

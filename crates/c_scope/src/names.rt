@@ -1,6 +1,6 @@
 // The names in scope, as a map from a name to what it is and a list of what each name hides.
 
-ghost use Rattle.std.specs.Prelude.{◌≡◌, ◌<◌, ◌≤◌, ◌-◌, List, [], ◌∷◌, map, reverse, length, drop, OnOk};
+ghost use Rattle.std.specs.Prelude.{◌≡◌, ◌<◌, ◌≤◌, ◌-◌, List, [], ◌∷◌, map, reverse, length, drop, IfOk, OnOk};
 ghost use Rattle.c_scope.specs.Names.{Binding, find, binding_of, AreLinked, Finds};
 
 use crate::meanings::{Found, Meaning};
@@ -77,6 +77,14 @@ impl<'a> Names<'a> {
                 Err(AllocError::from(failed))
             }
         }
+    }
+
+    /// These names and one more, which hides what it was.
+    pub fn with(mut self, text: &'a [u8], meaning: Meaning) -> Result<Names<'a>, AllocError>
+        ensures { IfOk result (λ names. names ≡ record { text = text.now; meaning = meaning } ∷ self.entry) }
+    {
+        self.declare(text, meaning)?;
+        Ok(self)
     }
 
     // Takes the latest name away.

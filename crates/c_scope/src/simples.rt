@@ -1,7 +1,8 @@
 // Declarations, assignments and calls.
 
-ghost use Rattle.std.specs.Prelude.{◌≡◌, ◌∷◌, IfOk, OnOk, map, if◌then◌else◌};
-ghost use Rattle.c_tree.specs.RawViews.{name_tree, raw_simple_tree};
+ghost use Rattle.std.specs.Prelude.{◌≡◌, ◌∷◌, IfOk, OnOk, map, false, if◌then◌else◌};
+ghost use Rattle.c_tree.specs.RawTrees.{RawDeclareWith};
+ghost use Rattle.c_tree.specs.RawViews.{name_tree, raw_expr_tree, raw_simple_tree};
 ghost use Rattle.c_tree.specs.Views.{simple_tree};
 ghost use Rattle.c_tree.specs.Temporaries.{capped};
 ghost use Rattle.c_scope.specs.Names.{find};
@@ -14,7 +15,7 @@ use crate::faults::{Fault, Rule, note_if};
 use crate::meanings::{Found, Meaning, Variable};
 use crate::names::Names;
 use crate::places::Place;
-use c_tree::{Name, RawSimple, Simple};
+use c_tree::{Name, RawExpr, RawSimple, Simple};
 use std::alloc::AllocError;
 
 /// What is wrong with the declaration of a name that is this already.
@@ -70,6 +71,17 @@ impl<'a> Place<'a> {
         Ok(variable)
     }
 
+    // Declares a variable of one word, and gives what stands before it and its number.
+    fn then_declare<T: Drop>(&mut self, before: T, name: &'a Name) -> Result<(T, u32), AllocError>
+        ensures before { IfOk result (λ p. p.0 ≡ before) }
+        ensures number { IfOk result (λ p. p.1 ≡ next_variable (spot_of self.old)) }
+        ensures place { OnOk result (spot_of self.new ≡ with_variable (spot_of self.old) (name_tree name.now) false 1) }
+        ensures faults { self.new.least ≡ self.old.least }
+    {
+        let variable = self.declare(name, false, 1)?;
+        Ok((before, variable))
+    }
+
     // What is wrong with a name that is declared here.
     pub fn check_declare(&mut self, name: &Name)
         ensures place { spot_of self.new ≡ spot_of self.old }
@@ -77,6 +89,18 @@ impl<'a> Place<'a> {
     {
         let found = self.names.find(&name.text);
         check_declared(&mut self.least, found, self.outer, name.at);
+    }
+
+    // A declaration of one name with its initialiser, in which the name isn't in scope.
+    fn declare_with(&mut self, name: &'a Name, initial: &RawExpr) -> Result<Simple, AllocError>
+        ensures tree { IfOk result (λ s. simple_tree s ≡ simple_of (spot_of self.old) (RawDeclareWith (name_tree name.now) (raw_expr_tree initial.now))) }
+        ensures place { OnOk result (spot_of self.new ≡ simple_after (spot_of self.old) (RawDeclareWith (name_tree name.now) (raw_expr_tree initial.now))) }
+        ensures faults { OnOk result (self.new.least ≡ least_of self.old.least (simple_faults (spot_of self.old) (RawDeclareWith (name_tree name.now) (raw_expr_tree initial.now)))) }
+    {
+        self.check_declare(name);
+        let value = self.right(initial)?;
+        let (value, variable) = self.then_declare(value, name)?;
+        Ok(Simple::DeclareWith { variable, value })
     }
 
     /// A declaration of one name, an assignment, or a call.
@@ -100,14 +124,7 @@ impl<'a> Place<'a> {
                     words: *words,
                 })
             }
-            RawSimple::DeclareWith { name, value } => {
-                self.check_declare(name);
-                let value = self.right(value)?;
-                Ok(Simple::DeclareWith {
-                    variable: self.declare(name, false, 1)?,
-                    value,
-                })
-            }
+            RawSimple::DeclareWith { name, value } => self.declare_with(name, value),
             RawSimple::Set { name, value } => {
                 let variable = scalar(&self.names, &mut self.least, name);
                 let value = self.right(value)?;
@@ -119,7 +136,7 @@ impl<'a> Place<'a> {
             RawSimple::SetElement { name, index, value } => {
                 let array = array(&self.names, &mut self.least, name);
                 let index = expr(self.alloc, &self.names, &mut self.least, index)?;
-                let value = self.right(value)?;
+                let (index, value) = self.then_right(index, value)?;
                 match array {
                     Variable::Local(array) => Ok(Simple::SetLocalElement {
                         array,

@@ -1,10 +1,10 @@
 // Statements and the scopes in them.
 
-ghost use Rattle.std.specs.Prelude.{◌≡◌, ◌∷◌, ◌-◌, IfOk, OnOk, map, option_map, length, drop};
+ghost use Rattle.std.specs.Prelude.{◌≡◌, ◌∷◌, ◌++◌, ◌-◌, Ok, IfOk, OnOk, map, option_map, length, drop};
 ghost use Rattle.c_tree.specs.RawViews.{raw_expr_tree, raw_simple_tree, raw_stmt_tree, raw_stmt_trees};
 ghost use Rattle.c_tree.specs.Views.{expr_tree, right_tree, simple_tree, stmt_tree, stmt_trees};
 ghost use Rattle.c_scope.specs.Faults.{least_of};
-ghost use Rattle.c_scope.specs.Expressions.{expr_of};
+ghost use Rattle.c_scope.specs.Expressions.{expr_faults, expr_of};
 ghost use Rattle.c_scope.specs.Places.{spot_of};
 ghost use Rattle.c_scope.specs.Simples.{simple_of};
 ghost use Rattle.c_scope.specs.Statements.{inside, left, condition_faults, step_kind, step_faults, step_after, return_faults, returned_of, returned_after, stmt_after, stmts_after, stmt_faults, stmts_faults, stmt_of, stmts_of};
@@ -27,6 +27,17 @@ fn check_step(least: &mut Option<Fault>, raw: &RawSimple)
         | RawSimple::SetElement { .. }
         | RawSimple::Call { .. }
         | RawSimple::TableCall { .. } => {}
+    }
+}
+
+// What was made before, and the next, if there was room for it.
+fn both<T: Drop, U>(before: T, next: Result<U, AllocError>) -> Result<(T, U), AllocError>
+    ensures before { IfOk result (λ p. p.0 ≡ before) }
+    ensures next { IfOk result (λ p. next ≡ Ok p.1) }
+{
+    match next {
+        Ok(next) => Ok((before, next)),
+        Err(error) => Err(error),
     }
 }
 
@@ -56,6 +67,21 @@ impl<'a> Place<'a> {
                 Ok(Some(self.simple(raw)?))
             }
         }
+    }
+
+    // The step of a `for`, and what stands before it.
+    fn then_step<T: Drop>(
+        &mut self,
+        before: T,
+        raw: &'a Option<RawSimple>,
+    ) -> Result<(T, Option<Simple>), AllocError>
+        ensures before { IfOk result (λ p. p.0 ≡ before) }
+        ensures tree { IfOk result (λ p. option_map simple_tree p.1 ≡ option_map (simple_of (spot_of self.old)) (option_map raw_simple_tree raw.now)) }
+        ensures place { OnOk result (spot_of self.new ≡ step_after (spot_of self.old) (option_map raw_simple_tree raw.now)) }
+        ensures faults { OnOk result (self.new.least ≡ least_of self.old.least (step_faults (spot_of self.old) (option_map raw_simple_tree raw.now))) }
+    {
+        let step = self.step(raw)?;
+        Ok((before, step))
     }
 
     // What a function that gives a result or not returns at `at`.
@@ -124,8 +150,7 @@ impl<'a> Place<'a> {
             RawStmt::Empty => Ok(Stmt::Empty),
             RawStmt::Block(stmts) => Ok(Stmt::Block(self.block(gives, loops, stmts)?)),
             RawStmt::If { condition, then } => {
-                let condition = expr(self.alloc, &self.names, &mut self.least, condition)?;
-                let then = Box::new(self.alloc, self.body(gives, loops, then)?)?;
+                let (condition, then) = self.guarded(gives, loops, then, condition)?;
                 Ok(Stmt::If { condition, then })
             }
             RawStmt::IfElse {
@@ -133,9 +158,9 @@ impl<'a> Place<'a> {
                 then,
                 otherwise,
             } => {
-                let condition = expr(self.alloc, &self.names, &mut self.least, condition)?;
-                let then = Box::new(self.alloc, self.body(gives, loops, then)?)?;
-                let otherwise = Box::new(self.alloc, self.body(gives, loops, otherwise)?)?;
+                let before = self.guarded(gives, loops, then, condition)?;
+                let otherwise = self.body(gives, loops, otherwise);
+                let ((condition, then), otherwise) = both(before, otherwise)?;
                 Ok(Stmt::IfElse {
                     condition,
                     then,
@@ -143,8 +168,7 @@ impl<'a> Place<'a> {
                 })
             }
             RawStmt::While { condition, body } => {
-                let condition = expr(self.alloc, &self.names, &mut self.least, condition)?;
-                let body = Box::new(self.alloc, self.body(gives, true, body)?)?;
+                let (condition, body) = self.guarded(gives, true, body, condition)?;
                 Ok(Stmt::While { condition, body })
             }
             RawStmt::For {
@@ -156,8 +180,9 @@ impl<'a> Place<'a> {
                 let scope = self.enter();
                 let init = self.simples(init)?;
                 let condition = self.condition(condition)?;
-                let step = self.step(step)?;
-                let body = Box::new(self.alloc, self.body(gives, true, body)?)?;
+                let (condition, step) = self.then_step(condition, step)?;
+                let body = self.body(gives, true, body);
+                let ((condition, step), body) = both((condition, step), body)?;
                 self.leave(scope);
                 Ok(Stmt::For {
                     init,
@@ -178,15 +203,36 @@ impl<'a> Place<'a> {
         }
     }
 
+    // A condition and a body.
+    #[cycle(statements)]
+    fn guarded(
+        &mut self,
+        gives: bool,
+        loops: bool,
+        raw: &'a RawStmt,
+        condition: &RawExpr,
+    ) -> Result<(Expr, Box<Stmt>), AllocError>
+        ensures condition { IfOk result (λ p. expr_tree p.0 ≡ expr_of self.old.names (raw_expr_tree condition.now)) }
+        ensures tree { IfOk result (λ p. stmt_tree p.1.value ≡ stmt_of (inside (spot_of self.old)) (raw_stmt_tree raw.now)) }
+        ensures place { OnOk result (spot_of self.new ≡ left (spot_of self.old) (stmt_after (inside (spot_of self.old)) (raw_stmt_tree raw.now))) }
+        ensures faults { OnOk result (self.new.least ≡ least_of self.old.least (expr_faults self.old.names (raw_expr_tree condition.now) ++ stmt_faults gives loops (inside (spot_of self.old)) (raw_stmt_tree raw.now))) }
+    {
+        let condition = expr(self.alloc, &self.names, &mut self.least, condition)?;
+        let body = self.body(gives, loops, raw);
+        let (condition, body) = both(condition, body)?;
+        Ok((condition, body))
+    }
+
     // A body, which is a scope of its own.
     #[cycle(statements)]
-    fn body(&mut self, gives: bool, loops: bool, raw: &'a RawStmt) -> Result<Stmt, AllocError>
-        ensures tree { IfOk result (λ s. stmt_tree s ≡ stmt_of (inside (spot_of self.old)) (raw_stmt_tree raw.now)) }
+    fn body(&mut self, gives: bool, loops: bool, raw: &'a RawStmt) -> Result<Box<Stmt>, AllocError>
+        ensures tree { IfOk result (λ s. stmt_tree s.value ≡ stmt_of (inside (spot_of self.old)) (raw_stmt_tree raw.now)) }
         ensures place { OnOk result (spot_of self.new ≡ left (spot_of self.old) (stmt_after (inside (spot_of self.old)) (raw_stmt_tree raw.now))) }
         ensures faults { OnOk result (self.new.least ≡ least_of self.old.least (stmt_faults gives loops (inside (spot_of self.old)) (raw_stmt_tree raw.now))) }
     {
         let scope = self.enter();
         let stmt = self.stmt(gives, loops, raw)?;
+        let stmt = Box::new(self.alloc, stmt)?;
         self.leave(scope);
         Ok(stmt)
     }

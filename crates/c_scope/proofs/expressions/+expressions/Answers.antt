@@ -1,9 +1,9 @@
-use Rattle.std.proofs.Common.{◌≡◌, ◌∷◌, ◌+◌, drop, append_assoc}
+use Rattle.std.proofs.Common.{◌≡◌, ◌∷◌, ◌++◌, ◌+◌, drop, append_assoc}
 use Rattle.c_tree.specs.RawViews.{raw_expr_tree}
 use Rattle.c_tree.proofs.RawExprEquations.{raw_expr_tree-Chain, raw_expr_tree-Conditional}
 use Rattle.c_tree.proofs.ExprEquations.{expr_tree-Chain}
 use Rattle.c_scope.specs.Expressions.{expr_faults}
-use Rattle.c_scope.proofs.Least.{least_of_append}
+use Rattle.c_scope.proofs.Least.{least_of_append, least_of_then}
 use Rattle.c_scope.specs.Operands.{operands_faults}
 use Rattle.c_scope.proofs.Cuts.{drop_at}
 use Rattle.c_scope.proofs.Chains.{chain_of, chain_faults, operand_trees_map, operand_trees_push}
@@ -11,15 +11,22 @@ use Rattle.c_scope.proofs.expressions.+expressions.Goals as goal
 
 pub expr-returns-in_ok-rest-in-Chain-clause-tree : goal.expr-returns-in_ok-rest-in-Chain-clause-tree
 expr-returns-in_ok-rest-in-Chain-clause-tree t c =
-    rw (c.in-Chain.is, raw_expr_tree-Chain c.in-Chain.first c.in-Chain.rest, expr_tree-Chain c.in_ok-first-in-Chain.first c.in_ok-rest-in-Chain.rest, chain_of c.args.names.now (raw_expr_tree c.in-Chain.first.value) c.in-Chain.rest.items, operand_trees_map c.in_ok-rest-in-Chain.rest.items) (cc (c.in_ok-rest-in-Chain.ensures.tree, c.in_ok-expr-in-Chain.ensures.tree, c.in_ok-first-in-Chain.ensures.ok, c.deref-in-Chain.ensures, c.deref-in-Chain-2.ensures.value))
+    rw (c.in-Chain.is, raw_expr_tree-Chain c.in-Chain.first c.in-Chain.rest, expr_tree-Chain c.in_ok-first-in-Chain.first c.in_ok-rest-in-Chain.rest, chain_of c.args.names.now (raw_expr_tree c.in-Chain.first.value) c.in-Chain.rest.items, operand_trees_map c.in_ok-rest-in-Chain.rest.items) (cc (c.in_ok-rest-in-Chain.ensures.tree, c.in_ok-first-in-Chain.ensures.tree, c.deref-in-Chain.ensures, c.deref-in-Chain-2.ensures.value))
 
 pub expr-returns-in_ok-rest-in-Chain-clause-faults : goal.expr-returns-in_ok-rest-in-Chain-clause-faults
 expr-returns-in_ok-rest-in-Chain-clause-faults t c =
-    rw (c.in-Chain.is, raw_expr_tree-Chain c.in-Chain.first c.in-Chain.rest, chain_faults c.args.names.now c.args.least.now (raw_expr_tree c.in-Chain.first.value) c.in-Chain.rest.items) (cc (c.in_ok-rest-in-Chain.ensures.faults, c.in_ok-expr-in-Chain.ensures.faults, c.deref-in-Chain.ensures, c.deref-in-Chain-2.ensures.value))
+    rw (c.in-Chain.is, raw_expr_tree-Chain c.in-Chain.first c.in-Chain.rest, chain_faults c.args.names.now c.args.least.now (raw_expr_tree c.in-Chain.first.value) c.in-Chain.rest.items) (cc (c.in_ok-rest-in-Chain.ensures.faults, c.in_ok-first-in-Chain.ensures.faults, c.deref-in-Chain.ensures, c.deref-in-Chain-2.ensures.value))
 
 pub expr-returns-in_ok-otherwise-in-Conditional-clause-faults : goal.expr-returns-in_ok-otherwise-in-Conditional-clause-faults
 expr-returns-in_ok-otherwise-in-Conditional-clause-faults t c =
-    rw (c.in-Conditional.is, raw_expr_tree-Conditional c.in-Conditional.condition c.in-Conditional.then c.in-Conditional.otherwise, least_of_append, least_of_append) (cc (c.in_ok-expr-in-Conditional.ensures.faults, c.in_ok-expr-in-Conditional-2.ensures.faults, c.in_ok-expr-in-Conditional-3.ensures.faults, c.deref-in-Conditional.ensures, c.deref-in-Conditional-2.ensures, c.deref-in-Conditional-3.ensures))
+    let names = c.args.names.now in
+    let fc = expr_faults names (raw_expr_tree c.deref-in-Conditional.result.now) in
+    let ft = expr_faults names (raw_expr_tree c.deref-in-Conditional-2.result.now) in
+    let fo = expr_faults names (raw_expr_tree c.deref-in-Conditional-3.result.now) in
+    rw (c.in-Conditional.is, raw_expr_tree-Conditional c.in-Conditional.condition c.in-Conditional.then c.in-Conditional.otherwise, ← c.deref-in-Conditional.ensures, ← c.deref-in-Conditional-2.ensures, ← c.deref-in-Conditional-3.ensures)
+    (least_of_then c.args.least.now c.boxed-in-Conditional-2.new.least c.boxed-in-Conditional-3.new.least (fc ++ ft) fo
+    (least_of_then c.args.least.now c.boxed-in-Conditional.new.least c.boxed-in-Conditional-2.new.least fc ft c.in_ok-condition-in-Conditional.ensures.faults c.in_ok-then-in-Conditional.ensures.faults)
+    c.in_ok-otherwise-in-Conditional.ensures.faults)
 
 pub operands-loop-operator-preserved : goal.operands-loop-operator-preserved
 operands-loop-operator-preserved t c =

@@ -14,8 +14,8 @@ returns-in-Local-array-clause-faults c =
     let fi = expr_faults names (raw_expr_tree c.in-SetElement.index) in
     let fv = right_faults names (raw_expr_tree c.in-SetElement.value) in
     rw c.in-SetElement.is
-    (least_of_then c.args.self.now.least c.array-array.new.least c.right-in-SetElement.new.self.least fa (fi ++ fv) c.array-array.ensures.faults
-    (least_of_then c.array-array.new.least c.expr.new.least c.right-in-SetElement.new.self.least fi fv c.in_ok-index-in-SetElement.ensures.faults c.in_ok-value-in-SetElement.ensures.faults))
+    (least_of_then c.args.self.now.least c.array-array.new.least c.then_right.new.self.least fa (fi ++ fv) c.array-array.ensures.faults
+    (least_of_then c.array-array.new.least c.expr.new.least c.then_right.new.self.least fi fv c.in_ok-index-in-SetElement.ensures.faults c.in_ok-index-in-SetElement-2.ensures.faults))
 
 pub returns-in-Global-array-clause-faults : goal.returns-in-Global-array-clause-faults
 returns-in-Global-array-clause-faults c =
@@ -24,8 +24,8 @@ returns-in-Global-array-clause-faults c =
     let fi = expr_faults names (raw_expr_tree c.in-SetElement.index) in
     let fv = right_faults names (raw_expr_tree c.in-SetElement.value) in
     rw c.in-SetElement.is
-    (least_of_then c.args.self.now.least c.array-array.new.least c.right-in-SetElement.new.self.least fa (fi ++ fv) c.array-array.ensures.faults
-    (least_of_then c.array-array.new.least c.expr.new.least c.right-in-SetElement.new.self.least fi fv c.in_ok-index-in-SetElement.ensures.faults c.in_ok-value-in-SetElement.ensures.faults))
+    (least_of_then c.args.self.now.least c.array-array.new.least c.then_right.new.self.least fa (fi ++ fv) c.array-array.ensures.faults
+    (least_of_then c.array-array.new.least c.expr.new.least c.then_right.new.self.least fi fv c.in_ok-index-in-SetElement.ensures.faults c.in_ok-index-in-SetElement-2.ensures.faults))
 
 pub returns-in_ok-call-in-Call-clause-tree : goal.returns-in_ok-call-in-Call-clause-tree
 returns-in_ok-call-in-Call-clause-tree c = rw (c.in-Call.is, listed_arguments (map raw_expr_tree c.in-Call.arguments.items), ← c.deref.ensures.value) (ap Calling c.in_ok-call-in-Call.ensures.tree)
