@@ -1,6 +1,7 @@
-use Rattle.std.proofs.Common.{◌≡◌, ◌<◌, ℕ, get_or, sym, ◌∙◌, subst}
+use Rattle.std.proofs.Common.{◌≡◌, ◌<◌, ℕ, List, length, get_or, ap, sym, ◌∙◌, subst, arith}
+use Rattle.std.specs.List.{AllByRecursion}
 use Rattle.std.specs.List.Sorted.{IsStrictlyIncreasing}
-use Rattle.call_graph.specs.Graph.{function_count}
+use Rattle.call_graph.specs.Graph.{IsSiteOf, function_count}
 use Rattle.call_graph.specs.Paths.{BreaksEveryCycle}
 use Rattle.cycle_break.specs.BackEdges.{back_edges}
 use Rattle.cycle_break.specs.Trail.{rank}
@@ -26,3 +27,25 @@ pub returns-clause-breaks : goal.returns-clause-breaks
 returns-clause-breaks c =
     if_ok c.later_sites.result (λ back. back.items ≡ back_edges c.args.graph.now) (λ back. BreaksEveryCycle c.args.graph.now back.items)
     (λ back h. subst (BreaksEveryCycle c.args.graph.now) (sym h) (back_edges-break c.args.graph.now c.weights.ensures.kept)) (returns-clause-walk c)
+
+pub ranks_of-requires : goal.ranks_of-requires
+ranks_of-requires c = rw (c.as_slice.ensures.value, c.weights.ensures.value) c.in_ok-left.ensures.functions
+
+pub greatest_of_tables-requires : goal.greatest_of_tables-requires
+greatest_of_tables-requires c =
+    let graph = c.args.graph.now in
+    let each : function_count graph ≡ length c.as_slice-2.result.now =
+    omega (arith, c.in_ok-ranks.ranks.ok.0, c.in_ok-ranks.ensures.each, ap length c.weights.ensures.value, ap length c.as_slice-2.ensures.value) in
+    subst (λ (n : ℕ). AllByRecursion (λ (members : List ℕ). AllByRecursion (λ (f : ℕ). f < n) members) c.tables-tables.result.now) each
+    (rw c.tables-tables.ensures c.weights.ensures.kept.tables)
+
+pub later_sites-requires-clause-sites : goal.later_sites-requires-clause-sites
+later_sites-requires-clause-sites c =
+    let graph = c.args.graph.now in
+    let each : function_count graph ≡ length c.as_slice-3.result.now =
+    omega (arith, c.in_ok-ranks.ranks.ok.0, c.in_ok-ranks.ensures.each, ap length c.weights.ensures.value, ap length c.as_slice-3.ensures.value) in
+    rw (c.sites.ensures, c.tables-tables.ensures) (subst (λ (n : ℕ). AllByRecursion (IsSiteOf n graph.tables) graph.sites) each c.weights.ensures.kept.sites)
+
+pub later_sites-requires-clause-tables : goal.later_sites-requires-clause-tables
+later_sites-requires-clause-tables c =
+    rw (c.as_slice-4.ensures.value, c.as_slice-3.ensures.value) (rw c.as_slice-2.ensures.value at c.in_ok-of_tables.ensures)
