@@ -2,8 +2,8 @@
 //
 // In: an image's code, a memory (the trait `Memory`) and the registers (`Regs`). Out: what the instruction at
 // pc came to (`StepResult`): it went on, it asks for a call, or it is a fault that changed nothing. The
-// definitions are in specs/: `Effect` has a row an instruction, `Rows` the forms of these rows, `Step` the
-// whole step with its faults in order, `Bytes` the meaning of memory, `Access` the bytes that a step touches,
+// definitions are in specs/: `Effect` has a row an instruction, `Rows` the forms of these rows, `RowEffect` what a
+// value of such a form does, `Step` the whole step with its faults in order, `Bytes` the meaning of memory, `Access` the bytes that a step touches,
 // `Words` the ranges that it keeps. The crate above gives a memory and cites the clauses of `step` and the laws. Source: RISC-V unprivileged manual, chapters "RV32I" and "M".
 #![tactic(auto)]
 
