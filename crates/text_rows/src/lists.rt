@@ -3,44 +3,42 @@
 use command_words::{Command, Placement, Policy, WordsError, read_words};
 use std::alloc::{AllocError, Global};
 
-// Lists that are no word list, with a blank between the words.
-const REFUSED: [&str; 35] = [
-    "help",
-    "serve",
-    "serve P Q",
-    "serve P --fuel 05",
-    "serve P --fuel=5",
-    "serve P --chunk 72",
-    "serve P --fuel 1 --fuel 1",
-    "serve P --max-path 4081",
-    "serve P --caps 2=1,1=1",
-    "demo 0",
-    "demo 1001",
-    "demo 1 --fuel 1",
-    "Serve P",
-    "P serve",
-    "--fuel 1 serve P",
-    "serve P --fuel",
-    "serve --fuel --chunk 64 P",
-    "serve P --",
-    "serve P -h",
-    "serve P --help",
-    "serve -P",
-    "serve P  --fuel 1",
-    "serve P --chunk 48",
-    "serve P --max-path 15",
-    "serve P --chunks 0",
-    "serve P --fuel 1000000001",
-    "serve P --backlog 4097",
-    "serve P --high 500",
-    "serve P --low 900",
-    "serve P --caps 8=1",
-    "serve P --caps 1=1,",
-    "serve P --chunk 65536 --chunks 1025",
-    "run P I C --chunk 64",
-    "build P I",
-    "check P I C D",
-];
+// Lists that are no word list: one a line, with a blank between the words.
+const REFUSED: &str = "help
+serve
+serve P Q
+serve P --fuel 05
+serve P --fuel=5
+serve P --chunk 72
+serve P --fuel 1 --fuel 1
+serve P --max-path 4081
+serve P --caps 2=1,1=1
+demo 0
+demo 1001
+demo 1 --fuel 1
+Serve P
+P serve
+--fuel 1 serve P
+serve P --fuel
+serve --fuel --chunk 64 P
+serve P --
+serve P -h
+serve P --help
+serve -P
+serve P  --fuel 1
+serve P --chunk 48
+serve P --max-path 15
+serve P --chunks 0
+serve P --fuel 1000000001
+serve P --backlog 4097
+serve P --high 500
+serve P --low 900
+serve P --caps 8=1
+serve P --caps 1=1,
+serve P --chunk 65536 --chunks 1025
+run P I C --chunk 64
+build P I
+check P I C D";
 
 const PLACEMENT: Placement = Placement {
     chunk: 4096,
@@ -81,43 +79,41 @@ fn other_words_are_refused(rt: HostRuntime) {
     let none = Vec::new(alloc);
     let mut right = matches!(read_words(alloc, &none), Err(WordsError::NotWords));
     drop(none);
-    for line in REFUSED {
+    for line in REFUSED.split('\n') {
         right = right && is_refused(alloc, line);
     }
     assert!(rt; right);
 }
 
 // Whether the words of a line ask for this command.
-fn asks(alloc: Global, line: &str, want: Command<'_>) -> bool {
+fn asks(alloc: Global, line: &str, want: &Command<'_>) -> bool {
     let Ok(words) = words_of(alloc, line) else {
         return false;
     };
     let asked = match read_words(alloc, &words) {
-        Ok(command) => command == want,
+        Ok(command) => command == *want,
         Err(_) => false,
     };
     drop(words);
     asked
 }
 
-fn asks_to_serve(alloc: Global, line: &str, placement: Placement, policy: Policy) -> bool {
-    let source = "P";
-    let want = Command::Serve {
-        source,
-        placement,
-        policy,
-    };
-    asks(alloc, line, want)
-}
-
-const CHUNKS_OF_64: Placement = Placement {
-    chunk: 64,
-    max_path: 48,
+const SERVE: Command<'static> = Command::Serve {
+    source: "P",
+    placement: PLACEMENT,
+    policy: POLICY,
 };
 
-const CHUNKS_128: Policy = Policy {
-    chunks: 128,
-    ..POLICY
+const SERVE_SMALL: Command<'static> = Command::Serve {
+    source: "P",
+    placement: Placement {
+        chunk: 64,
+        max_path: 48,
+    },
+    policy: Policy {
+        chunks: 128,
+        ..POLICY
+    },
 };
 
 const RUN: Command<'static> = Command::Run {
@@ -163,21 +159,20 @@ const DEMO: Command<'static> = Command::Demo { number: 1000 };
 #[test]
 fn word_lists_ask_for_a_command(rt: HostRuntime) {
     let alloc = rt.alloc();
-    let right = asks_to_serve(alloc, "serve P", PLACEMENT, POLICY)
-        && asks_to_serve(
+    let right = asks(alloc, "serve P", &SERVE)
+        & asks(
             alloc,
             "serve --chunk 64 P --max-path 48 --chunks 128",
-            CHUNKS_OF_64,
-            CHUNKS_128,
+            &SERVE_SMALL,
         )
-        && asks(
+        & asks(
             alloc,
             "run --caps 1=3,7=1000000 P --fuel 0 I --backlog 1 C --high 1 --low 0 --chunks 65536",
-            RUN,
+            &RUN,
         )
-        && asks(alloc, "build P I C --chunk 96", BUILD)
-        && asks(alloc, "check P I C", CHECK)
-        && asks(alloc, "graph --max-path 4080 P", GRAPH)
-        && asks(alloc, "demo 1000", DEMO);
+        & asks(alloc, "build P I C --chunk 96", &BUILD)
+        & asks(alloc, "check P I C", &CHECK)
+        & asks(alloc, "graph --max-path 4080 P", &GRAPH)
+        & asks(alloc, "demo 1000", &DEMO);
     assert!(rt; right);
 }

@@ -1,11 +1,13 @@
 // Lines of the log.
+ghost use Rattle.std.specs.Prelude.{◌≤◌};
+
 use cap_io::{CleanSink, MemSink};
 use cap_word::{SiteKey, Stop, TrapKind};
 use schedule_log::{Averages, Entry, Item, LogError, PutError, StopLine, put_entry, read_entry};
 use std::alloc::Global;
 
 // One line of each kind, from the format's table.
-const LINES: [&[u8]; 17] = [
+const LINES: &[&[u8]] = &[
     b"event 100 arrive 0\n",
     b"event 7 data 63 -2147483648\n",
     b"drop 31 data 0 8\n",
@@ -25,7 +27,7 @@ const LINES: [&[u8]; 17] = [
     b"stop threads 0 1048560 1\n",
 ];
 
-const OTHERS: [&[u8]; 24] = [
+const OTHERS: &[&[u8]] = &[
     b"",
     b" ",
     b"stop",
@@ -125,13 +127,13 @@ fn entries_have_the_lines_of_the_table(rt: HostRuntime) {
     };
     let alloc = rt.alloc();
     let right = is_put(alloc, &DROPPED, b"drop 18446744073709551615 data 3 -1\n")
-        && is_put(alloc, &block, b"block 4 9 12<3 5 6\n")
-        && is_put(
+        & is_put(alloc, &block, b"block 4 9 12<3 5 6\n")
+        & is_put(
             alloc,
             &edge,
             b"edge 1 2 3 768 -256 170141183460469231731687303715884105727\n",
         )
-        && is_put(alloc, &CUT, b"stop trap 1 resource 2 3\n");
+        & is_put(alloc, &CUT, b"stop trap 1 resource 2 3\n");
     assert!(rt; right);
 }
 

@@ -34,7 +34,7 @@ fn wide(bytes: &[u8]) -> (u32, i128) {
     }
 }
 
-const DECIMALS: [(&[u8], u64, u32, u64); 19] = [
+const DECIMALS: &[(&[u8], u64, u32, u64)] = &[
     (b"0", 0, READ, 0),
     (b"7", 9, READ, 7),
     (b"10", 10, READ, 10),
@@ -61,7 +61,7 @@ const DECIMALS: [(&[u8], u64, u32, u64); 19] = [
     (b"1/2", 9, NOT_A_NUMBER, 0),
 ];
 
-const SIGNED: [(&[u8], u32, i32); 17] = [
+const SIGNED: &[(&[u8], u32, i32)] = &[
     (b"0", READ, 0),
     (b"1", READ, 1),
     (b"-1", READ, -1),
@@ -81,7 +81,7 @@ const SIGNED: [(&[u8], u32, i32); 17] = [
     (b"1-", NOT_A_NUMBER, 0),
 ];
 
-const WIDE: [(&[u8], u32, i128); 8] = [
+const WIDE: &[(&[u8], u32, i128)] = &[
     (b"0", READ, 0),
     (b"-256", READ, -256),
     (
@@ -103,20 +103,20 @@ const WIDE: [(&[u8], u32, i128); 8] = [
 #[test]
 fn reads_canonical_numbers(rt: HostRuntime) {
     let mut right = true;
-    for (bytes, max, kind, number) in DECIMALS {
+    for &(bytes, max, kind, number) in DECIMALS {
         right = right && decimal(bytes, max) == (kind, number);
     }
-    for (bytes, kind, number) in SIGNED {
+    for &(bytes, kind, number) in SIGNED {
         right = right && signed(bytes) == (kind, number);
     }
-    for (bytes, kind, number) in WIDE {
+    for &(bytes, kind, number) in WIDE {
         right = right && wide(bytes) == (kind, number);
     }
     assert!(rt; right);
 }
 
 // A text and a number, and the text with the number behind it.
-const PUT: [(i128, &[u8]); 7] = [
+const PUT: &[(i128, &[u8])] = &[
     (0, b"x 0"),
     (7, b"x 7"),
     (-107, b"x -107"),
@@ -139,7 +139,7 @@ fn is_put(alloc: Global, value: i128, want: &[u8]) -> bool {
 #[test]
 fn puts_numbers_after_what_is_there(rt: HostRuntime) {
     let mut right = true;
-    for (value, want) in PUT {
+    for &(value, want) in PUT {
         right = right && is_put(rt.alloc(), value, want);
     }
     assert!(rt; right);
@@ -158,12 +158,12 @@ fn has_lines(text: &[u8], want: &[&[u8]]) -> bool {
 #[test]
 fn gives_the_pieces_between_line_feeds(rt: HostRuntime) {
     let right = has_lines(b"", &[])
-        && has_lines(b"\n", &[b""])
-        && has_lines(b"\n\n", &[b"", b""])
-        && has_lines(b"a", &[b"a"])
-        && has_lines(b"a\n", &[b"a"])
-        && has_lines(b"a\nbc", &[b"a", b"bc"])
-        && has_lines(b"a\n\r\n\nbc d\n", &[b"a", b"\r", b"", b"bc d"]);
+        & has_lines(b"\n", &[b""])
+        & has_lines(b"\n\n", &[b"", b""])
+        & has_lines(b"a", &[b"a"])
+        & has_lines(b"a\n", &[b"a"])
+        & has_lines(b"a\nbc", &[b"a", b"bc"])
+        & has_lines(b"a\n\r\n\nbc d\n", &[b"a", b"\r", b"", b"bc d"]);
     assert!(rt; right);
 }
 
@@ -180,10 +180,10 @@ fn has_fields(text: &[u8], want: &[&[u8]]) -> bool {
 #[test]
 fn gives_the_pieces_between_separators(rt: HostRuntime) {
     let right = has_fields(b"", &[b""])
-        && has_fields(b" ", &[b"", b""])
-        && has_fields(b"run 31", &[b"run", b"31"])
-        && has_fields(b" run  31", &[b"", b"run", b"", b"31"])
-        && has_fields(b"1<2\t\n ", &[b"1<2\t\n", b""]);
+        & has_fields(b" ", &[b"", b""])
+        & has_fields(b"run 31", &[b"run", b"31"])
+        & has_fields(b" run  31", &[b"", b"run", b"", b"31"])
+        & has_fields(b"1<2\t\n ", &[b"1<2\t\n", b""]);
     assert!(rt; right);
 }
 
@@ -193,15 +193,15 @@ fn reads_the_numbers_of_fields(rt: HostRuntime) {
         b"4096 64 4294967295 18446744073709551615 -2147483648 -256 x",
         b' ',
     );
-    let right = fields.number(4096) == Some(4096)
-        && fields.number(63).is_none()
-        && fields.word() == Some(4_294_967_295)
-        && fields.count() == Some(18_446_744_073_709_551_615)
-        && fields.signed() == Some(-2_147_483_648)
-        && fields.wide() == Some(-256)
-        && fields.end().is_none()
-        && fields.word().is_none()
-        && fields.end().is_some()
-        && fields.word().is_none();
+    let right = (fields.number(4096) == Some(4096))
+        & fields.number(63).is_none()
+        & (fields.word() == Some(4_294_967_295))
+        & (fields.count() == Some(18_446_744_073_709_551_615))
+        & (fields.signed() == Some(-2_147_483_648))
+        & (fields.wide() == Some(-256))
+        & fields.end().is_none()
+        & fields.word().is_none()
+        & fields.end().is_some()
+        & fields.word().is_none();
     assert!(rt; right);
 }

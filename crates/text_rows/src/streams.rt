@@ -78,12 +78,12 @@ fn sources_give_their_bytes(rt: HostRuntime) {
     let alloc = rt.alloc();
     // The bytes of a call, the calls that fail, the room of a read, and how often it fails.
     let right = memory_gives(alloc, 1, [0, 0], 16, 0)
-        && memory_gives(alloc, 3, [1, 3], 1, 2)
-        && memory_gives(alloc, 3, [2, 2], 5, 1)
-        && memory_gives(alloc, 100, [1, 2], 16, 2)
-        && memory_gives(alloc, 8, [9, 9], 5, 0)
-        && memory_gives(alloc, 8, [9, 9], 1, 1)
-        && clean_gives(alloc);
+        & memory_gives(alloc, 3, [1, 3], 1, 2)
+        & memory_gives(alloc, 3, [2, 2], 5, 1)
+        & memory_gives(alloc, 100, [1, 2], 16, 2)
+        & memory_gives(alloc, 8, [9, 9], 5, 0)
+        & memory_gives(alloc, 8, [9, 9], 1, 1)
+        & clean_gives(alloc);
     assert!(rt; right);
 }
 
@@ -135,9 +135,9 @@ fn clean_takes(alloc: Global) -> bool {
 fn sinks_take_whole_pieces(rt: HostRuntime) {
     let alloc = rt.alloc();
     let right = memory_takes(alloc, 2, [0, 0], (DONE, DONE), b"abcdexyz")
-        && memory_takes(alloc, 2, [2, 4], (FAILED, FAILED), b"abxy")
-        && memory_takes(alloc, 100, [1, 0], (FAILED, DONE), b"xyz")
-        && clean_takes(alloc);
+        & memory_takes(alloc, 2, [2, 4], (FAILED, FAILED), b"abxy")
+        & memory_takes(alloc, 100, [1, 0], (FAILED, DONE), b"xyz")
+        & clean_takes(alloc);
     assert!(rt; right);
 }
 
@@ -185,13 +185,13 @@ fn files(alloc: Global) -> Result<Vec<(String, Vec<u8>)>, AllocError> {
 /// Loads from a shelf of `files` that does not fail, stores over a file of it and anew, and loads again.
 fn keeps_files<H: Shelf>(alloc: Global, shelf: &mut H) -> bool {
     has(alloc, shelf, "cap_io_eight", 8, b"12345678")
-        && has(alloc, shelf, "cap_io_nine", 9, b"123456789")
-        && is_refused(alloc, shelf, "cap_io_nine", ShelfError::TooLong)
-        && is_refused(alloc, shelf, "cap_io_none", ShelfError::Absent)
-        && stores(alloc, shelf, "cap_io_eight", b"new")
-        && stores(alloc, shelf, "cap_io_none", b"")
-        && has(alloc, shelf, "cap_io_eight", 8, b"new")
-        && has(alloc, shelf, "cap_io_none", 8, b"")
+        & has(alloc, shelf, "cap_io_nine", 9, b"123456789")
+        & is_refused(alloc, shelf, "cap_io_nine", ShelfError::TooLong)
+        & is_refused(alloc, shelf, "cap_io_none", ShelfError::Absent)
+        & stores(alloc, shelf, "cap_io_eight", b"new")
+        & stores(alloc, shelf, "cap_io_none", b"")
+        & has(alloc, shelf, "cap_io_eight", 8, b"new")
+        & has(alloc, shelf, "cap_io_none", 8, b"")
 }
 
 fn memory_keeps_files(alloc: Global) -> bool {
@@ -225,11 +225,11 @@ fn fails_where_it_is_told(alloc: Global) -> bool {
         return false;
     };
     let right = is_refused(alloc, &mut shelf, "cap_io_none", ShelfError::Failed)
-        && has(alloc, &mut shelf, "cap_io_eight", 8, b"12345678")
-        && store_fails(alloc, &mut shelf, "cap_io_eight", b"abc")
-        && store_fails(alloc, &mut shelf, "cap_io_none", b"abc")
-        && has(alloc, &mut shelf, "cap_io_eight", 8, b"ab")
-        && has(alloc, &mut shelf, "cap_io_none", 8, b"abc");
+        & has(alloc, &mut shelf, "cap_io_eight", 8, b"12345678")
+        & store_fails(alloc, &mut shelf, "cap_io_eight", b"abc")
+        & store_fails(alloc, &mut shelf, "cap_io_none", b"abc")
+        & has(alloc, &mut shelf, "cap_io_eight", 8, b"ab")
+        & has(alloc, &mut shelf, "cap_io_none", 8, b"abc");
     drop(shelf);
     right
 }
@@ -237,7 +237,7 @@ fn fails_where_it_is_told(alloc: Global) -> bool {
 #[test]
 fn shelves_keep_files(rt: HostRuntime) {
     let alloc = rt.alloc();
-    assert!(rt; memory_keeps_files(alloc) && clean_keeps_files(alloc) && fails_where_it_is_told(alloc));
+    assert!(rt; memory_keeps_files(alloc) & clean_keeps_files(alloc) & fails_where_it_is_told(alloc));
 }
 
 /// A stream whose second call fails, and which takes at most three bytes, and none at its fourth call.
@@ -295,10 +295,10 @@ fn the_present_folder_keeps_files(rt: HostRuntime) -> Result<(), Fail> {
     let alloc = rt.alloc();
     let mut shelf = DirShelf::new(rt);
     let right = stores(alloc, &mut shelf, "cap_io_eight", b"12345678")
-        && stores(alloc, &mut shelf, "cap_io_nine", b"123456789")
-        && keeps_files(alloc, &mut shelf)
-        && is_refused(alloc, &mut shelf, ".", ShelfError::Failed)
-        && store_fails(alloc, &mut shelf, ".", b"");
+        & stores(alloc, &mut shelf, "cap_io_nine", b"123456789")
+        & keeps_files(alloc, &mut shelf)
+        & is_refused(alloc, &mut shelf, ".", ShelfError::Failed)
+        & store_fails(alloc, &mut shelf, ".", b"");
     assert!(rt; right);
     for name in ["cap_io_eight", "cap_io_nine", "cap_io_none"] {
         std::fs::remove_file(&rt, name)?;

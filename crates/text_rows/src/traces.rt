@@ -1,4 +1,6 @@
 // Traces read from sources in memory, in pieces of several sizes and with reads that fail.
+ghost use Rattle.std.specs.Prelude.{◌≤◌};
+
 use cap_io::{CleanSource, MemSource, Source};
 use event_trace::{Event, EventKind, TraceError, TraceReader};
 use std::alloc::Global;
@@ -69,7 +71,7 @@ data 1000000000000000 63 -2147483648
 arrive 1000000000000000 2147483647
 data 1000000000000000 7 9";
 
-const EVENTS: [(u64, u32, u32); 6] = [
+const EVENTS: &[(u64, u32, u32)] = &[
     (0, ARRIVAL, 0),
     (0, 0, 4_294_967_295),
     (5, ARRIVAL, 4_294_967_189),
@@ -106,13 +108,13 @@ fn memory_gives(
 fn events_come_in_order_whatever_the_pieces(rt: HostRuntime) {
     let mut right = true;
     for per_call in [1, 2, 3, 100] {
-        right = right && memory_gives(rt.alloc(), TRACE, per_call, &[], &EVENTS, NONE);
+        right = right && memory_gives(rt.alloc(), TRACE, per_call, &[], EVENTS, NONE);
     }
     assert!(rt; right);
 }
 
 // Lines behind one of time 7. The last has 65 bytes.
-const REFUSED: [&[u8]; 20] = [
+const REFUSED: &[&[u8]] = &[
     b"",
     b" ",
     b"arrive  7 1",
