@@ -1,5 +1,5 @@
 // The present folder as a shelf.
-ghost use Rattle.std.specs.Prelude.{◌≡◌, ◌≤◌, IfOk, vec_len};
+ghost use Rattle.std.specs.Prelude.{◌≡◌, ◌≤◌, IfOk, OnOk, vec_len};
 ghost use Rattle.cap_io.specs.FaultCounts.{FaultCounts};
 
 use super::{Shelf, ShelfError};
@@ -73,23 +73,56 @@ impl<R: Files + Drop> Shelf for DirShelf<R> {
 fn read_file<R: Files>(rt: &R, alloc: Global, name: &str, max: u32) -> Result<Vec<u8>, ShelfError>
     ensures { IfOk result (λ bytes. vec_len bytes ≤ max) }
 {
-    let mut file = match File::open(rt, name) {
-        Ok(file) => file,
-        Err(error) if error.kind() == ErrorKind::NotFound => return Err(ShelfError::Absent),
-        Err(_) => return Err(ShelfError::Failed),
-    };
+    match File::open(rt, name) {
+        Ok(mut file) => {
+            let answer = read_rest(&mut file, alloc, max);
+            drop(file);
+            answer
+        }
+        Err(error) => {
+            let kind = error.kind();
+            drop(error);
+            if kind == ErrorKind::NotFound {
+                Err(ShelfError::Absent)
+            } else {
+                Err(ShelfError::Failed)
+            }
+        }
+    }
+}
+
+/// The bytes of an open file of at most `max` bytes.
+fn read_rest<F: Read>(file: &mut F, alloc: Global, max: u32) -> Result<Vec<u8>, ShelfError>
+    ensures { IfOk result (λ bytes. vec_len bytes ≤ max) }
+{
     let mut bytes = Vec::new(alloc);
+    match read_into(file, &mut bytes, max) {
+        Ok(()) => Ok(bytes),
+        Err(error) => {
+            drop(bytes);
+            Err(error)
+        }
+    }
+}
+
+/// Appends what is left of an open file, up to `max` bytes in all.
+fn read_into<F: Read>(file: &mut F, bytes: &mut Vec<u8>, max: u32) -> Result<(), ShelfError>
+    requires { vec_len bytes.old ≤ max }
+    ensures { OnOk result (vec_len bytes.new ≤ max) }
+{
     let mut block = [0u8; 4096];
     loop {
-        let count = file.read(&mut block).map_err(|_| ShelfError::Failed)?;
+        let Ok(count) = file.read(&mut block) else {
+            return Err(ShelfError::Failed);
+        };
         if count == 0 {
-            return Ok(bytes);
+            return Ok(());
         }
         if count > max as usize - bytes.len() {
             return Err(ShelfError::TooLong);
         }
-        bytes
-            .extend_from_slice(&block[..count])
-            .map_err(|_| ShelfError::Memory)?;
+        if bytes.extend_from_slice(&block[..count]).is_err() {
+            return Err(ShelfError::Memory);
+        }
     }
 }

@@ -4,18 +4,13 @@ ghost use Rattle.cap_io.specs.Files.{Files, KeepsFiles};
 ghost use Rattle.cap_io.specs.Shelves.{Loads, CountsLoads, Stores, CountsStores};
 
 use std::alloc::Global;
-use thiserror::Error;
 
 /// Why a shelf refused a load or a store. A store answers only Failed or Memory.
-#[derive(Clone, Copy, Debug, PartialEq, Eq, Error)]
+#[derive(Clone, Copy, PartialEq, Eq)]
 pub enum ShelfError {
-    #[error("the call failed")]
     Failed,
-    #[error("the file is too long")]
     TooLong,
-    #[error("there is no such file")]
     Absent,
-    #[error("out of memory")]
     Memory,
 }
 

@@ -3,14 +3,10 @@ ghost use Rattle.std.specs.Prelude.{ℕ, ◌^◌, ◌<◌, ◌≤◌, List, leng
 ghost use Rattle.std.specs.Io.KnownBytes.{WriteAppends};
 ghost use Rattle.cap_io.specs.Writes.{CountsWrites};
 
-use thiserror::Error;
-
 /// Why a sink refused a piece: it counted a fault, or found no memory to grow by.
-#[derive(Clone, Copy, Debug, PartialEq, Eq, Error)]
+#[derive(Clone, Copy, PartialEq, Eq)]
 pub enum SinkError {
-    #[error("the call failed")]
     Failed,
-    #[error("out of memory")]
     Memory,
 }
 

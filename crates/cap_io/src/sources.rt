@@ -3,11 +3,8 @@ ghost use Rattle.std.specs.Prelude.{ℕ, ◌^◌, ◌<◌, ◌≤◌, List, Opti
 ghost use Rattle.std.specs.Io.KnownBytes.{ReadConsumes};
 ghost use Rattle.cap_io.specs.Reads.{FillsPrefix, CountsReads};
 
-use thiserror::Error;
-
 /// A call failed, and its object counted a fault.
-#[derive(Clone, Copy, Debug, PartialEq, Eq, Error)]
-#[error("the call failed")]
+#[derive(Clone, Copy, PartialEq, Eq)]
 pub struct Failed;
 
 /// An object that gives bytes in order, as an open file or a pipe does.

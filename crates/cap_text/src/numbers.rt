@@ -4,16 +4,12 @@ ghost use Rattle.std.specs.Bool.{MatchBool};
 ghost use Rattle.std.specs.Int.{w32, w128};
 ghost use Rattle.cap_text.specs.Decimals.{canonical_decimal, canonical_integer, IsDecimal, IsInteger};
 
-use thiserror::Error;
-
 /// Why bytes are refused as a number.
-#[derive(Clone, Copy, Debug, PartialEq, Eq, Error)]
+#[derive(Clone, Copy, PartialEq, Eq)]
 pub enum NumberError {
     /// The bytes are not a canonical decimal.
-    #[error("not a canonical decimal")]
     NotANumber,
     /// The bytes are a canonical decimal, of a number outside the range that is asked for.
-    #[error("number out of range")]
     TooLarge,
 }
 

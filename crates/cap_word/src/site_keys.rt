@@ -10,7 +10,7 @@ use std::marker::Model;
 
 /// Where a thread blocked: the site of the blocking call, and then those of the up to seven innermost
 /// calls above it, innermost first. A key is the list of its one to eight sites.
-#[derive(Clone, Copy, Debug)]
+#[derive(Clone, Copy)]
 pub struct SiteKey {
     used: u32,
     places: [u32; 8],

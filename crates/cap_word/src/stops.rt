@@ -1,7 +1,7 @@
 use crate::traps::TrapKind;
 
 /// What ends a whole run in the midst of a thread's segment.
-#[derive(Clone, Copy, Debug, PartialEq, Eq)]
+#[derive(Clone, Copy, PartialEq, Eq)]
 pub enum Stop {
     /// The program did what it may not do.
     Trap(TrapKind),

@@ -1,5 +1,5 @@
 /// A thread of the thread package.
-#[derive(Clone, Copy, Debug, PartialEq, Eq, Hash)]
+#[derive(Clone, Copy, PartialEq, Eq, Hash)]
 pub struct ThreadId {
     /// The place of the thread's record, which a later thread may use again.
     pub slot: u32,

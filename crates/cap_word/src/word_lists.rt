@@ -7,7 +7,7 @@ use std::marker::Model;
 /// A list of words: instruction words, starting values, places, arguments. Contracts see it as the list
 /// of its numbers, so that two of them are equal where these lists are, whatever their capacity. It is
 /// made from a `Vec` and gives it back without taking memory.
-#[derive(Debug, Drop)]
+#[derive(Drop)]
 pub struct Words {
     words: Vec<u32>,
 }

@@ -1,9 +1,8 @@
 // The commands of the program.
 use crate::options::{Placement, Policy};
-use thiserror::Error;
 
 /// A command with its files by name and its options.
-#[derive(Clone, Copy, Debug, PartialEq, Eq)]
+#[derive(Clone, Copy, PartialEq, Eq)]
 pub enum Command<'a> {
     /// Builds, checks and runs a source on the trace. A chunk times the number of chunks is at most 67,108,864 bytes.
     Serve {
@@ -43,12 +42,10 @@ pub enum Command<'a> {
 }
 
 /// Why no command is read.
-#[derive(Clone, Copy, Debug, PartialEq, Eq, Error)]
+#[derive(Clone, Copy, PartialEq, Eq)]
 pub enum WordsError {
     /// The words are no word list.
-    #[error("the words are no command")]
     NotWords,
     /// There was no memory.
-    #[error("out of memory")]
     Memory,
 }

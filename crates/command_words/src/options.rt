@@ -1,7 +1,7 @@
 // The options of the commands.
 
 /// The sizes by which a program's frames are placed, in bytes.
-#[derive(Clone, Copy, Debug, PartialEq, Eq)]
+#[derive(Clone, Copy, PartialEq, Eq)]
 pub struct Placement {
     /// The size of a chunk: a multiple of 16 from 64 to 65,536.
     pub chunk: u32,
@@ -10,7 +10,7 @@ pub struct Placement {
 }
 
 /// The options of a run.
-#[derive(Clone, Copy, Debug, PartialEq, Eq)]
+#[derive(Clone, Copy, PartialEq, Eq)]
 pub struct Policy {
     /// The number of chunks: from 1 to 65,536.
     pub chunks: u32,

@@ -9,13 +9,11 @@ use crate::Entry;
 use crate::lists::{read_averages, read_key};
 use crate::parts::{clock_and_item, is_same, last_word, read_segment, read_stop, word_and_signed};
 use cap_text::Fields;
-use thiserror::Error;
 
 /// Why bytes are refused as a line of the log.
-#[derive(Clone, Copy, Debug, PartialEq, Eq, Error)]
+#[derive(Clone, Copy, PartialEq, Eq)]
 pub enum LogError {
     /// They are the text of no entry.
-    #[error("not a line of the log")]
     Line,
 }
 

@@ -10,16 +10,13 @@ use cap_io::{Sink, SinkError, put_all};
 use cap_text::put_dec;
 use cap_word::{SiteKey, Stop, TrapKind};
 use std::alloc::{AllocError, Global};
-use thiserror::Error;
 
 /// Why an entry was not put.
-#[derive(Clone, Copy, Debug, PartialEq, Eq, Error)]
+#[derive(Clone, Copy, PartialEq, Eq)]
 pub enum PutError {
     /// A write failed: the sink counted a fault.
-    #[error("the log could not be written")]
     WriteFault,
     /// There was no memory, here or in the sink.
-    #[error("out of memory")]
     Memory,
 }
 
@@ -35,7 +32,9 @@ pub fn put_entry<K: Sink>(alloc: Global, out: &mut K, entry: &Entry) -> Result<(
     let Ok(line) = line_of(alloc, entry) else {
         return Err(PutError::Memory);
     };
-    match put_all(out, line.as_slice()) {
+    let answer = put_all(out, line.as_slice());
+    drop(line);
+    match answer {
         Ok(()) => Ok(()),
         Err(SinkError::Failed) => Err(PutError::WriteFault),
         Err(SinkError::Memory) => Err(PutError::Memory),
@@ -47,9 +46,20 @@ fn line_of(alloc: Global, entry: &Entry) -> Result<Vec<u8>, AllocError>
     ensures { IfOk result (λ line. line.items ≡ entry_text entry.now ++ 10 ∷ []) }
 {
     let mut line = Vec::new(alloc);
-    push_entry(&mut line, entry)?;
-    line.push(b'\n')?;
-    Ok(line)
+    match push_line(&mut line, entry) {
+        Ok(()) => Ok(line),
+        Err(error) => {
+            drop(line);
+            Err(error)
+        }
+    }
+}
+
+fn push_line(line: &mut Vec<u8>, entry: &Entry) -> Result<(), AllocError>
+    ensures { OnOk result (line.new.items ≡ line.old.items ++ entry_text entry.now ++ 10 ∷ []) }
+{
+    push_entry(line, entry)?;
+    line.push(b'\n')
 }
 
 #[tactic(auto, unfolding(crate::specs::EntryText::entry_text))]
@@ -57,57 +67,75 @@ fn push_entry(line: &mut Vec<u8>, entry: &Entry) -> Result<(), AllocError>
     ensures { OnOk result (line.new.items ≡ line.old.items ++ entry_text entry.now) }
 {
     match entry {
-        Entry::Event { clock, item } => {
-            line.extend_from_slice(b"event")?;
-            push_number(line, *clock)?;
-            push_item(line, item)
-        }
-        Entry::Dropped { clock, item } => {
-            line.extend_from_slice(b"drop")?;
-            push_number(line, *clock)?;
-            push_item(line, item)
-        }
+        Entry::Event { clock, item } => push_event(line, *clock, item),
+        Entry::Dropped { clock, item } => push_dropped(line, *clock, item),
         Entry::Run {
             clock,
             thread,
             node,
         } => push_run(line, *clock, *thread, *node),
-        Entry::Out { thread, value } => {
-            line.extend_from_slice(b"out")?;
-            push_number(line, u64::from(*thread))?;
-            push_signed(line, *value)
-        }
+        Entry::Out { thread, value } => push_out(line, *thread, *value),
         Entry::Block {
             thread,
             node,
             key,
             cost,
             free,
-        } => {
-            push_block(line, *thread, *node, key)?;
-            push_segment(line, *cost, *free)
-        }
-        Entry::End { thread, cost, free } => {
-            line.extend_from_slice(b"end")?;
-            push_number(line, u64::from(*thread))?;
-            push_segment(line, *cost, *free)
-        }
+        } => push_block(line, *thread, *node, key, *cost, *free),
+        Entry::End { thread, cost, free } => push_end(line, *thread, *cost, *free),
         Entry::Edge {
             from,
             to,
             count,
             cost,
             changes,
-        } => {
-            push_edge(line, *from, *to, *count)?;
-            push_integer(line, *cost)?;
-            push_averages(line, changes)
-        }
-        Entry::Stop(stop) => {
-            line.extend_from_slice(b"stop")?;
-            push_stop(line, stop)
-        }
+        } => push_edge(line, *from, *to, *count, *cost, changes),
+        Entry::Stop(stop) => push_last(line, stop),
     }
+}
+
+fn push_event(line: &mut Vec<u8>, clock: u64, item: &Item) -> Result<(), AllocError>
+    ensures { OnOk result (line.new.items ≡ line.old.items ++ codes "event"
+        ++ after_blanks (canonical_decimal clock ∷ item_fields item.now)) }
+{
+    line.extend_from_slice(b"event")?;
+    push_number(line, clock)?;
+    push_item(line, item)
+}
+
+fn push_dropped(line: &mut Vec<u8>, clock: u64, item: &Item) -> Result<(), AllocError>
+    ensures { OnOk result (line.new.items ≡ line.old.items ++ codes "drop"
+        ++ after_blanks (canonical_decimal clock ∷ item_fields item.now)) }
+{
+    line.extend_from_slice(b"drop")?;
+    push_number(line, clock)?;
+    push_item(line, item)
+}
+
+fn push_out(line: &mut Vec<u8>, thread: u32, value: i32) -> Result<(), AllocError>
+    ensures { OnOk result (line.new.items ≡ line.old.items ++ codes "out"
+        ++ after_blanks (canonical_decimal thread ∷ canonical_integer value ∷ [])) }
+{
+    line.extend_from_slice(b"out")?;
+    push_number(line, u64::from(thread))?;
+    push_signed(line, value)
+}
+
+fn push_end(line: &mut Vec<u8>, thread: u32, cost: u64, free: u32) -> Result<(), AllocError>
+    ensures { OnOk result (line.new.items ≡ line.old.items ++ codes "end"
+        ++ after_blanks (canonical_decimal thread ∷ canonical_decimal cost ∷ canonical_decimal free ∷ [])) }
+{
+    line.extend_from_slice(b"end")?;
+    push_number(line, u64::from(thread))?;
+    push_segment(line, cost, free)
+}
+
+// Appends a stop line.
+fn push_last(line: &mut Vec<u8>, stop: &StopLine) -> Result<(), AllocError>
+    ensures { OnOk result (line.new.items ≡ line.old.items ++ codes "stop" ++ after_blanks (stop_fields stop.now)) }
+{
+    line.extend_from_slice(b"stop")?;
+    push_stop(line, stop)
 }
 
 fn push_run(line: &mut Vec<u8>, clock: u64, thread: u32, node: u32) -> Result<(), AllocError>
@@ -120,8 +148,23 @@ fn push_run(line: &mut Vec<u8>, clock: u64, thread: u32, node: u32) -> Result<()
     push_number(line, u64::from(node))
 }
 
+fn push_block(
+    line: &mut Vec<u8>,
+    thread: u32,
+    node: u32,
+    key: &SiteKey,
+    cost: u64,
+    free: u32,
+) -> Result<(), AllocError>
+    ensures { OnOk result (line.new.items ≡ line.old.items ++ codes "block"
+        ++ after_blanks (canonical_decimal thread ∷ canonical_decimal node ∷ key_field key.now ∷ canonical_decimal cost ∷ canonical_decimal free ∷ [])) }
+{
+    push_blocked(line, thread, node, key)?;
+    push_segment(line, cost, free)
+}
+
 // Appends a block line as far as its key.
-fn push_block(line: &mut Vec<u8>, thread: u32, node: u32, key: &SiteKey) -> Result<(), AllocError>
+fn push_blocked(line: &mut Vec<u8>, thread: u32, node: u32, key: &SiteKey) -> Result<(), AllocError>
     ensures { OnOk result (line.new.items ≡ line.old.items ++ codes "block"
         ++ after_blanks (canonical_decimal thread ∷ canonical_decimal node ∷ key_field key.now ∷ [])) }
 {
@@ -131,8 +174,24 @@ fn push_block(line: &mut Vec<u8>, thread: u32, node: u32, key: &SiteKey) -> Resu
     push_key(line, key)
 }
 
+fn push_edge(
+    line: &mut Vec<u8>,
+    from: u32,
+    to: u32,
+    count: u64,
+    cost: i128,
+    changes: &Averages,
+) -> Result<(), AllocError>
+    ensures { OnOk result (line.new.items ≡ line.old.items ++ codes "edge"
+        ++ after_blanks (canonical_decimal from ∷ canonical_decimal to ∷ canonical_decimal count ∷ canonical_integer cost ∷ map canonical_integer changes.now)) }
+{
+    push_counted(line, from, to, count)?;
+    push_integer(line, cost)?;
+    push_averages(line, changes)
+}
+
 // Appends an edge line as far as the number of records.
-fn push_edge(line: &mut Vec<u8>, from: u32, to: u32, count: u64) -> Result<(), AllocError>
+fn push_counted(line: &mut Vec<u8>, from: u32, to: u32, count: u64) -> Result<(), AllocError>
     ensures { OnOk result (line.new.items ≡ line.old.items ++ codes "edge"
         ++ after_blanks (canonical_decimal from ∷ canonical_decimal to ∷ canonical_decimal count ∷ [])) }
 {

@@ -1,4 +1,4 @@
-ghost use Rattle.std.specs.Prelude.{◌≡◌, ℕ, ◌+◌, ◌*◌, ◌^◌, ◌<◌, ◌≤◌, length, Some, None, Err, IfOk, IfSome, IfNone, MatchResult, IsOkUnless};
+ghost use Rattle.std.specs.Prelude.{◌≡◌, ℕ, ◌+◌, ◌*◌, ◌^◌, ◌<◌, ◌≤◌, [], length, Some, None, Err, IfOk, OnOk, IfSome, IfNone, MatchResult, IsOkUnless};
 ghost use Rattle.stack_image.specs.declared.images.Image.{Image};
 ghost use Rattle.stack_image.specs.Spelling.{spelling, IsWithinLimits, HoldsWords};
 ghost use Rattle.stack_image.specs.Refusal.{number_at, exceeded, refusal_of, code_size, globals_size, tables_size, entries_size, end_of, begins_as_image, length_refusal};
@@ -122,10 +122,25 @@ fn words_of(alloc: Global, count: u32, bytes: &[u8]) -> Result<(Words, &[u8]), A
 {
     let count = count as usize;
     let mut words = Vec::with_capacity(alloc, count)?;
+    match push_words(&mut words, count, bytes) {
+        Ok(()) => Ok((Words::new(words), &bytes[4 * count..])),
+        Err(error) => {
+            drop(words);
+            Err(error)
+        }
+    }
+}
+
+// Appends the first `count` words to an empty list.
+fn push_words(words: &mut Vec<u32>, count: usize, bytes: &[u8]) -> Result<(), AllocError>
+    requires empty { words.old.items ≡ [] }
+    requires fits { 4 * count ≤ length bytes.now }
+    ensures { OnOk result (words.new.items ≡ words_of count bytes.now) }
+{
     for place in 0..count {
         words.push(word_at(bytes, 4 * place))?;
     }
-    Ok((Words::new(words), &bytes[4 * count..]))
+    Ok(())
 }
 
 #[tactic(auto, unfolding(crate::specs::Reading::image_of))]

@@ -1,5 +1,5 @@
 ghost use Rattle.std.specs.Prelude.{◌≡◌, ◌++◌, ◌^◌, ◌<◌, length, IfOk, OnOk, All};
-ghost use Rattle.stack_image.specs.Spelling.{words, spelling, IsWithinLimits, HoldsWords};
+ghost use Rattle.stack_image.specs.Spelling.{words, sizes, spelling, IsWithinLimits, HoldsWords};
 
 use crate::images::Image;
 use std::alloc::{AllocError, Global};
@@ -25,17 +25,33 @@ pub fn write_image(alloc: Global, image: &Image) -> Result<Vec<u8>, AllocError>
     ensures spelled { IfOk result (λ bytes. bytes.items ≡ spelling image.now) }
     ensures words { OnOk result (HoldsWords image.now) }
 {
+    let mut bytes = Vec::from_slice(alloc, b"CAP1")?;
+    match put_image(&mut bytes, image) {
+        Ok(()) => Ok(bytes),
+        Err(error) => {
+            drop(bytes);
+            Err(error)
+        }
+    }
+}
+
+// Appends the numbers of words, and the words.
+fn put_image(bytes: &mut Vec<u8>, image: &Image) -> Result<(), AllocError>
+    requires limits { IsWithinLimits image.now }
+    ensures added { OnOk result (bytes.new.items ≡ bytes.old.items ++ words (sizes image.now) ++ words image.now.code
+        ++ words image.now.globals ++ words image.now.tables ++ words image.now.entries) }
+    ensures words { OnOk result (HoldsWords image.now) }
+{
     let sizes = [
         image.code.len() as u32,
         image.globals.len() as u32,
         image.tables.len() as u32,
         image.entries.len() as u32,
     ];
-    let mut bytes = Vec::from_slice(alloc, b"CAP1")?;
-    put_words(&mut bytes, &sizes)?;
-    put_words(&mut bytes, image.code.as_slice())?;
-    put_words(&mut bytes, image.globals.as_slice())?;
-    put_words(&mut bytes, image.tables.as_slice())?;
-    put_words(&mut bytes, image.entries.as_slice())?;
-    Ok(bytes)
+    put_words(bytes, &sizes)?;
+    put_words(bytes, image.code.as_slice())?;
+    put_words(bytes, image.globals.as_slice())?;
+    put_words(bytes, image.tables.as_slice())?;
+    put_words(bytes, image.entries.as_slice())?;
+    Ok(())
 }

@@ -1,21 +1,23 @@
 // Images.
+ghost use Rattle.stack_image.specs.Spelling.{IsWithinLimits};
+
 use cap_word::Which;
-use stack_image::{ImageError, read_image, write_image};
-use std::test::Fail;
+use stack_image::{Image, ImageError, read_image, write_image};
+use std::alloc::Global;
 
-// The image of a `main` that puts one number, as the format's worked example has it.
-const EXAMPLE: [u8; 120] = [
-    0x43, 0x41, 0x50, 0x31, 0x18, 0x00, 0x00, 0x00, 0x00, 0x00, 0x00, 0x00, 0x00, 0x00, 0x00, 0x00,
-    0x01, 0x00, 0x00, 0x00, 0x93, 0x08, 0xe0, 0x01, 0x73, 0x00, 0x00, 0x00, 0x13, 0x01, 0x01, 0xff,
-    0x23, 0x26, 0x11, 0x00, 0xb7, 0x02, 0x00, 0x00, 0x93, 0x82, 0x72, 0x00, 0x23, 0x20, 0x51, 0x00,
-    0x03, 0x25, 0x01, 0x00, 0x93, 0x08, 0x30, 0x00, 0x73, 0x00, 0x00, 0x00, 0xb7, 0x02, 0x00, 0x00,
-    0x93, 0x82, 0x02, 0x00, 0x23, 0x20, 0x51, 0x00, 0x03, 0x25, 0x01, 0x00, 0x83, 0x20, 0xc1, 0x00,
-    0x13, 0x01, 0x01, 0x01, 0x67, 0x80, 0x00, 0x00, 0xb7, 0x02, 0x00, 0x00, 0x93, 0x82, 0x02, 0x00,
-    0x23, 0x20, 0x51, 0x00, 0x03, 0x25, 0x01, 0x00, 0x83, 0x20, 0xc1, 0x00, 0x13, 0x01, 0x01, 0x01,
-    0x67, 0x80, 0x00, 0x00, 0x08, 0x10, 0x00, 0x00,
-];
+// The image of a `main` that puts one number, as the format's worked example has it, and a byte more.
+const LONG: &[u8] = b"CAP1\x18\x00\x00\x00\x00\x00\x00\x00\x00\x00\x00\x00\
+\x01\x00\x00\x00\x93\x08\xe0\x01\x73\x00\x00\x00\x13\x01\x01\xff\
+\x23\x26\x11\x00\xb7\x02\x00\x00\x93\x82\x72\x00\x23\x20\x51\x00\
+\x03\x25\x01\x00\x93\x08\x30\x00\x73\x00\x00\x00\xb7\x02\x00\x00\
+\x93\x82\x02\x00\x23\x20\x51\x00\x03\x25\x01\x00\x83\x20\xc1\x00\
+\x13\x01\x01\x01\x67\x80\x00\x00\xb7\x02\x00\x00\x93\x82\x02\x00\
+\x23\x20\x51\x00\x03\x25\x01\x00\x83\x20\xc1\x00\x13\x01\x01\x01\
+\x67\x80\x00\x00\x08\x10\x00\x00\x00";
 
-const EXAMPLE_CODE: [u32; 24] = [
+const LENGTH: usize = 120;
+
+const EXAMPLE_CODE: &[u32] = &[
     0x01e0_0893,
     0x0000_0073,
     0xff01_0113,
@@ -43,108 +45,145 @@ const EXAMPLE_CODE: [u32; 24] = [
 ];
 
 // An image of two code words, one global, no table word and two entries.
-const FOUR: [u8; 40] = [
-    0x43, 0x41, 0x50, 0x31, 2, 0, 0, 0, 1, 0, 0, 0, 0, 0, 0, 0, 2, 0, 0, 0, 1, 0, 0, 0, 4, 3, 2, 1,
-    0xff, 0xff, 0xff, 0xff, 4, 0, 0, 0, 5, 0, 0, 0,
+const FOUR: &[u8] = b"CAP1\x02\x00\x00\x00\x01\x00\x00\x00\x00\x00\x00\x00\x02\x00\x00\x00\
+\x01\x00\x00\x00\x04\x03\x02\x01\xff\xff\xff\xff\x04\x00\x00\x00\x05\x00\x00\x00";
+
+// Whether an image without a table word is written as these bytes.
+fn is_written(alloc: Global, image: &Image, want: &[u8]) -> bool
+    requires { IsWithinLimits image.now }
+{
+    match write_image(alloc, image) {
+        Ok(bytes) => {
+            let same = bytes.as_slice() == want;
+            drop(bytes);
+            same
+        }
+        Err(_) => false,
+    }
+}
+
+// Whether the bytes are an image of these words without a table word, and are written again.
+fn comes_back(
+    alloc: Global,
+    bytes: &[u8],
+    code: &[u32],
+    globals: &[u32],
+    entries: &[u32],
+) -> bool {
+    match read_image(alloc, bytes) {
+        Ok(image) => {
+            let read = image.code.as_slice() == code
+                && image.globals.as_slice() == globals
+                && image.tables.is_empty()
+                && image.entries.as_slice() == entries;
+            let written = is_written(alloc, &image, bytes);
+            drop(image);
+            read && written
+        }
+        Err(_) => false,
+    }
+}
+
+#[test]
+fn images_are_read_and_written(rt: HostRuntime) {
+    let alloc = rt.alloc();
+    let example = comes_back(alloc, &LONG[..LENGTH], EXAMPLE_CODE, &[], &[0x1008]);
+    let four = comes_back(alloc, FOUR, &[1, 0x0102_0304], &[u32::MAX], &[4, 5]);
+    assert!(rt; example && four);
+}
+
+const MAGIC: u32 = 1;
+const SHORT: u32 = 2;
+const LATE: u32 = 3;
+const LIMIT: u32 = 4;
+
+// Why the bytes are refused, and the place or the limit's number: 0 of the code, 1 of the globals, 2 of the tables and
+// 3 of the entries.
+fn refusal(alloc: Global, bytes: &[u8]) -> (u32, u32) {
+    match read_image(alloc, bytes) {
+        Ok(image) => {
+            drop(image);
+            (0, 0)
+        }
+        Err(ImageError::Magic) => (MAGIC, 0),
+        Err(ImageError::Short { at }) => (SHORT, at),
+        Err(ImageError::Long { at }) => (LATE, at),
+        Err(ImageError::Limit { which }) => (LIMIT, number_of(which)),
+        Err(ImageError::Memory) => (0, 1),
+    }
+}
+
+fn number_of(which: Which) -> u32 {
+    match which {
+        Which::Code => 0,
+        Which::Globals => 1,
+        Which::Tables => 2,
+        Which::Entries => 3,
+        _ => 4,
+    }
+}
+
+// Beginnings of the example with a byte more, by their length, and why they are refused.
+const BEGINNINGS: &[(usize, u32, u32)] = &[
+    (0, SHORT, 0),
+    (2, SHORT, 2),
+    (10, SHORT, 10),
+    (119, SHORT, 119),
+    (121, LATE, 120),
 ];
 
-// Bytes that begin an image of these numbers of words, and end there.
-fn header(sizes: [u32; 4]) -> [u8; 20] {
-    let [code, globals, tables, entries] = sizes;
-    let mut bytes = *b"CAP1................";
-    bytes[4..8].copy_from_slice(&code.to_le_bytes());
-    bytes[8..12].copy_from_slice(&globals.to_le_bytes());
-    bytes[12..16].copy_from_slice(&tables.to_le_bytes());
-    bytes[16..20].copy_from_slice(&entries.to_le_bytes());
-    bytes
-}
-
-#[test]
-fn the_example_is_read_and_written(rt: HostRuntime) -> Result<(), Fail> {
-    let image = read_image(rt.alloc(), &EXAMPLE)?;
-    assert!(rt;
-        image.code.as_slice() == EXAMPLE_CODE.as_slice()
-            && image.globals.is_empty()
-            && image.tables.is_empty()
-            && image.entries.as_slice() == [0x1008].as_slice()
-    );
-    let written = write_image(rt.alloc(), &image)?;
-    assert!(rt; written.as_slice() == EXAMPLE.as_slice());
-    Ok(())
-}
-
-#[test]
-fn four_lists_are_told_apart(rt: HostRuntime) -> Result<(), Fail> {
-    let image = read_image(rt.alloc(), &FOUR)?;
-    assert!(rt;
-        image.code.as_slice() == [1, 0x0102_0304].as_slice()
-            && image.globals.as_slice() == [u32::MAX].as_slice()
-            && image.tables.is_empty()
-            && image.entries.as_slice() == [4, 5].as_slice()
-    );
-    let written = write_image(rt.alloc(), &image)?;
-    assert!(rt; written.as_slice() == FOUR.as_slice());
-    Ok(())
-}
+// Other bytes, and why they are refused. The last six begin an image of these numbers of code, global, table and entry
+// words, and end there: 200001, 0, 0 and 0; 200001, 65537, 65537 and 4097; then one number after another at its limit.
+const OTHERS: &[(&[u8], u32, u32)] = &[
+    (b"CB", MAGIC, 0),
+    (b"CAP2", MAGIC, 0),
+    (
+        b"CAP1\x41\x0d\x03\x00\x00\x00\x00\x00\x00\x00\x00\x00\x00\x00\x00\x00",
+        LIMIT,
+        0,
+    ),
+    (
+        b"CAP1\x41\x0d\x03\x00\x01\x00\x01\x00\x01\x00\x01\x00\x01\x10\x00\x00",
+        LIMIT,
+        0,
+    ),
+    (
+        b"CAP1\x40\x0d\x03\x00\x01\x00\x01\x00\x01\x00\x01\x00\x01\x10\x00\x00",
+        LIMIT,
+        1,
+    ),
+    (
+        b"CAP1\x40\x0d\x03\x00\x00\x00\x01\x00\x01\x00\x01\x00\x01\x10\x00\x00",
+        LIMIT,
+        2,
+    ),
+    (
+        b"CAP1\x40\x0d\x03\x00\x00\x00\x01\x00\x00\x00\x01\x00\x01\x10\x00\x00",
+        LIMIT,
+        3,
+    ),
+    (
+        b"CAP1\x40\x0d\x03\x00\x00\x00\x01\x00\x00\x00\x01\x00\x00\x10\x00\x00",
+        SHORT,
+        20,
+    ),
+];
 
 #[test]
 fn other_bytes_are_refused(rt: HostRuntime) {
-    let mut long = [0; 121];
-    long[..120].copy_from_slice(&EXAMPLE);
-    let rows: [(&[u8], ImageError); 7] = [
-        (b"", ImageError::Short { at: 0 }),
-        (b"CA", ImageError::Short { at: 2 }),
-        (&EXAMPLE[..10], ImageError::Short { at: 10 }),
-        (&EXAMPLE[..119], ImageError::Short { at: 119 }),
-        (&long, ImageError::Long { at: 120 }),
-        (b"CB", ImageError::Magic),
-        (b"CAP2", ImageError::Magic),
-    ];
-    for (bytes, want) in rows {
-        assert!(rt; read_image(rt.alloc(), bytes) == Err(want), "{want}");
+    let mut right = true;
+    for &(length, kind, place) in BEGINNINGS {
+        right = right
+            && length <= LONG.len()
+            && refusal(rt.alloc(), &LONG[..length]) == (kind, place);
     }
+    for &(bytes, kind, place) in OTHERS {
+        right = right && refusal(rt.alloc(), bytes) == (kind, place);
+    }
+    assert!(rt; right);
 }
 
 #[test]
 fn limits_have_names(rt: HostRuntime) {
     assert!(rt; Which::Functions.name() == "functions" && Which::Entries.name() == "entries");
-}
-
-#[test]
-fn the_first_limit_is_named(rt: HostRuntime) {
-    let rows = [
-        ([200_001, 0, 0, 0], ImageError::Limit { which: Which::Code }),
-        (
-            [200_001, 65_537, 65_537, 4_097],
-            ImageError::Limit { which: Which::Code },
-        ),
-        (
-            [200_000, 65_537, 65_537, 4_097],
-            ImageError::Limit {
-                which: Which::Globals,
-            },
-        ),
-        (
-            [200_000, 65_536, 65_537, 4_097],
-            ImageError::Limit {
-                which: Which::Tables,
-            },
-        ),
-        (
-            [200_000, 65_536, 65_536, 4_097],
-            ImageError::Limit {
-                which: Which::Entries,
-            },
-        ),
-        (
-            [200_000, 65_536, 65_536, 4_096],
-            ImageError::Short { at: 20 },
-        ),
-    ];
-    for (sizes, want) in rows {
-        assert!(rt;
-            read_image(rt.alloc(), &header(sizes)) == Err(want),
-            "{want}"
-        );
-    }
 }

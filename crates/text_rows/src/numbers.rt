@@ -1,153 +1,190 @@
 // Numbers, fields and lines.
 use cap_text::{Fields, Lines, NumberError, put_dec, read_dec, read_signed, read_wide};
-use std::test::Fail;
+use std::alloc::Global;
 
-#[test]
-fn reads_canonical_decimals(rt: HostRuntime) {
-    use NumberError::{NotANumber, TooLarge};
-    let cases: [(&[u8], u64, Result<u64, NumberError>); 19] = [
-        (b"0", 0, Ok(0)),
-        (b"7", 9, Ok(7)),
-        (b"10", 10, Ok(10)),
-        (b"11", 10, Err(TooLarge)),
-        (
-            b"18446744073709551615",
-            u64::MAX,
-            Ok(18_446_744_073_709_551_615),
-        ),
-        (b"18446744073709551616", u64::MAX, Err(TooLarge)),
-        (b"123456789012345678901234567890", u64::MAX, Err(TooLarge)),
-        (
-            b"1234567890123456789012345678901234567890123456789012345678901234567890",
-            5,
-            Err(TooLarge),
-        ),
-        (b"", 9, Err(NotANumber)),
-        (b"00", 9, Err(NotANumber)),
-        (b"07", 9, Err(NotANumber)),
-        (b"-0", 9, Err(NotANumber)),
-        (b"-1", 9, Err(NotANumber)),
-        (b"+1", 9, Err(NotANumber)),
-        (b"-", 9, Err(NotANumber)),
-        (b"1 ", 9, Err(NotANumber)),
-        (b" 1", 9, Err(NotANumber)),
-        (b"1:", 9, Err(NotANumber)),
-        (b"1/2", 9, Err(NotANumber)),
-    ];
-    for (bytes, max, want) in cases {
-        assert!(rt; read_dec(bytes, max) == want, "at {bytes:?} up to {max}");
+const READ: u32 = 0;
+const NOT_A_NUMBER: u32 = 1;
+const TOO_LARGE: u32 = 2;
+
+fn refused(error: NumberError) -> u32 {
+    match error {
+        NumberError::NotANumber => NOT_A_NUMBER,
+        NumberError::TooLarge => TOO_LARGE,
     }
 }
 
-#[test]
-fn reads_signed_numbers(rt: HostRuntime) {
-    use NumberError::{NotANumber, TooLarge};
-    let cases: [(&[u8], Result<i32, NumberError>); 17] = [
-        (b"0", Ok(0)),
-        (b"1", Ok(1)),
-        (b"-1", Ok(-1)),
-        (b"-107", Ok(-107)),
-        (b"2147483647", Ok(2_147_483_647)),
-        (b"2147483648", Err(TooLarge)),
-        (b"-2147483648", Ok(-2_147_483_648)),
-        (b"-2147483649", Err(TooLarge)),
-        (b"-123456789012345678901234567890", Err(TooLarge)),
-        (b"", Err(NotANumber)),
-        (b"-", Err(NotANumber)),
-        (b"-0", Err(NotANumber)),
-        (b"00", Err(NotANumber)),
-        (b"-07", Err(NotANumber)),
-        (b"--1", Err(NotANumber)),
-        (b"+1", Err(NotANumber)),
-        (b"1-", Err(NotANumber)),
-    ];
-    for (bytes, want) in cases {
-        assert!(rt; read_signed(bytes) == want, "at {bytes:?}");
+fn decimal(bytes: &[u8], max: u64) -> (u32, u64) {
+    match read_dec(bytes, max) {
+        Ok(number) => (READ, number),
+        Err(error) => (refused(error), 0),
     }
 }
 
-#[test]
-fn puts_numbers_after_what_is_there(rt: HostRuntime) -> Result<(), Fail> {
-    let cases: [(i128, &[u8]); 7] = [
-        (0, b"0"),
-        (7, b"7"),
-        (-107, b"-107"),
-        (1022, b"1022"),
-        (18_446_744_073_709_551_616, b"18446744073709551616"),
-        (i128::MAX, b"170141183460469231731687303715884105727"),
-        (i128::MIN, b"-170141183460469231731687303715884105728"),
-    ];
-    for (value, want) in cases {
-        let mut out = Vec::from_slice(rt.alloc(), b"x ")?;
-        put_dec(&mut out, value)?;
-        assert!(rt;
-            out.as_slice().strip_prefix(b"x ".as_slice()) == Some(want),
-            "at {value}"
-        );
+fn signed(bytes: &[u8]) -> (u32, i32) {
+    match read_signed(bytes) {
+        Ok(number) => (READ, number),
+        Err(error) => (refused(error), 0),
     }
-    Ok(())
+}
+
+fn wide(bytes: &[u8]) -> (u32, i128) {
+    match read_wide(bytes) {
+        Ok(number) => (READ, number),
+        Err(error) => (refused(error), 0),
+    }
+}
+
+const DECIMALS: &[(&[u8], u64, u32, u64)] = &[
+    (b"0", 0, READ, 0),
+    (b"7", 9, READ, 7),
+    (b"10", 10, READ, 10),
+    (b"11", 10, TOO_LARGE, 0),
+    (b"18446744073709551615", u64::MAX, READ, u64::MAX),
+    (b"18446744073709551616", u64::MAX, TOO_LARGE, 0),
+    (b"123456789012345678901234567890", u64::MAX, TOO_LARGE, 0),
+    (
+        b"1234567890123456789012345678901234567890123456789012345678901234567890",
+        5,
+        TOO_LARGE,
+        0,
+    ),
+    (b"", 9, NOT_A_NUMBER, 0),
+    (b"00", 9, NOT_A_NUMBER, 0),
+    (b"07", 9, NOT_A_NUMBER, 0),
+    (b"-0", 9, NOT_A_NUMBER, 0),
+    (b"-1", 9, NOT_A_NUMBER, 0),
+    (b"+1", 9, NOT_A_NUMBER, 0),
+    (b"-", 9, NOT_A_NUMBER, 0),
+    (b"1 ", 9, NOT_A_NUMBER, 0),
+    (b" 1", 9, NOT_A_NUMBER, 0),
+    (b"1:", 9, NOT_A_NUMBER, 0),
+    (b"1/2", 9, NOT_A_NUMBER, 0),
+];
+
+const SIGNED: &[(&[u8], u32, i32)] = &[
+    (b"0", READ, 0),
+    (b"1", READ, 1),
+    (b"-1", READ, -1),
+    (b"-107", READ, -107),
+    (b"2147483647", READ, 2_147_483_647),
+    (b"2147483648", TOO_LARGE, 0),
+    (b"-2147483648", READ, -2_147_483_648),
+    (b"-2147483649", TOO_LARGE, 0),
+    (b"-123456789012345678901234567890", TOO_LARGE, 0),
+    (b"", NOT_A_NUMBER, 0),
+    (b"-", NOT_A_NUMBER, 0),
+    (b"-0", NOT_A_NUMBER, 0),
+    (b"00", NOT_A_NUMBER, 0),
+    (b"-07", NOT_A_NUMBER, 0),
+    (b"--1", NOT_A_NUMBER, 0),
+    (b"+1", NOT_A_NUMBER, 0),
+    (b"1-", NOT_A_NUMBER, 0),
+];
+
+const WIDE: &[(&[u8], u32, i128)] = &[
+    (b"0", READ, 0),
+    (b"-256", READ, -256),
+    (
+        b"170141183460469231731687303715884105727",
+        READ,
+        i128::MAX,
+    ),
+    (b"170141183460469231731687303715884105728", TOO_LARGE, 0),
+    (
+        b"-170141183460469231731687303715884105728",
+        READ,
+        i128::MIN,
+    ),
+    (b"-170141183460469231731687303715884105729", TOO_LARGE, 0),
+    (b"-0", NOT_A_NUMBER, 0),
+    (b"1.5", NOT_A_NUMBER, 0),
+];
+
+#[test]
+fn reads_canonical_numbers(rt: HostRuntime) {
+    let mut right = true;
+    for &(bytes, max, kind, number) in DECIMALS {
+        right = right && decimal(bytes, max) == (kind, number);
+    }
+    for &(bytes, kind, number) in SIGNED {
+        right = right && signed(bytes) == (kind, number);
+    }
+    for &(bytes, kind, number) in WIDE {
+        right = right && wide(bytes) == (kind, number);
+    }
+    assert!(rt; right);
+}
+
+// A text and a number, and the text with the number behind it.
+const PUT: &[(i128, &[u8])] = &[
+    (0, b"x 0"),
+    (7, b"x 7"),
+    (-107, b"x -107"),
+    (1022, b"x 1022"),
+    (18_446_744_073_709_551_616, b"x 18446744073709551616"),
+    (i128::MAX, b"x 170141183460469231731687303715884105727"),
+    (i128::MIN, b"x -170141183460469231731687303715884105728"),
+];
+
+// Whether the number behind `x ` is this text.
+fn is_put(alloc: Global, value: i128, want: &[u8]) -> bool {
+    let Ok(mut out) = Vec::from_slice(alloc, b"x ") else {
+        return false;
+    };
+    let put = put_dec(&mut out, value).is_ok() && out.as_slice() == want;
+    drop(out);
+    put
+}
+
+#[test]
+fn puts_numbers_after_what_is_there(rt: HostRuntime) {
+    let mut right = true;
+    for &(value, want) in PUT {
+        right = right && is_put(rt.alloc(), value, want);
+    }
+    assert!(rt; right);
+}
+
+// Whether these are the lines of a text, and the end comes twice behind them.
+fn has_lines(text: &[u8], want: &[&[u8]]) -> bool {
+    let mut lines = Lines::new(text);
+    let mut same = true;
+    for line in want {
+        same = same && lines.next() == Some(*line);
+    }
+    same && lines.next().is_none() && lines.next().is_none()
 }
 
 #[test]
 fn gives_the_pieces_between_line_feeds(rt: HostRuntime) {
-    let cases: [(&[u8], &[&[u8]]); 7] = [
-        (b"", &[]),
-        (b"\n", &[b""]),
-        (b"\n\n", &[b"", b""]),
-        (b"a", &[b"a"]),
-        (b"a\n", &[b"a"]),
-        (b"a\nbc", &[b"a", b"bc"]),
-        (b"a\n\r\n\nbc d\n", &[b"a", b"\r", b"", b"bc d"]),
-    ];
-    for (bytes, want) in cases {
-        let mut lines = Lines::new(bytes);
-        for line in want {
-            assert!(rt; lines.next() == Some(*line), "in {bytes:?}");
-        }
-        assert!(rt; lines.next().is_none(), "after {bytes:?}");
-        assert!(rt; lines.next().is_none(), "again after {bytes:?}");
-    }
+    let right = has_lines(b"", &[])
+        & has_lines(b"\n", &[b""])
+        & has_lines(b"\n\n", &[b"", b""])
+        & has_lines(b"a", &[b"a"])
+        & has_lines(b"a\n", &[b"a"])
+        & has_lines(b"a\nbc", &[b"a", b"bc"])
+        & has_lines(b"a\n\r\n\nbc d\n", &[b"a", b"\r", b"", b"bc d"]);
+    assert!(rt; right);
 }
 
-#[test]
-fn reads_wide_numbers(rt: HostRuntime) {
-    use NumberError::{NotANumber, TooLarge};
-    let cases: [(&[u8], Result<i128, NumberError>); 8] = [
-        (b"0", Ok(0)),
-        (b"-256", Ok(-256)),
-        (b"170141183460469231731687303715884105727", Ok(i128::MAX)),
-        (b"170141183460469231731687303715884105728", Err(TooLarge)),
-        (b"-170141183460469231731687303715884105728", Ok(i128::MIN)),
-        (b"-170141183460469231731687303715884105729", Err(TooLarge)),
-        (b"-0", Err(NotANumber)),
-        (b"1.5", Err(NotANumber)),
-    ];
-    for (bytes, want) in cases {
-        assert!(rt; read_wide(bytes) == want, "at {bytes:?}");
+// Whether these are the fields of a text between blanks, and it is over behind them and not before.
+fn has_fields(text: &[u8], want: &[&[u8]]) -> bool {
+    let mut fields = Fields::new(text, b' ');
+    let mut same = true;
+    for field in want {
+        same = same && !fields.is_over() && fields.next() == Some(*field);
     }
+    same && fields.is_over() && fields.end().is_some() && fields.next().is_none()
 }
 
 #[test]
 fn gives_the_pieces_between_separators(rt: HostRuntime) {
-    let cases: [(&[u8], &[&[u8]]); 5] = [
-        (b"", &[b""]),
-        (b" ", &[b"", b""]),
-        (b"run 31", &[b"run", b"31"]),
-        (b" run  31", &[b"", b"run", b"", b"31"]),
-        (b"1<2\t\n ", &[b"1<2\t\n", b""]),
-    ];
-    for (text, want) in cases {
-        let mut fields = Fields::new(text, b' ');
-        for field in want {
-            assert!(rt; !fields.is_over(), "in {text:?}");
-            assert!(rt; fields.next() == Some(*field), "in {text:?}");
-        }
-        assert!(rt;
-            fields.is_over() && fields.end().is_some(),
-            "after {text:?}"
-        );
-        assert!(rt; fields.next().is_none(), "after {text:?}");
-    }
+    let right = has_fields(b"", &[b""])
+        & has_fields(b" ", &[b"", b""])
+        & has_fields(b"run 31", &[b"run", b"31"])
+        & has_fields(b" run  31", &[b"", b"run", b"", b"31"])
+        & has_fields(b"1<2\t\n ", &[b"1<2\t\n", b""]);
+    assert!(rt; right);
 }
 
 #[test]
@@ -156,14 +193,15 @@ fn reads_the_numbers_of_fields(rt: HostRuntime) {
         b"4096 64 4294967295 18446744073709551615 -2147483648 -256 x",
         b' ',
     );
-    assert!(rt; fields.number(4096) == Some(4096));
-    assert!(rt; fields.number(63).is_none());
-    assert!(rt; fields.word() == Some(4_294_967_295));
-    assert!(rt; fields.count() == Some(18_446_744_073_709_551_615));
-    assert!(rt; fields.signed() == Some(-2_147_483_648));
-    assert!(rt; fields.wide() == Some(-256));
-    assert!(rt; fields.end().is_none());
-    assert!(rt; fields.word().is_none());
-    assert!(rt; fields.end().is_some());
-    assert!(rt; fields.word().is_none());
+    let right = (fields.number(4096) == Some(4096))
+        & fields.number(63).is_none()
+        & (fields.word() == Some(4_294_967_295))
+        & (fields.count() == Some(18_446_744_073_709_551_615))
+        & (fields.signed() == Some(-2_147_483_648))
+        & (fields.wide() == Some(-256))
+        & fields.end().is_none()
+        & fields.word().is_none()
+        & fields.end().is_some()
+        & fields.word().is_none();
+    assert!(rt; right);
 }

@@ -11,97 +11,144 @@ use std::io;
 use std::io::{ErrorKind, Read, Write};
 use std::test::Fail;
 
-/// Reads to the end in pieces of at most `room` bytes, trying again after each failure, and counts the failures.
-fn read_all<S: Source>(
-    alloc: Global,
-    source: &mut S,
-    room: usize,
-) -> Result<(Vec<u8>, u32), AllocError>
-    requires { room ≤ 16 }
-{
-    let mut bytes = Vec::new(alloc);
-    let mut failures = 0u32;
-    let mut block = [0u8; 16];
-    for _ in 0..100 {
-        match source.read(&mut block[..room]) {
-            Ok(0) => break,
-            Ok(count) => bytes.extend_from_slice(&block[..count])?,
-            Err(Failed) => failures = failures.saturating_add(1),
-        }
-    }
-    Ok((bytes, failures))
-}
-
-/// Whether a source gives these bytes, in reads of at most `room`, with so many failures.
+/// Whether a source gives these bytes, in reads of at most `room` up to the end, with so many failures, each tried again.
 fn gives<S: Source>(
     alloc: Global,
     source: &mut S,
     room: usize,
     want: &[u8],
     failures: u32,
-) -> Result<bool, AllocError>
+) -> bool
     requires { room ≤ 16 }
 {
-    let (bytes, failed) = read_all(alloc, source, room)?;
-    Ok(bytes.as_slice() == want && failed == failures)
+    let mut bytes = Vec::new(alloc);
+    let mut failed = 0u32;
+    let mut kept = true;
+    let mut block = [0u8; 16];
+    for _ in 0..100 {
+        match source.read(&mut block[..room]) {
+            Ok(0) => break,
+            Ok(count) => kept = kept && bytes.extend_from_slice(&block[..count]).is_ok(),
+            Err(Failed) => failed = failed.saturating_add(1),
+        }
+    }
+    let same = bytes.as_slice() == want;
+    drop(bytes);
+    kept && same && failed == failures
+}
+
+const LETTERS: &[u8] = b"abcdefgh";
+
+/// Whether a source in memory that gives so many bytes a call and fails at these two calls gives its bytes so.
+fn memory_gives(
+    alloc: Global,
+    per_call: u32,
+    fails: [u64; 2],
+    room: usize,
+    failures: u32,
+) -> bool
+    requires call { 1 ≤ per_call }
+    requires room { room ≤ 16 }
+{
+    let Ok(bytes) = Vec::from_slice(alloc, LETTERS) else {
+        return false;
+    };
+    let Ok(fails) = Vec::from_slice(alloc, &fails) else {
+        drop(bytes);
+        return false;
+    };
+    let mut source = MemSource::new(bytes, per_call, fails);
+    let right = gives(alloc, &mut source, room, LETTERS, failures);
+    drop(source);
+    right
+}
+
+fn clean_gives(alloc: Global) -> bool {
+    let Ok(bytes) = Vec::from_slice(alloc, LETTERS) else {
+        return false;
+    };
+    let mut source = CleanSource::new(bytes);
+    let right = gives(alloc, &mut source, 5, LETTERS, 0);
+    drop(source);
+    right
 }
 
 #[test]
-fn sources_give_their_bytes(rt: HostRuntime) -> Result<(), Fail> {
+fn sources_give_their_bytes(rt: HostRuntime) {
     let alloc = rt.alloc();
     // The bytes of a call, the calls that fail, the room of a read, and how often it fails.
-    let table: [(u32, [u64; 2], usize, u32); 6] = [
-        (1, [0, 0], 16, 0),
-        (3, [1, 3], 1, 2),
-        (3, [2, 2], 5, 1),
-        (100, [1, 2], 16, 2),
-        (8, [9, 9], 5, 0),
-        (8, [9, 9], 1, 1),
-    ];
-    for (per_call, fails, room, failures) in table {
-        let bytes = b"abcdefgh".to_vec(alloc)?;
-        let mut source = MemSource::new(bytes, per_call.max(1), fails.to_vec(alloc)?);
-        assert!(rt;
-            gives(alloc, &mut source, room.min(16), b"abcdefgh", failures)?,
-            "at {per_call} bytes a call"
-        );
+    let right = memory_gives(alloc, 1, [0, 0], 16, 0)
+        & memory_gives(alloc, 3, [1, 3], 1, 2)
+        & memory_gives(alloc, 3, [2, 2], 5, 1)
+        & memory_gives(alloc, 100, [1, 2], 16, 2)
+        & memory_gives(alloc, 8, [9, 9], 5, 0)
+        & memory_gives(alloc, 8, [9, 9], 1, 1)
+        & clean_gives(alloc);
+    assert!(rt; right);
+}
+
+const DONE: u32 = 0;
+const FAILED: u32 = 1;
+
+fn number_of(answer: Result<(), SinkError>) -> u32 {
+    match answer {
+        Ok(()) => DONE,
+        Err(SinkError::Failed) => FAILED,
+        Err(SinkError::Memory) => 2,
     }
-    let mut source = CleanSource::new(b"abcdefgh".to_vec(alloc)?);
-    assert!(rt; gives(alloc, &mut source, 5, b"abcdefgh", 0)?);
-    Ok(())
 }
 
 /// Puts two pieces, and tells how each went.
-fn put_two<K: Sink>(out: &mut K) -> [Result<(), SinkError>; 2] {
-    [put_all(out, b"abcde"), put_all(out, b"xyz")]
+fn put_two<K: Sink>(out: &mut K) -> (u32, u32) {
+    let first = number_of(put_all(out, b"abcde"));
+    let second = number_of(put_all(out, b"xyz"));
+    (first, second)
+}
+
+/// Whether a sink in memory that takes so many bytes a call and fails at these two calls takes both pieces so.
+fn memory_takes(
+    alloc: Global,
+    per_call: u32,
+    fails: [u64; 2],
+    want: (u32, u32),
+    bytes: &[u8],
+) -> bool
+    requires { 1 ≤ per_call }
+{
+    let Ok(fails) = Vec::from_slice(alloc, &fails) else {
+        return false;
+    };
+    let mut sink = MemSink::new(alloc, per_call, fails);
+    let right = put_two(&mut sink) == want && sink.bytes() == bytes;
+    drop(sink);
+    right
+}
+
+fn clean_takes(alloc: Global) -> bool {
+    let mut sink = CleanSink::new(alloc);
+    let right = put_two(&mut sink) == (DONE, DONE) && sink.bytes() == b"abcdexyz".as_slice();
+    drop(sink);
+    right
 }
 
 #[test]
-fn sinks_take_whole_pieces(rt: HostRuntime) -> Result<(), Fail> {
-    let failed = Err(SinkError::Failed);
-    let table: [(u32, [u64; 2], [Result<(), SinkError>; 2], &[u8]); 3] = [
-        (2, [0, 0], [Ok(()), Ok(())], b"abcdexyz"),
-        (2, [2, 4], [failed, failed], b"abxy"),
-        (100, [1, 0], [failed, Ok(())], b"xyz"),
-    ];
-    for (per_call, fails, want, bytes) in table {
-        let mut sink = MemSink::new(rt.alloc(), per_call.max(1), fails.to_vec(rt.alloc())?);
-        let answers = put_two(&mut sink);
-        assert!(rt;
-            answers == want && sink.bytes() == bytes,
-            "at {per_call} bytes a call"
-        );
-    }
-    let mut sink = CleanSink::new(rt.alloc());
-    let answers = put_two(&mut sink);
-    assert!(rt; answers == [Ok(()), Ok(())] && sink.bytes() == b"abcdexyz".as_slice());
-    Ok(())
+fn sinks_take_whole_pieces(rt: HostRuntime) {
+    let alloc = rt.alloc();
+    let right = memory_takes(alloc, 2, [0, 0], (DONE, DONE), b"abcdexyz")
+        & memory_takes(alloc, 2, [2, 4], (FAILED, FAILED), b"abxy")
+        & memory_takes(alloc, 100, [1, 0], (FAILED, DONE), b"xyz")
+        & clean_takes(alloc);
+    assert!(rt; right);
 }
 
 /// Whether a file has these bytes, and may have so many.
 fn has<H: Shelf>(alloc: Global, shelf: &mut H, name: &str, most: u32, want: &[u8]) -> bool {
     match shelf.load(alloc, name, most) {
-        Ok(bytes) => bytes.as_slice() == want,
+        Ok(bytes) => {
+            let same = bytes.as_slice() == want;
+            drop(bytes);
+            same
+        }
         Err(_) => false,
     }
 }
@@ -109,9 +156,20 @@ fn has<H: Shelf>(alloc: Global, shelf: &mut H, name: &str, most: u32, want: &[u8
 /// Whether a load of at most 8 bytes ends so.
 fn is_refused<H: Shelf>(alloc: Global, shelf: &mut H, name: &str, want: ShelfError) -> bool {
     match shelf.load(alloc, name, 8) {
-        Ok(_) => false,
+        Ok(bytes) => {
+            drop(bytes);
+            false
+        }
         Err(error) => error == want,
     }
+}
+
+fn stores<H: Shelf>(alloc: Global, shelf: &mut H, name: &str, bytes: &[u8]) -> bool {
+    shelf.store(alloc, name, bytes).is_ok()
+}
+
+fn store_fails<H: Shelf>(alloc: Global, shelf: &mut H, name: &str, bytes: &[u8]) -> bool {
+    shelf.store(alloc, name, bytes) == Err(ShelfError::Failed)
 }
 
 fn file(alloc: Global, name: &str, bytes: &[u8]) -> Result<(String, Vec<u8>), AllocError> {
@@ -124,49 +182,62 @@ fn files(alloc: Global) -> Result<Vec<(String, Vec<u8>)>, AllocError> {
     Ok(vec![in alloc; eight, nine]?)
 }
 
-/// Loads from a shelf of `files` that does not fail.
-fn loads_files<H: Shelf>(alloc: Global, shelf: &mut H) -> bool {
+/// Loads from a shelf of `files` that does not fail, stores over a file of it and anew, and loads again.
+fn keeps_files<H: Shelf>(alloc: Global, shelf: &mut H) -> bool {
     has(alloc, shelf, "cap_io_eight", 8, b"12345678")
-        && has(alloc, shelf, "cap_io_nine", 9, b"123456789")
-        && is_refused(alloc, shelf, "cap_io_nine", ShelfError::TooLong)
-        && is_refused(alloc, shelf, "cap_io_none", ShelfError::Absent)
+        & has(alloc, shelf, "cap_io_nine", 9, b"123456789")
+        & is_refused(alloc, shelf, "cap_io_nine", ShelfError::TooLong)
+        & is_refused(alloc, shelf, "cap_io_none", ShelfError::Absent)
+        & stores(alloc, shelf, "cap_io_eight", b"new")
+        & stores(alloc, shelf, "cap_io_none", b"")
+        & has(alloc, shelf, "cap_io_eight", 8, b"new")
+        & has(alloc, shelf, "cap_io_none", 8, b"")
 }
 
-/// Stores over a file of such a shelf and anew, and loads again.
-fn stores_files<H: Shelf>(alloc: Global, shelf: &mut H) -> bool {
-    shelf.store(alloc, "cap_io_eight", b"new").is_ok()
-        && shelf.store(alloc, "cap_io_none", b"").is_ok()
-        && has(alloc, shelf, "cap_io_eight", 8, b"new")
-        && has(alloc, shelf, "cap_io_none", 8, b"")
+fn memory_keeps_files(alloc: Global) -> bool {
+    let Ok(files) = files(alloc) else {
+        return false;
+    };
+    let mut shelf = MemShelf::new(alloc, files, Vec::new(alloc));
+    let right = keeps_files(alloc, &mut shelf);
+    drop(shelf);
+    right
 }
 
-#[test]
-fn shelves_keep_files(rt: HostRuntime) -> Result<(), Fail> {
-    let alloc = rt.alloc();
-    let mut shelf = MemShelf::new(alloc, files(alloc)?, Vec::new(alloc));
-    assert!(rt; loads_files(alloc, &mut shelf) && stores_files(alloc, &mut shelf));
-    let mut shelf = CleanShelf::new(alloc, files(alloc)?);
-    assert!(rt; loads_files(alloc, &mut shelf) && stores_files(alloc, &mut shelf));
-    Ok(())
+fn clean_keeps_files(alloc: Global) -> bool {
+    let Ok(files) = files(alloc) else {
+        return false;
+    };
+    let mut shelf = CleanShelf::new(alloc, files);
+    let right = keeps_files(alloc, &mut shelf);
+    drop(shelf);
+    right
 }
 
-#[test]
-fn a_shelf_fails_where_it_is_told(rt: HostRuntime) -> Result<(), Fail> {
-    let alloc = rt.alloc();
+/// A shelf in memory that fails at its first call, and leaves 2 bytes of its third and all of its fourth.
+fn failing_shelf(alloc: Global) -> Result<MemShelf, AllocError> {
     let fails = vec![in alloc; (1, 0), (3, 2), (4, 9)]?;
-    let mut shelf = MemShelf::new(alloc, files(alloc)?, fails);
-    assert!(rt;
-        is_refused(alloc, &mut shelf, "cap_io_none", ShelfError::Failed)
-            && has(alloc, &mut shelf, "cap_io_eight", 8, b"12345678")
-    );
-    let first = shelf.store(alloc, "cap_io_eight", b"abc");
-    let second = shelf.store(alloc, "cap_io_none", b"abc");
-    assert!(rt; first == Err(ShelfError::Failed) && second == Err(ShelfError::Failed));
-    assert!(rt;
-        has(alloc, &mut shelf, "cap_io_eight", 8, b"ab")
-            && has(alloc, &mut shelf, "cap_io_none", 8, b"abc")
-    );
-    Ok(())
+    Ok(MemShelf::new(alloc, files(alloc)?, fails))
+}
+
+fn fails_where_it_is_told(alloc: Global) -> bool {
+    let Ok(mut shelf) = failing_shelf(alloc) else {
+        return false;
+    };
+    let right = is_refused(alloc, &mut shelf, "cap_io_none", ShelfError::Failed)
+        & has(alloc, &mut shelf, "cap_io_eight", 8, b"12345678")
+        & store_fails(alloc, &mut shelf, "cap_io_eight", b"abc")
+        & store_fails(alloc, &mut shelf, "cap_io_none", b"abc")
+        & has(alloc, &mut shelf, "cap_io_eight", 8, b"ab")
+        & has(alloc, &mut shelf, "cap_io_none", 8, b"abc");
+    drop(shelf);
+    right
+}
+
+#[test]
+fn shelves_keep_files(rt: HostRuntime) {
+    let alloc = rt.alloc();
+    assert!(rt; memory_keeps_files(alloc) & clean_keeps_files(alloc) & fails_where_it_is_told(alloc));
 }
 
 /// A stream whose second call fails, and which takes at most three bytes, and none at its fourth call.
@@ -207,35 +278,28 @@ impl Write for Flaky {
 }
 
 #[test]
-fn sources_fail_and_go_on(rt: HostRuntime) {
+fn streams_fail_and_go_on(rt: HostRuntime) {
     let mut source = StdSource::new(Flaky { calls: 0 });
     let mut block = *b"......";
-    assert!(rt; source.read(&mut block[..2]) == Ok(2) && block == *b"zz....");
-    assert!(rt; source.read(&mut block) == Err(Failed) && source.read(&mut block) == Ok(3));
-    assert!(rt; source.read(&mut block) == Ok(0) && block == *b"zzz...");
-}
-
-#[test]
-fn sinks_fail_and_go_on(rt: HostRuntime) {
+    let mut right = source.read(&mut block[..2]) == Ok(2) && block == *b"zz....";
+    right = right && source.read(&mut block) == Err(Failed) && source.read(&mut block) == Ok(3);
+    right = right && source.read(&mut block) == Ok(0) && block == *b"zzz...";
     let mut sink = StdSink::new(Flaky { calls: 0 });
-    assert!(rt; sink.write(b"abcdef") == Ok(3));
-    let first = put_two(&mut sink);
-    let second = put_two(&mut sink);
-    let want = [Err(SinkError::Failed), Ok(())];
-    assert!(rt; first == want && second == want);
+    right = right && sink.write(b"abcdef") == Ok(3);
+    right = right && put_two(&mut sink) == (FAILED, DONE) && put_two(&mut sink) == (FAILED, DONE);
+    assert!(rt; right);
 }
 
 #[test]
 fn the_present_folder_keeps_files(rt: HostRuntime) -> Result<(), Fail> {
     let alloc = rt.alloc();
     let mut shelf = DirShelf::new(rt);
-    shelf.store(alloc, "cap_io_eight", b"12345678")?;
-    shelf.store(alloc, "cap_io_nine", b"123456789")?;
-    assert!(rt; loads_files(alloc, &mut shelf) && stores_files(alloc, &mut shelf));
-    assert!(rt;
-        is_refused(alloc, &mut shelf, ".", ShelfError::Failed)
-            && shelf.store(alloc, ".", b"") == Err(ShelfError::Failed)
-    );
+    let right = stores(alloc, &mut shelf, "cap_io_eight", b"12345678")
+        & stores(alloc, &mut shelf, "cap_io_nine", b"123456789")
+        & keeps_files(alloc, &mut shelf)
+        & is_refused(alloc, &mut shelf, ".", ShelfError::Failed)
+        & store_fails(alloc, &mut shelf, ".", b"");
+    assert!(rt; right);
     for name in ["cap_io_eight", "cap_io_nine", "cap_io_none"] {
         std::fs::remove_file(&rt, name)?;
     }
@@ -245,9 +309,12 @@ fn the_present_folder_keeps_files(rt: HostRuntime) -> Result<(), Fail> {
 #[test]
 fn files_are_streams(rt: HostRuntime) -> Result<(), Fail> {
     let mut sink = StdSink::new(File::create(&rt, "cap_io_stream")?);
-    assert!(rt; put_two(&mut sink) == [Ok(()), Ok(())]);
+    let mut right = put_two(&mut sink) == (DONE, DONE);
+    drop(sink);
     let mut source = StdSource::new(File::open(&rt, "cap_io_stream")?);
-    assert!(rt; gives(rt.alloc(), &mut source, 3, b"abcdexyz", 0)?);
+    right = right && gives(rt.alloc(), &mut source, 3, b"abcdexyz", 0);
+    drop(source);
+    assert!(rt; right);
     std::fs::remove_file(&rt, "cap_io_stream")?;
     Ok(())
 }

@@ -1,132 +1,171 @@
 // Traces read from sources in memory, in pieces of several sizes and with reads that fail.
+ghost use Rattle.std.specs.Prelude.{◌≤◌};
+
 use cap_io::{CleanSource, MemSource, Source};
 use event_trace::{Event, EventKind, TraceError, TraceReader};
-use std::alloc::{AllocError, Global};
-use std::test::Fail;
+use std::alloc::Global;
 
-fn arrive(time: u64, value: u32) -> Event {
-    let kind = EventKind::Arrive { value };
-    Event { time, kind }
+// Where the channel of a message stands in a row, and not a channel: an arrival.
+const ARRIVAL: u32 = 64;
+
+// An event as numbers: its time, its channel or ARRIVAL, and its value.
+fn numbers_of(event: Event) -> (u64, u32, u32) {
+    match event.kind {
+        EventKind::Arrive { value } => (event.time, ARRIVAL, value),
+        EventKind::Message { channel, value } => (event.time, channel, value),
+    }
 }
 
-fn message(time: u64, channel: u32, value: u32) -> Event {
-    let kind = EventKind::Message { channel, value };
-    Event { time, kind }
+const NONE: (u64, u64, u64) = (0, 0, 0);
+const READ_FAULT: (u64, u64, u64) = (0, 1, 0);
+const LINE_2: (u64, u64, u64) = (2, 0, 0);
+const FALLING: (u64, u64, u64) = (2, 6, 7);
+
+// A refusal as numbers: the line, its time and the earlier one.
+fn refusal_of(error: TraceError) -> (u64, u64, u64) {
+    match error {
+        TraceError::Line { number } => (u64::from(number), 0, 0),
+        TraceError::Order {
+            number,
+            time,
+            earlier,
+        } => (u64::from(number), time, earlier),
+        TraceError::ReadFault => READ_FAULT,
+    }
 }
 
-/// What a reader gives in ten calls: the events, and the last refusal. An event behind a refusal would be among them.
-#[derive(Drop)]
-struct Given {
-    events: Vec<Event>,
-    refusal: Option<TraceError>,
-}
-
-fn read_ten<S: Source>(alloc: Global, source: &mut S) -> Result<Given, AllocError> {
-    let mut reader = TraceReader::new(alloc)?;
-    let mut events = Vec::new(alloc);
-    let mut refusal = None;
+// Whether a reader gives in ten calls these events and this last refusal. An event behind a refusal would be among them.
+fn gives<S: Source>(
+    alloc: Global,
+    source: &mut S,
+    want: &[(u64, u32, u32)],
+    refusal: (u64, u64, u64),
+) -> bool {
+    let Ok(mut reader) = TraceReader::new(alloc) else {
+        return false;
+    };
+    let mut left = want;
+    let mut same = true;
+    let mut last = NONE;
     for _ in 0..10 {
         match reader.next(source) {
-            Ok(Some(event)) => events.push(event)?,
+            Ok(Some(event)) => match left.split_first() {
+                Some((first, rest)) => {
+                    same = same && numbers_of(event) == *first;
+                    left = rest;
+                }
+                None => same = false,
+            },
             Ok(None) => {}
-            Err(error) => refusal = Some(error),
+            Err(error) => last = refusal_of(error),
         }
     }
-    Ok(Given { events, refusal })
+    drop(reader);
+    same && left.is_empty() && last == refusal
 }
 
-const TRACE: [u8; 134] = *b"arrive 0 0
+const TRACE: &[u8] = b"arrive 0 0
 data 0 0 -1
 arrive 5 -107
 data 1000000000000000 63 -2147483648
 arrive 1000000000000000 2147483647
 data 1000000000000000 7 9";
 
-#[test]
-fn events_come_in_order_whatever_the_pieces(rt: HostRuntime) -> Result<(), Fail> {
-    let want = [
-        arrive(0, 0),
-        message(0, 0, 4_294_967_295),
-        arrive(5, 4_294_967_189),
-        message(1_000_000_000_000_000, 63, 2_147_483_648),
-        arrive(1_000_000_000_000_000, 2_147_483_647),
-        message(1_000_000_000_000_000, 7, 9),
-    ];
-    for per_call in [1u32, 2, 3, 100] {
-        let bytes = TRACE.to_vec(rt.alloc())?;
-        let mut source = MemSource::new(bytes, per_call.max(1), Vec::new(rt.alloc()));
-        let given = read_ten(rt.alloc(), &mut source)?;
-        assert!(rt;
-            given.events.as_slice() == want.as_slice() && given.refusal.is_none(),
-            "{per_call} bytes a call"
-        );
-    }
-    Ok(())
-}
-
-const LINE: TraceError = TraceError::Line { number: 2 };
-
-const FALLING: TraceError = TraceError::Order {
-    number: 2,
-    time: 6,
-    earlier: 7,
-};
-
-// A line behind one of time 7, and its refusal. The last but one has 65 bytes.
-const REFUSED: [(&[u8], TraceError); 21] = [
-    (b"", LINE),
-    (b" ", LINE),
-    (b"arrive  7 1", LINE),
-    (b"arrive 7  1", LINE),
-    (b" arrive 7 1", LINE),
-    (b"arrive 7 1 ", LINE),
-    (b"arrive 7", LINE),
-    (b"arrive 7 ", LINE),
-    (b"arrive", LINE),
-    (b"Arrive 7 1", LINE),
-    (b"arrive 07 1", LINE),
-    (b"arrive 7 01", LINE),
-    (b"arrive 7 -0", LINE),
-    (b"arrive 7 +1", LINE),
-    (b"arrive 7 2147483648", LINE),
-    (b"arrive 1000000000000001 0", LINE),
-    (b"data 7 64 0", LINE),
-    (b"data 7 0", LINE),
-    (b"arrive 7 1\r", LINE),
-    (
-        b"11111111111111111111111111111111111111111111111111111111111111111",
-        LINE,
-    ),
-    (b"arrive 6 0", FALLING),
+const EVENTS: &[(u64, u32, u32)] = &[
+    (0, ARRIVAL, 0),
+    (0, 0, 4_294_967_295),
+    (5, ARRIVAL, 4_294_967_189),
+    (1_000_000_000_000_000, 63, 2_147_483_648),
+    (1_000_000_000_000_000, ARRIVAL, 2_147_483_647),
+    (1_000_000_000_000_000, 7, 9),
 ];
 
-#[test]
-fn other_lines_are_refused_for_good(rt: HostRuntime) -> Result<(), Fail> {
-    for (line, want) in REFUSED {
-        let mut text = b"arrive 7 7\n".to_vec(rt.alloc())?;
-        text.extend_from_slice(line)?;
-        text.extend_from_slice(b"\narrive 8 8\n")?;
-        let given = read_ten(rt.alloc(), &mut CleanSource::new(text))?;
-        assert!(rt;
-            given.events.as_slice() == [arrive(7, 7)].as_slice() && given.refusal == Some(want),
-            "line {line:?}"
-        );
-    }
-    Ok(())
+// Whether a source of the bytes that gives so many a call and fails at these calls gives these events and this refusal.
+fn memory_gives(
+    alloc: Global,
+    bytes: &[u8],
+    per_call: u32,
+    fails: &[u64],
+    want: &[(u64, u32, u32)],
+    refusal: (u64, u64, u64),
+) -> bool
+    requires { 1 ≤ per_call }
+{
+    let Ok(bytes) = Vec::from_slice(alloc, bytes) else {
+        return false;
+    };
+    let Ok(fails) = Vec::from_slice(alloc, fails) else {
+        drop(bytes);
+        return false;
+    };
+    let mut source = MemSource::new(bytes, per_call, fails);
+    let right = gives(alloc, &mut source, want, refusal);
+    drop(source);
+    right
 }
 
 #[test]
-fn each_read_may_fail(rt: HostRuntime) -> Result<(), Fail> {
-    // The eleven reads of a line of eleven bytes, and the one that meets the end.
-    for call in 1u64..=12 {
-        let fails = vec![in rt.alloc(); call]?;
-        let mut source = MemSource::new(b"arrive 0 7\n".to_vec(rt.alloc())?, 1, fails);
-        let given = read_ten(rt.alloc(), &mut source)?;
-        assert!(rt;
-            given.events.len() == (if call <= 11 { 0 } else { 1 })
-                && given.refusal == Some(TraceError::ReadFault),
-            "at read {call}"
-        );
+fn events_come_in_order_whatever_the_pieces(rt: HostRuntime) {
+    let mut right = true;
+    for per_call in [1, 2, 3, 100] {
+        right = right && memory_gives(rt.alloc(), TRACE, per_call, &[], EVENTS, NONE);
     }
-    Ok(())
+    assert!(rt; right);
+}
+
+// Lines behind one of time 7. The last has 65 bytes.
+const REFUSED: &[&[u8]] = &[
+    b"",
+    b" ",
+    b"arrive  7 1",
+    b"arrive 7  1",
+    b" arrive 7 1",
+    b"arrive 7 1 ",
+    b"arrive 7",
+    b"arrive 7 ",
+    b"arrive",
+    b"Arrive 7 1",
+    b"arrive 07 1",
+    b"arrive 7 01",
+    b"arrive 7 -0",
+    b"arrive 7 +1",
+    b"arrive 7 2147483648",
+    b"arrive 1000000000000001 0",
+    b"data 7 64 0",
+    b"data 7 0",
+    b"arrive 7 1\r",
+    b"11111111111111111111111111111111111111111111111111111111111111111",
+];
+
+// Whether a line behind one of time 7 is refused so, for good.
+fn is_refused(alloc: Global, line: &[u8], refusal: (u64, u64, u64)) -> bool {
+    let mut text = Vec::new(alloc);
+    let whole = text.extend_from_slice(b"arrive 7 7\n").is_ok()
+        && text.extend_from_slice(line).is_ok()
+        && text.extend_from_slice(b"\narrive 8 8\n").is_ok();
+    let mut source = CleanSource::new(text);
+    let right = gives(alloc, &mut source, &[(7, ARRIVAL, 7)], refusal);
+    drop(source);
+    whole && right
+}
+
+#[test]
+fn other_lines_are_refused_for_good(rt: HostRuntime) {
+    let mut right = is_refused(rt.alloc(), b"arrive 6 0", FALLING);
+    for line in REFUSED {
+        right = right && is_refused(rt.alloc(), line, LINE_2);
+    }
+    assert!(rt; right);
+}
+
+#[test]
+fn each_read_may_fail(rt: HostRuntime) {
+    let alloc = rt.alloc();
+    let line = b"arrive 0 7\n";
+    // The read that meets the end, and the eleven reads of a line of eleven bytes.
+    let mut right = memory_gives(alloc, line, 1, &[12], &[(0, ARRIVAL, 7)], READ_FAULT);
+    for call in 1..=11 {
+        right = right && memory_gives(alloc, line, 1, &[call], &[], READ_FAULT);
+    }
+    assert!(rt; right);
 }

@@ -1,6 +1,6 @@
 use Rattle.std.proofs.Common.{◌≡◌}
 use Rattle.stack_image.specs.Reading.{words_of}
-use Rattle.stack_image.proofs.reading.words_of.Given as goal
+use Rattle.stack_image.proofs.reading.push_words.Given as goal
 
 abbrev pub invariant-loop-place : goal.invariant-loop-place
 invariant-loop-place l = l.words.items ≡ words_of l.place l.bytes

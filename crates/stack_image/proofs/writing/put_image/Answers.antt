@@ -1,6 +1,6 @@
 use Rattle.std.proofs.Common.{subst}
 use Rattle.stack_image.proofs.WordBytes.{AreWords}
-use Rattle.stack_image.proofs.writing.write_image.Goals as goal
+use Rattle.stack_image.proofs.writing.put_image.Goals as goal
 
 pub returns-clause-words : goal.returns-clause-words
 returns-clause-words c = record {

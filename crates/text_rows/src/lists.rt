@@ -1,0 +1,178 @@
+// Lists of words: those that are refused, and those with the command that they ask for, from the table of commands and
+// options.
+use command_words::{Command, Placement, Policy, WordsError, read_words};
+use std::alloc::{AllocError, Global};
+
+// Lists that are no word list: one a line, with a blank between the words.
+const REFUSED: &str = "help
+serve
+serve P Q
+serve P --fuel 05
+serve P --fuel=5
+serve P --chunk 72
+serve P --fuel 1 --fuel 1
+serve P --max-path 4081
+serve P --caps 2=1,1=1
+demo 0
+demo 1001
+demo 1 --fuel 1
+Serve P
+P serve
+--fuel 1 serve P
+serve P --fuel
+serve --fuel --chunk 64 P
+serve P --
+serve P -h
+serve P --help
+serve -P
+serve P  --fuel 1
+serve P --chunk 48
+serve P --max-path 15
+serve P --chunks 0
+serve P --fuel 1000000001
+serve P --backlog 4097
+serve P --high 500
+serve P --low 900
+serve P --caps 8=1
+serve P --caps 1=1,
+serve P --chunk 65536 --chunks 1025
+run P I C --chunk 64
+build P I
+check P I C D";
+
+const PLACEMENT: Placement = Placement {
+    chunk: 4096,
+    max_path: 2032,
+};
+
+const POLICY: Policy = Policy {
+    chunks: 1024,
+    fuel: 10_000_000,
+    backlog: 64,
+    caps: [0; 8],
+    high: 900,
+    low: 700,
+};
+
+// The words of a line.
+fn words_of(alloc: Global, line: &str) -> Result<Vec<String>, AllocError> {
+    let mut words = Vec::new(alloc);
+    for word in line.split(' ') {
+        words.push(String::from_str(alloc, word)?)?;
+    }
+    Ok(words)
+}
+
+// Whether the words of a line are refused.
+fn is_refused(alloc: Global, line: &str) -> bool {
+    let Ok(words) = words_of(alloc, line) else {
+        return false;
+    };
+    let refused = matches!(read_words(alloc, &words), Err(WordsError::NotWords));
+    drop(words);
+    refused
+}
+
+#[test]
+fn other_words_are_refused(rt: HostRuntime) {
+    let alloc = rt.alloc();
+    let none = Vec::new(alloc);
+    let mut right = matches!(read_words(alloc, &none), Err(WordsError::NotWords));
+    drop(none);
+    for line in REFUSED.split('\n') {
+        right = right && is_refused(alloc, line);
+    }
+    assert!(rt; right);
+}
+
+// Whether the words of a line ask for this command.
+fn asks(alloc: Global, line: &str, want: &Command<'_>) -> bool {
+    let Ok(words) = words_of(alloc, line) else {
+        return false;
+    };
+    let asked = match read_words(alloc, &words) {
+        Ok(command) => command == *want,
+        Err(_) => false,
+    };
+    drop(words);
+    asked
+}
+
+const SERVE: Command<'static> = Command::Serve {
+    source: "P",
+    placement: PLACEMENT,
+    policy: POLICY,
+};
+
+const SERVE_SMALL: Command<'static> = Command::Serve {
+    source: "P",
+    placement: Placement {
+        chunk: 64,
+        max_path: 48,
+    },
+    policy: Policy {
+        chunks: 128,
+        ..POLICY
+    },
+};
+
+const RUN: Command<'static> = Command::Run {
+    source: "P",
+    image: "I",
+    certificate: "C",
+    policy: Policy {
+        chunks: 65_536,
+        fuel: 0,
+        backlog: 1,
+        caps: [0, 3, 0, 0, 0, 0, 0, 1_000_000],
+        high: 1,
+        low: 0,
+    },
+};
+
+const BUILD: Command<'static> = Command::Build {
+    source: "P",
+    image: "I",
+    certificate: "C",
+    placement: Placement {
+        chunk: 96,
+        max_path: 32,
+    },
+};
+
+const CHECK: Command<'static> = Command::Check {
+    source: "P",
+    image: "I",
+    certificate: "C",
+};
+
+const GRAPH: Command<'static> = Command::Graph {
+    source: "P",
+    placement: Placement {
+        chunk: 4096,
+        max_path: 4080,
+    },
+};
+
+const DEMO: Command<'static> = Command::Demo { number: 1000 };
+
+#[test]
+fn word_lists_ask_for_a_command(rt: HostRuntime) {
+    let alloc = rt.alloc();
+    let right = asks(alloc, "serve P", &SERVE)
+        & asks(
+            alloc,
+            "serve --chunk 64 P --max-path 48 --chunks 128",
+            &SERVE_SMALL,
+        )
+        & asks(
+            alloc,
+            "run --caps 1=3,7=1000000 P --fuel 0 I --backlog 1 C --high 1 --low 0 --chunks 65536",
+            &RUN,
+        )
+        & asks(alloc, "build P I C --chunk 96", &BUILD)
+        & asks(alloc, "check P I C", &CHECK)
+        & asks(alloc, "graph --max-path 4080 P", &GRAPH)
+        & asks(alloc, "demo 1000", &DEMO);
+    assert!(rt; right);
+}
