@@ -187,11 +187,18 @@ fn words_of_instructions(rt: HostRuntime) {
     }
 }
 
+fn none_decodes(words: &[u32]) -> bool {
+    for word in words {
+        if decode(*word).is_some() {
+            return false;
+        }
+    }
+    true
+}
+
 #[test]
 fn no_row_fits(rt: HostRuntime) {
-    for word in OF_NO_ROW {
-        assert!(rt; decode(word).is_none());
-    }
+    assert!(rt; none_decodes(&OF_NO_ROW));
 }
 
 // Counts and upper immediates come back as they went in.

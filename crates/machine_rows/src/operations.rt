@@ -261,19 +261,19 @@ fn has_value(
     is_so
 }
 
-fn expressions(alloc: Global) -> Result<bool, AllocError> {
-    for (expression, value, retired) in EXPRESSIONS {
-        if !has_value(alloc, expression, value, retired)? {
+fn expressions(alloc: Global, rows: &[(&[u8], u32, u64)]) -> Result<bool, AllocError> {
+    for (expression, value, retired) in rows {
+        if !has_value(alloc, *expression, *value, *retired)? {
             return Ok(false);
         }
     }
     Ok(true)
 }
 
-fn statements(alloc: Global) -> Result<bool, AllocError> {
-    for (source, value, retired) in PUTS {
-        let want = asked(Ask::Put { value }, value, retired, 4);
-        if !comes_to(alloc, source, WIDE, 4, want)? {
+fn statements(alloc: Global, rows: &[(&[u8], u32, u64)]) -> Result<bool, AllocError> {
+    for (source, value, retired) in rows {
+        let want = asked(Ask::Put { value: *value }, *value, *retired, 4);
+        if !comes_to(alloc, *source, WIDE, 4, want)? {
             return Ok(false);
         }
     }
@@ -290,30 +290,34 @@ fn linked_calls(alloc: Global) -> Result<bool, AllocError> {
     Ok(true)
 }
 
-fn answered_calls(alloc: Global) -> Result<bool, AllocError> {
-    for (source, ask, sum, retired) in ASKS {
-        let want = asked(ask, sum, retired, 4);
-        if !comes_to(alloc, source, WIDE, 4, want)? {
+fn answered_calls(alloc: Global, rows: &[(&[u8], Ask, u32, u64)]) -> Result<bool, AllocError> {
+    for (source, ask, sum, retired) in rows {
+        let want = asked(*ask, *sum, *retired, 4);
+        if !comes_to(alloc, *source, WIDE, 4, want)? {
             return Ok(false);
         }
     }
     Ok(true)
 }
 
-fn blocking_calls(alloc: Global) -> Result<bool, AllocError> {
-    for (source, block, retired) in BLOCKS {
-        let want = stopped(Segment::Blocks { block }, Some(SiteKey::new(&[0])), retired);
-        if !comes_to(alloc, source, WIDE, 4, want)? {
+fn blocking_calls(alloc: Global, rows: &[(&[u8], Block, u64)]) -> Result<bool, AllocError> {
+    for (source, block, retired) in rows {
+        let want = stopped(
+            Segment::Blocks { block: *block },
+            Some(SiteKey::new(&[0])),
+            *retired,
+        );
+        if !comes_to(alloc, *source, WIDE, 4, want)? {
             return Ok(false);
         }
     }
     Ok(true)
 }
 
-fn traps(alloc: Global) -> Result<bool, AllocError> {
-    for (source, kind, retired) in TRAPS {
-        let want = stopped(Segment::Traps { kind }, None, retired);
-        if !comes_to(alloc, source, WIDE, 4, want)? {
+fn traps(alloc: Global, rows: &[(&[u8], TrapKind, u64)]) -> Result<bool, AllocError> {
+    for (source, kind, retired) in rows {
+        let want = stopped(Segment::Traps { kind: *kind }, None, *retired);
+        if !comes_to(alloc, *source, WIDE, 4, want)? {
             return Ok(false);
         }
     }
@@ -323,7 +327,11 @@ fn traps(alloc: Global) -> Result<bool, AllocError> {
 #[test]
 fn operations(rt: HostRuntime) -> Result<(), Fail> {
     let alloc = rt.alloc();
-    assert!(rt; expressions(alloc)? && statements(alloc)? && linked_calls(alloc)?);
-    assert!(rt; answered_calls(alloc)? && blocking_calls(alloc)? && traps(alloc)?);
+    assert!(rt;
+        expressions(alloc, &EXPRESSIONS)? && statements(alloc, &PUTS)? && linked_calls(alloc)?
+    );
+    assert!(rt;
+        answered_calls(alloc, &ASKS)? && blocking_calls(alloc, &BLOCKS)? && traps(alloc, &TRAPS)?
+    );
     Ok(())
 }

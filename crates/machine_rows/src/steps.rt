@@ -177,20 +177,47 @@ fn calls_and_links(alloc: Global) -> Result<bool, AllocError> {
     )
 }
 
+fn all_fail(alloc: Global, rows: &[(u32, u32, FaultKind)]) -> Result<bool, AllocError> {
+    for (word, pc, kind) in rows {
+        if !fails(alloc, *word, *pc, *kind)? {
+            return Ok(false);
+        }
+    }
+    Ok(true)
+}
+
+fn all_leave(alloc: Global, rows: &[(u32, u32, u32)]) -> Result<bool, AllocError> {
+    for (word, value, pc) in rows {
+        if !leaves(alloc, *word, *value, *pc)? {
+            return Ok(false);
+        }
+    }
+    Ok(true)
+}
+
+fn all_store(alloc: Global, rows: &[(u32, [u8; 4])]) -> Result<bool, AllocError> {
+    for (word, bytes) in rows {
+        if !stores(alloc, *word, *bytes)? {
+            return Ok(false);
+        }
+    }
+    Ok(true)
+}
+
+fn all_store_in_words(alloc: Global, rows: &[(u32, u32, u32)]) -> Result<bool, AllocError> {
+    for (word, first, second) in rows {
+        if !stores_in_words(alloc, *word, *first, *second)? {
+            return Ok(false);
+        }
+    }
+    Ok(true)
+}
+
 #[test]
 fn steps(rt: HostRuntime) -> Result<(), Fail> {
-    for (word, pc, kind) in FAULTS {
-        assert!(rt; fails(rt.alloc(), word, pc, kind)?);
-    }
-    for (word, value, pc) in REGISTERS {
-        assert!(rt; leaves(rt.alloc(), word, value, pc)?);
-    }
-    for (word, bytes) in STORES {
-        assert!(rt; stores(rt.alloc(), word, bytes)?);
-    }
-    for (word, first, second) in WORDS {
-        assert!(rt; stores_in_words(rt.alloc(), word, first, second)?);
-    }
-    assert!(rt; calls_and_links(rt.alloc())?);
+    let alloc = rt.alloc();
+    assert!(rt; all_fail(alloc, &FAULTS)? && all_leave(alloc, &REGISTERS)?);
+    assert!(rt; all_store(alloc, &STORES)? && all_store_in_words(alloc, &WORDS)?);
+    assert!(rt; calls_and_links(alloc)?);
     Ok(())
 }
