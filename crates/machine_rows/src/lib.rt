@@ -1,22 +1,35 @@
-// Rows over the public calls of the operators on words, of the instructions, of the machine's step and of the pool.
+// Rows over the public calls of the operators on words, of the instructions, of the machine's step, of the pool and of
+// segments.
 //
 // `Ram` and `WordRam` are memories for the rows, kept by bytes and by words: the second reads and writes whole words, has
-// numbers that are no memory, and shows what a memory above the machine has to prove. `words` has the public suite's rows
-// of each operator, `instructions` compares words with the manual's vectors, `steps` has each fault, extension, store and
-// link, and `pools` a pool that is taken dry and given back in another order, and addresses worked out by hand.
+// numbers that are no memory, and shows what a memory above the machine has to prove. `accepted_of` builds a source,
+// `begin` starts its `main` over a pool of chunks, and `run_on` runs that to where it ends, blocks or can't go on; a
+// benchmark uses them too. The rest is tests: `words` has the public suite's rows of each operator, `instructions` the
+// manual's vectors, `steps` each fault, extension, store and link, `pools` links and addresses worked out by hand,
+// `recursions`, `operations` and `stops` programs run as segments, each with counts worked out by hand from the templates.
 #![tactic(auto)]
 
 mod ram;
+mod runs;
 mod word_ram;
 
 pub use ram::Ram;
+pub use runs::{Begun, Outcome, accepted_of, begin, run_on};
 pub use word_ram::WordRam;
 
 #[cfg(test)]
+mod cases;
+#[cfg(test)]
 mod instructions;
+#[cfg(test)]
+mod operations;
 #[cfg(test)]
 mod pools;
 #[cfg(test)]
+mod recursions;
+#[cfg(test)]
 mod steps;
+#[cfg(test)]
+mod stops;
 #[cfg(test)]
 mod words;

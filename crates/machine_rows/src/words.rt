@@ -108,10 +108,17 @@ const ROWS: [(Operation, u32, u32, u32); 62] = [
     (Operation::Remu, 1, 0, 1),
 ];
 
+// Whether each row's third word is that of its operation.
+fn all_hold(rows: &[(Operation, u32, u32, u32)]) -> bool {
+    for (operation, a, b, want) in rows {
+        if of_two(*operation, *a, *b) != *want {
+            return false;
+        }
+    }
+    true
+}
+
 #[test]
 fn two_words_give_a_third(rt: HostRuntime) {
-    for (operation, a, b, want) in ROWS {
-        let result = of_two(operation, a, b);
-        assert!(rt; result == want, "of {a} and {b}: {result}");
-    }
+    assert!(rt; all_hold(&ROWS));
 }

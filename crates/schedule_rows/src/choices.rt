@@ -1,20 +1,21 @@
 // Threads that wait, and which of them goes on next.
 
 ghost use Rattle.std.specs.Prelude.{◌≡◌, ◌==◌, ◌+◌, ◌^◌, ◌<◌, ◌≤◌, true};
-ghost use Rattle.blocking_graph.specs.Graph.{IsSegment};
+ghost use Rattle.blocking_graph.specs.Graph.{empty_graph, IsSegment};
+ghost use Rattle.scheduler.specs.State.{started};
 ghost use Rattle.resource_monitor.specs.Pressure.{AnswersCurve, IsReading, curve_value};
 ghost use Rattle.resource_monitor.specs.declared.curves.Curve.TheVariants.{Linear};
 
+use crate::monitors::{gate_follows, gauges_of};
 use blocking_graph::{Graph, SegmentRecord};
 use cap_word::{Ready, ThreadId};
-use resource_monitor::{Curve, Gauge, Measure, Monitor};
+use resource_monitor::{Measure, Monitor};
 use scheduler::{Choice, Scheduler};
 use std::alloc::{AllocError, Global};
-use std::process::Abort;
 use std::test::Fail;
 
 /// A world in which one thread is at `accept`, and every thread is ready.
-#[derive(Drop)]
+#[derive(Clone, Copy)]
 struct OneArrival {
     arrival: u32,
     elsewhere: bool,
@@ -48,10 +49,7 @@ fn thread(number: u32) -> ThreadId {
 fn full_monitor<C: Measure + Copy>(alloc: Global, call: C) -> Result<Monitor<C>, AllocError>
     requires { AnswersCurve (C.can_measure call) (C.measure_gives call) Linear }
 {
-    let mut gauges = Vec::new(alloc);
-    for _ in 0..8usize {
-        gauges.push(Gauge::new(Curve::Linear, call))?;
-    }
+    let gauges = gauges_of(alloc, call)?;
     let mut monitor = Monitor::new(gauges, [0, 1, 0, 0, 0, 0, 0, 0], 900, 700);
     monitor.observe([0, 1, 0, 0, 0, 0, 0, 0]);
     Ok(monitor)
@@ -100,56 +98,64 @@ fn one_arrival(elsewhere: bool) -> OneArrival {
     }
 }
 
-// Node 2 has the lesser number, and is then the one that was taken earlier.
+// Whether the nodes go by number: node 2 has the lesser one, and is then the one that was taken earlier.
 fn go_by_number<C: Measure>(
-    rt: &impl Abort,
-    alloc: Global,
+    scheduler: &mut Scheduler,
+    graph: &Graph,
     monitor: &Monitor<C>,
-) -> Result<(), Fail> {
-    let graph = Graph::new(alloc);
-    let mut scheduler = Scheduler::new(alloc);
+) -> Result<bool, AllocError>
+    requires { scheduler.old ≡ started }
+{
     let world = one_arrival(true);
     scheduler.enqueue(4, thread(1))?;
     scheduler.enqueue(2, thread(0))?;
-    let first = take_next(&mut scheduler, &graph, monitor, &world);
-    assert!(rt; is_of(first, 0, 2));
-    let second = take_next(&mut scheduler, &graph, monitor, &world);
-    assert!(rt; is_of(second, 1, 4));
-    assert!(rt; scheduler.choose(&graph, monitor, &world).is_none());
-    Ok(())
+    let first = take_next(scheduler, graph, monitor, &world);
+    let second = take_next(scheduler, graph, monitor, &world);
+    let third = scheduler.choose(graph, monitor, &world);
+    Ok(is_of(first, 0, 2) && is_of(second, 1, 4) && third.is_none())
 }
 
-// The arrival of node 2 waits while another thread is ready, and goes first where none is. A segment from
+// Whether the arrival of node 2 waits while another thread is ready, and goes first where none is, and whether a segment from
 // node 4 that is expected to release the resource goes before it.
 fn arrivals_wait<C: Measure>(
-    rt: &impl Abort,
-    alloc: Global,
+    scheduler: &mut Scheduler,
+    graph: &mut Graph,
     monitor: &Monitor<C>,
-) -> Result<(), Fail> {
-    let mut graph = Graph::new(alloc);
-    let mut scheduler = Scheduler::new(alloc);
+) -> Result<bool, AllocError>
+    requires { graph.old ≡ empty_graph }
+{
     scheduler.enqueue(2, thread(9))?;
     scheduler.enqueue(4, thread(3))?;
-    assert!(rt; is_of(scheduler.choose(&graph, monitor, &one_arrival(true)), 3, 4));
-    assert!(rt; is_of(scheduler.choose(&graph, monitor, &one_arrival(false)), 9, 2));
+    let held = scheduler.choose(graph, monitor, &one_arrival(true));
+    let alone = scheduler.choose(graph, monitor, &one_arrival(false));
     graph.note(releasing())?;
-    assert!(rt; is_of(scheduler.choose(&graph, monitor, &one_arrival(false)), 3, 4));
-    Ok(())
+    let behind = scheduler.choose(graph, monitor, &one_arrival(false));
+    Ok(is_of(held, 3, 4) && is_of(alone, 9, 2) && is_of(behind, 3, 4))
 }
 
-fn follow_turns<C: Measure + Copy>(rt: &impl Abort, alloc: Global, call: C) -> Result<(), Fail>
+// Both, each with a scheduler of its own.
+fn go_in_turn<C: Measure + Copy>(alloc: Global, call: C) -> Result<bool, AllocError>
     requires { AnswersCurve (C.can_measure call) (C.measure_gives call) Linear }
 {
     let monitor = full_monitor(alloc, call)?;
-    go_by_number(rt, alloc, &monitor)?;
-    arrivals_wait(rt, alloc, &monitor)
+    let mut graph = Graph::new(alloc);
+    let mut one = Scheduler::new(alloc);
+    let by_number = go_by_number(&mut one, &graph, &monitor);
+    let mut other = Scheduler::new(alloc);
+    let arrivals = arrivals_wait(&mut other, &mut graph, &monitor);
+    drop(one);
+    drop(other);
+    drop(graph);
+    drop(monitor);
+    Ok(by_number? && arrivals?)
 }
 
 #[test]
-fn threads_go_on_in_turn(rt: HostRuntime) -> Result<(), Fail> {
+fn choices(rt: HostRuntime) -> Result<(), Fail> {
     let linear = |used: u32, cap: u32| -> u32
         requires { IsReading used cap }
         ensures { result ≡ curve_value Linear used cap }
     { 1000 * used / cap };
-    follow_turns(&rt, rt.alloc(), linear)
+    assert!(rt; go_in_turn(rt.alloc(), linear)? && gate_follows(rt.alloc(), linear)?);
+    Ok(())
 }

@@ -1,50 +1,64 @@
 // Keys and their numbers, records and their edges.
 
-ghost use Rattle.std.specs.Prelude.{◌≤◌, ◌<◌, ◌^◌, unsigned_abs};
-ghost use Rattle.blocking_graph.specs.Graph.{IsSegment};
+ghost use Rattle.std.specs.Prelude.{◌≡◌, ◌≤◌, ◌<◌, ◌+◌, ◌^◌, unsigned_abs, OnOk};
+ghost use Rattle.blocking_graph.specs.Edges.{count_of};
+ghost use Rattle.blocking_graph.specs.Graph.{empty_graph};
 
 use blocking_graph::{EdgeLine, Graph, SegmentRecord};
 use cap_word::SiteKey;
+use std::alloc::{AllocError, Global};
 use std::test::Fail;
 
-fn segment(from: u32, to: u32, cost: u64, change: i64) -> SegmentRecord
+// Takes in a segment that changes the use of resource 1.
+fn note(graph: &mut Graph, from: u32, to: u32, cost: u64, change: i64) -> Result<(), AllocError>
     requires cost { cost < 2 ^ 40 }
     requires change { unsigned_abs change ≤ 2 ^ 31 }
-    ensures { IsSegment result }
+    requires room { count_of graph.old.edges < 2 ^ 40 }
+    ensures { OnOk result (count_of graph.new.edges ≡ count_of graph.old.edges + 1) }
 {
-    SegmentRecord {
+    graph.note(SegmentRecord {
         from,
         to,
         cost,
         change: [0, change, 0, 0, 0, 0, 0, 0],
-    }
+    })
 }
 
-#[test]
-fn keys_are_their_sites(rt: HostRuntime) {
+fn keys_are_their_sites() -> bool {
     let full = SiteKey::new(&[1, 2, 3, 4, 5, 6, 7, 8]);
-    assert!(rt; full.length() == 8 && full.site(0) == 1 && full.site(7) == 8);
     let key = SiteKey::new(&[7, 0]);
-    assert!(rt; key.sites() == [7, 0].as_slice() && key != SiteKey::new(&[7, 0, 0]));
+    full.length() == 8
+        && full.site(0) == 1
+        && full.site(7) == 8
+        && key.sites() == [7, 0].as_slice()
+        && key != SiteKey::new(&[7, 0, 0])
 }
 
-#[test]
-fn keys_are_numbered_from_2(rt: HostRuntime) -> Result<(), Fail> {
-    let mut graph = Graph::new(rt.alloc());
+// The numbers of four keys, of which the third is the first.
+fn numbers_in(graph: &mut Graph) -> Result<[u32; 4], AllocError>
+    requires { graph.old ≡ empty_graph }
+{
     let first = graph.node_of(&SiteKey::new(&[7, 3]))?;
     let shorter = graph.node_of(&SiteKey::new(&[7]))?;
     let again = graph.node_of(&SiteKey::new(&[7, 3]))?;
     let turned = graph.node_of(&SiteKey::new(&[3, 7]))?;
-    assert!(rt; [first, shorter, again, turned] == [2, 3, 2, 4]);
-    Ok(())
+    Ok([first, shorter, again, turned])
 }
 
-#[test]
-fn an_edge_has_its_count_and_averages(rt: HostRuntime) -> Result<(), Fail> {
-    let mut graph = Graph::new(rt.alloc());
-    graph.note(segment(0, 2, 8, -1))?;
-    graph.note(segment(0, 2, 16, 0))?;
+// Whether the only edge is that one.
+fn has_edge(graph: &Graph, edge: EdgeLine) -> Result<bool, AllocError> {
     let edges = graph.edges()?;
+    let is_so = edges.as_slice() == [edge].as_slice();
+    drop(edges);
+    Ok(is_so)
+}
+
+// Whether an edge has its count and averages.
+fn has_averages(graph: &mut Graph) -> Result<bool, AllocError>
+    requires { graph.old ≡ empty_graph }
+{
+    note(graph, 0, 2, 8, -1)?;
+    note(graph, 0, 2, 16, 0)?;
     let edge = EdgeLine {
         from: 0,
         to: 2,
@@ -52,18 +66,36 @@ fn an_edge_has_its_count_and_averages(rt: HostRuntime) -> Result<(), Fail> {
         cost: 2304,
         change: [0, -224, 0, 0, 0, 0, 0, 0],
     };
-    assert!(rt; edges.as_slice() == [edge].as_slice());
-    assert!(rt; graph.predicted(0, 1) == -224 && graph.predicted(2, 1) == 0);
-    Ok(())
+    let is_edge = has_edge(graph, edge)?;
+    Ok(is_edge && graph.predicted(0, 1) == -224 && graph.predicted(2, 1) == 0)
+}
+
+// Whether predictions are weighted by counts.
+fn is_weighted(graph: &mut Graph) -> Result<bool, AllocError>
+    requires { graph.old ≡ empty_graph }
+{
+    note(graph, 4, 4, 5, 0)?;
+    note(graph, 4, 2, 5, -1)?;
+    note(graph, 4, 2, 5, -1)?;
+    note(graph, 4, 2, 5, -1)?;
+    Ok(graph.predicted(4, 1) == -192 && graph.predicted(4, 0) == 0)
+}
+
+fn graphs_are_right(alloc: Global) -> Result<bool, AllocError> {
+    let mut of_keys = Graph::new(alloc);
+    let numbers = numbers_in(&mut of_keys);
+    drop(of_keys);
+    let mut of_one = Graph::new(alloc);
+    let averages = has_averages(&mut of_one);
+    drop(of_one);
+    let mut of_two = Graph::new(alloc);
+    let weighted = is_weighted(&mut of_two);
+    drop(of_two);
+    Ok(numbers? == [2, 3, 2, 4] && averages? && weighted?)
 }
 
 #[test]
-fn predictions_are_weighted_by_counts(rt: HostRuntime) -> Result<(), Fail> {
-    let mut graph = Graph::new(rt.alloc());
-    graph.note(segment(4, 4, 5, 0))?;
-    graph.note(segment(4, 2, 5, -1))?;
-    graph.note(segment(4, 2, 5, -1))?;
-    graph.note(segment(4, 2, 5, -1))?;
-    assert!(rt; graph.predicted(4, 1) == -192 && graph.predicted(4, 0) == 0);
+fn graphs(rt: HostRuntime) -> Result<(), Fail> {
+    assert!(rt; keys_are_their_sites() && graphs_are_right(rt.alloc())?);
     Ok(())
 }

@@ -1,13 +1,11 @@
 // Uses, the pressures that they give, and the gate after them.
 
-ghost use Rattle.std.specs.Prelude.{◌≡◌, ◌≤◌, [], ◌∷◌};
-ghost use Rattle.resource_monitor.specs.Pressure.{AnswersCurve, IsReading, curve_value};
+ghost use Rattle.std.specs.Prelude.{◌≡◌, ◌≤◌, [], ◌∷◌, IfOk, vec_len};
+ghost use Rattle.resource_monitor.specs.Pressure.{AnswersCurve};
 ghost use Rattle.resource_monitor.specs.declared.curves.Curve.TheVariants.{Linear};
 
 use resource_monitor::{Curve, Gauge, Measure, Monitor};
-use std::alloc::Global;
-use std::process::Abort;
-use std::test::Fail;
+use std::alloc::{AllocError, Global};
 
 // Caps of 10 for resource 1 and of 3 for resource 2: the uses of both, the pressures that they give,
 // and the gate after them.
@@ -20,6 +18,21 @@ const ROWS: [(u32, u32, u32, u32, bool); 6] = [
     (0, 2, 0, 666, true),
 ];
 
+/// A gauge for each of the eight resources.
+pub(crate) fn gauges_of<C: Measure + Copy>(
+    alloc: Global,
+    call: C,
+) -> Result<Vec<Gauge<C>>, AllocError>
+    requires { AnswersCurve (C.can_measure call) (C.measure_gives call) Linear }
+    ensures { IfOk result (λ gauges. vec_len gauges ≡ 8) }
+{
+    let mut gauges = Vec::new(alloc);
+    for _ in 0..8usize {
+        gauges.push(Gauge::new(Curve::Linear, call))?;
+    }
+    Ok(gauges)
+}
+
 fn observe_two<C: Measure>(monitor: &mut Monitor<C>, first: u32, second: u32)
     requires caps { monitor.old.caps ≡ 0 ∷ 10 ∷ 3 ∷ 0 ∷ 0 ∷ 0 ∷ 0 ∷ 0 ∷ [] }
     requires first_fits { first ≤ 10 }
@@ -29,36 +42,32 @@ fn observe_two<C: Measure>(monitor: &mut Monitor<C>, first: u32, second: u32)
     monitor.observe([0, first, second, 0, 0, 0, 0, 0]);
 }
 
-fn follow_rows<C: Measure + Copy>(rt: &impl Abort, alloc: Global, call: C) -> Result<(), Fail>
-    requires { AnswersCurve (C.can_measure call) (C.measure_gives call) Linear }
+// Whether the pressures and the gate are those of each row.
+fn follows_rows<C: Measure>(monitor: &mut Monitor<C>) -> bool
+    requires { monitor.old.caps ≡ 0 ∷ 10 ∷ 3 ∷ 0 ∷ 0 ∷ 0 ∷ 0 ∷ 0 ∷ [] }
 {
-    let mut gauges = Vec::new(alloc);
-    for _ in 0..8usize {
-        gauges.push(Gauge::new(Curve::Linear, call))?;
-    }
-    let mut monitor = Monitor::new(gauges, [0, 10, 3, 0, 0, 0, 0, 0], 900, 700);
-    assert!(rt; monitor.gate() && monitor.pressure(1) == 0);
+    let mut is_so = monitor.gate() && monitor.pressure(1) == 0;
     for (first, second, first_pressure, second_pressure, is_open) in ROWS {
-        assert!(rt; first <= 10 && second <= 3);
-        observe_two(&mut monitor, first, second);
-        let pressures = [
-            monitor.pressure(0),
-            monitor.pressure(1),
-            monitor.pressure(2),
-        ];
-        assert!(rt;
-            pressures == [0, first_pressure, second_pressure] && monitor.gate() == is_open,
-            "at {first} and {second}"
-        );
+        if first > 10 || second > 3 {
+            return false;
+        }
+        observe_two(monitor, first, second);
+        is_so = is_so
+            && monitor.pressure(0) == 0
+            && monitor.pressure(1) == first_pressure
+            && monitor.pressure(2) == second_pressure
+            && monitor.gate() == is_open;
     }
-    Ok(())
+    is_so
 }
 
-#[test]
-fn the_gate_follows_the_pressure(rt: HostRuntime) -> Result<(), Fail> {
-    let linear = |used: u32, cap: u32| -> u32
-        requires { IsReading used cap }
-        ensures { result ≡ curve_value Linear used cap }
-    { 1000 * used / cap };
-    follow_rows(&rt, rt.alloc(), linear)
+/// Whether the gate follows the pressure, as in each row.
+pub(crate) fn gate_follows<C: Measure + Copy>(alloc: Global, call: C) -> Result<bool, AllocError>
+    requires { AnswersCurve (C.can_measure call) (C.measure_gives call) Linear }
+{
+    let gauges = gauges_of(alloc, call)?;
+    let mut monitor = Monitor::new(gauges, [0, 10, 3, 0, 0, 0, 0, 0], 900, 700);
+    let is_so = follows_rows(&mut monitor);
+    drop(monitor);
+    Ok(is_so)
 }

@@ -40,7 +40,11 @@ pub(crate) fn comes_to(
     requires { AreInRange options }
 {
     match accepted_of(alloc, source, options) {
-        Some(accepted) => leads_to(alloc, &accepted, chunks, FUEL, want),
+        Some(accepted) => {
+            let is_so = leads_to(alloc, &accepted, chunks, FUEL, want);
+            drop(accepted);
+            is_so
+        }
         None => Ok(false),
     }
 }

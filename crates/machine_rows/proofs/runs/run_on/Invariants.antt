@@ -1,5 +1,5 @@
 use Rattle.segment_run.specs.Contexts.{checked_of, code_of, local_of, AreOf, IsReady}
-use Rattle.segment_rows.proofs.runs.run_on.Given as goal
+use Rattle.machine_rows.proofs.runs.run_on.Given as goal
 
 abbrev pub invariant-loop : goal.invariant-loop
 invariant-loop l = record {

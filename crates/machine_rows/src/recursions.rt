@@ -4,15 +4,14 @@ use crate::Outcome;
 use crate::cases::{DEEP, NARROW, comes_to, left_after};
 use cap_word::{Ask, Block, SiteKey};
 use segment_run::Segment;
-use std::process::Abort;
+use std::alloc::{AllocError, Global};
 use std::test::Fail;
 
 const BLOCKED: &[u8] =
     b"int h(int n) { int r; if (n < 1) { yield(); return 0; } r = h(n - 1); return r; } int main() { int r; r = h(9); return r; }";
 
 // A recursion 100 deep links 100 chunks and puts its result; 5,149 instructions retire, and all chunks are free again.
-#[test]
-fn a_deep_recursion(rt: HostRuntime) -> Result<(), Fail> {
+fn a_deep_one(alloc: Global) -> Result<bool, AllocError> {
     let want = Outcome {
         first: Some(Segment::Asks {
             ask: Ask::Put { value: 100 },
@@ -23,14 +22,12 @@ fn a_deep_recursion(rt: HostRuntime) -> Result<(), Fail> {
         left: left_after(5149),
         free: 128,
     };
-    assert!(rt; comes_to(rt.alloc(), DEEP, NARROW, 128, want)?);
-    Ok(())
+    comes_to(alloc, DEEP, NARROW, 128, want)
 }
 
 // A recursion that blocks at its bottom, ten frames deep: its key goes over eight chunks, and 344 instructions retire, the
 // call among them.
-#[test]
-fn a_key_across_chunks(rt: HostRuntime) -> Result<(), Fail> {
+fn a_key_across_chunks(alloc: Global) -> Result<bool, AllocError> {
     let blocks = Segment::Blocks {
         block: Block::Yield,
     };
@@ -42,6 +39,11 @@ fn a_key_across_chunks(rt: HostRuntime) -> Result<(), Fail> {
         left: left_after(344),
         free: 118,
     };
-    assert!(rt; comes_to(rt.alloc(), BLOCKED, NARROW, 128, want)?);
+    comes_to(alloc, BLOCKED, NARROW, 128, want)
+}
+
+#[test]
+fn recursions(rt: HostRuntime) -> Result<(), Fail> {
+    assert!(rt; a_deep_one(rt.alloc())? && a_key_across_chunks(rt.alloc())?);
     Ok(())
 }

@@ -62,15 +62,18 @@ pub fn begin(alloc: Global, accepted: &Accepted, chunks: u32) -> Result<Option<B
     if chunks == 0 || chunks > 65_536 || u64::from(chunks) * u64::from(bytes) > 67_108_864 {
         return Ok(None);
     }
-    let pool = ChunkPool::new(alloc, chunks, bytes)?;
-    let mut areas = Areas::new(alloc, accepted.image(), pool)?;
     let main = accepted.flat().main_number();
     if main as usize >= accepted.certificate().functions.len() {
         return Ok(None);
     }
+    let pool = ChunkPool::new(alloc, chunks, bytes)?;
+    let mut areas = Areas::new(alloc, accepted.image(), pool)?;
     match start(accepted, &mut areas, main, 0) {
         Some(context) => Ok(Some(Begun { areas, context })),
-        None => Ok(None),
+        None => {
+            drop(areas);
+            Ok(None)
+        }
     }
 }
 
@@ -103,6 +106,7 @@ pub fn run_on(accepted: &Accepted, begun: Begun, left: u64) -> Outcome
     }
     outcome.left = fuel.left;
     outcome.free = areas.pool().free();
+    drop(areas);
     outcome
 }
 

@@ -1,14 +1,16 @@
 // The want of chunks at each LINK of a recursion, and the want of fuel at each instruction of a small program.
 
+ghost use Rattle.codegen_link.specs.Plans.{AreInRange};
+ghost use Rattle.segment_run.specs.Contexts.{checked_of, code_of, local_of, AreOf, IsReady};
+
 use crate::cases::{DEEP, NARROW, ONCE, leads_to};
-use crate::{Outcome, accepted_of, begin};
+use crate::{Begun, Outcome, accepted_of, begin};
 use cap_word::Ask;
 use certificate_check::Accepted;
 use codegen_link::Options;
 use rv_machine::{Regs, StepResult, step};
 use segment_run::{Areas, Context, Fuel, Segment, run_segment};
 use std::alloc::{AllocError, Global};
-use std::process::Abort;
 use std::test::Fail;
 
 // Where nothing was put.
@@ -35,14 +37,12 @@ fn lacks_a_chunk(alloc: Global, accepted: &Accepted, chunks: u32) -> Result<bool
     )
 }
 
-// The recursion of 100 calls links 100 chunks beside its first one.
-#[test]
-fn no_chunk_at_each_link(rt: HostRuntime) -> Result<(), Fail> {
-    let Some(accepted) = accepted_of(rt.alloc(), DEEP, NARROW) else {
-        return Ok(assert!(rt; false));
-    };
+// Whether the recursion of 100 calls lacks each of the 100 chunks that it links beside its first one, and ends with them all.
+fn each_chunk_is_lacked(alloc: Global, accepted: &Accepted) -> Result<bool, AllocError> {
     for chunks in 1..=100 {
-        assert!(rt; lacks_a_chunk(rt.alloc(), &accepted, chunks)?);
+        if !lacks_a_chunk(alloc, accepted, chunks)? {
+            return Ok(false);
+        }
     }
     let ends = Outcome {
         first: Some(Segment::Asks {
@@ -54,8 +54,7 @@ fn no_chunk_at_each_link(rt: HostRuntime) -> Result<(), Fail> {
         left: 0,
         free: 101,
     };
-    assert!(rt; leads_to(rt.alloc(), &accepted, 101, 5149, ends)?);
-    Ok(())
+    leads_to(alloc, accepted, 101, 5149, ends)
 }
 
 // What the recursion of one call over two chunks of 80 bytes comes to with so much fuel. The LINK is its instruction 44, the
@@ -84,19 +83,13 @@ fn with_fuel(left: u64) -> Outcome {
     }
 }
 
-#[test]
-fn out_of_fuel_at_each_instruction(rt: HostRuntime) -> Result<(), Fail> {
-    let options = Options {
-        chunk: 80,
-        max_path: 48,
-    };
-    let Some(accepted) = accepted_of(rt.alloc(), ONCE, options) else {
-        return Ok(assert!(rt; false));
-    };
+fn fuel_runs_out(alloc: Global, accepted: &Accepted) -> Result<bool, AllocError> {
     for left in 0..=101 {
-        assert!(rt; leads_to(rt.alloc(), &accepted, 2, left, with_fuel(left))?);
+        if !leads_to(alloc, accepted, 2, left, with_fuel(left))? {
+            return Ok(false);
+        }
     }
-    Ok(())
+    Ok(true)
 }
 
 // A thread's registers after its instructions up to the next call, and how many those are.
@@ -114,21 +107,31 @@ fn stepped_on(accepted: &Accepted, areas: &mut Areas, context: &Context) -> (Reg
     (regs, 1000)
 }
 
-// A thread on one chunk whose fuel runs out after so many instructions, its registers where single steps then lead to, and
-// how many those are.
+// What a thread's segment of so much fuel answers, its registers where single steps then lead to, and how many those are.
+fn cut(accepted: &Accepted, begun: Begun, left: u64) -> (Segment, Regs, u64)
+    requires areas { AreOf accepted.now begun.areas }
+    requires ready { IsReady (checked_of accepted.now) (code_of accepted.now) (local_of begun.areas begun.context) }
+{
+    let Begun {
+        mut areas,
+        mut context,
+    } = begun;
+    let segment = run_segment(accepted, &mut areas, &mut context, &mut Fuel { left });
+    let (regs, steps) = stepped_on(accepted, &mut areas, &context);
+    drop(areas);
+    (segment, regs, steps)
+}
+
+// The same of a thread that begins on one chunk.
 fn cut_after(
     alloc: Global,
     accepted: &Accepted,
     left: u64,
 ) -> Result<Option<(Segment, Regs, u64)>, AllocError> {
-    let Some(begun) = begin(alloc, accepted, 1)? else {
-        return Ok(None);
-    };
-    let mut areas = begun.areas;
-    let mut context = begun.context;
-    let segment = run_segment(accepted, &mut areas, &mut context, &mut Fuel { left });
-    let (regs, steps) = stepped_on(accepted, &mut areas, &context);
-    Ok(Some((segment, regs, steps)))
+    match begin(alloc, accepted, 1)? {
+        Some(begun) => Ok(Some(cut(accepted, begun, left))),
+        None => Ok(None),
+    }
 }
 
 // The registers at the put, to which one run leads in 87 instructions.
@@ -161,22 +164,59 @@ fn goes_on_alike(
     }
 }
 
-// In chunks of 96 bytes the recursion of one call links none. Its put is the instruction 88. Wherever its fuel runs out
-// before, going on leads to the same.
+// Whether going on leads to the registers at the put, the instruction 88, wherever the fuel runs out before.
+fn goes_on(alloc: Global, accepted: &Accepted) -> Result<bool, AllocError> {
+    let Some(whole) = at_put(alloc, accepted)? else {
+        return Ok(false);
+    };
+    for left in 0..88 {
+        if !goes_on_alike(alloc, accepted, left, &whole)? {
+            return Ok(false);
+        }
+    }
+    Ok(true)
+}
+
+// What a recursion is tried by: the want of each chunk, the want of fuel at each instruction, and going on after it.
+#[derive(Clone, Copy)]
+enum Trial {
+    Chunks,
+    Fuel,
+    GoingOn,
+}
+
+fn holds(alloc: Global, source: &[u8], options: Options, trial: Trial) -> Result<bool, AllocError>
+    requires { AreInRange options }
+{
+    match accepted_of(alloc, source, options) {
+        Some(accepted) => {
+            let is_so = match trial {
+                Trial::Chunks => each_chunk_is_lacked(alloc, &accepted),
+                Trial::Fuel => fuel_runs_out(alloc, &accepted),
+                Trial::GoingOn => goes_on(alloc, &accepted),
+            };
+            drop(accepted);
+            is_so
+        }
+        None => Ok(false),
+    }
+}
+
+// The recursion of one call links a chunk where chunks have 80 bytes, and none where they have 96.
 #[test]
-fn going_on_is_as_one_run(rt: HostRuntime) -> Result<(), Fail> {
-    let options = Options {
+fn stops(rt: HostRuntime) -> Result<(), Fail> {
+    let small = Options {
+        chunk: 80,
+        max_path: 48,
+    };
+    let large = Options {
         chunk: 96,
         max_path: 48,
     };
-    let Some(accepted) = accepted_of(rt.alloc(), ONCE, options) else {
-        return Ok(assert!(rt; false));
-    };
-    let Some(whole) = at_put(rt.alloc(), &accepted)? else {
-        return Ok(assert!(rt; false));
-    };
-    for left in 0..88 {
-        assert!(rt; goes_on_alike(rt.alloc(), &accepted, left, &whole)?);
-    }
+    let alloc = rt.alloc();
+    assert!(rt;
+        holds(alloc, DEEP, NARROW, Trial::Chunks)? && holds(alloc, ONCE, small, Trial::Fuel)?
+    );
+    assert!(rt; holds(alloc, ONCE, large, Trial::GoingOn)?);
     Ok(())
 }

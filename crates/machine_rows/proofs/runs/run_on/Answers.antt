@@ -2,8 +2,8 @@ use Rattle.std.proofs.Common.{sym, subst}
 use Rattle.chunk_pool.specs.Pool.{Pool}
 use Rattle.segment_run.specs.Contexts.{checked_of, core_of}
 use Rattle.segment_run.specs.Passing.{RestsAround}
-use Rattle.segment_rows.proofs.Standing.{around, where_asked, where_blocked}
-use Rattle.segment_rows.proofs.runs.run_on.Goals as goal
+use Rattle.machine_rows.proofs.Standing.{around, where_asked, where_blocked}
+use Rattle.machine_rows.proofs.runs.run_on.Goals as goal
 
 pub pass-requires-clause-stands : goal.pass-requires-clause-stands
 pass-requires-clause-stands c = let at = where_asked _ _ _ _ _ _ _ _ c.in-Asks.is c.run_segment-segment.ensures.machine in (at.op, at.rests)

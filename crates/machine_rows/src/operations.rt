@@ -7,7 +7,6 @@ use cap_word::{Ask, Block, SiteKey, TrapKind};
 use codegen_link::Options;
 use segment_run::Segment;
 use std::alloc::{AllocError, Global};
-use std::process::Abort;
 use std::test::Fail;
 
 // No call is linked.
@@ -240,6 +239,14 @@ fn stopped(segment: Segment, key: Option<SiteKey>, retired: u64) -> Outcome {
     }
 }
 
+// A program that puts the value of an expression.
+fn putting(alloc: Global, expression: &[u8]) -> Result<Vec<u8>, AllocError> {
+    let mut source = Vec::from_slice(alloc, b"int main() { put(")?;
+    source.extend_from_slice(expression)?;
+    source.extend_from_slice(b"); return 0; }")?;
+    Ok(source)
+}
+
 // Whether `main` puts the value of an expression, in so many instructions more than the expression takes itself.
 fn has_value(
     alloc: Global,
@@ -247,52 +254,84 @@ fn has_value(
     value: u32,
     retired: u64,
 ) -> Result<bool, AllocError> {
-    let mut source = Vec::from_slice(alloc, b"int main() { put(")?;
-    source.extend_from_slice(expression)?;
-    source.extend_from_slice(b"); return 0; }")?;
+    let source = putting(alloc, expression)?;
     let want = asked(Ask::Put { value }, value, retired.saturating_add(14), 4);
-    comes_to(alloc, &source, WIDE, 4, want)
+    let is_so = comes_to(alloc, &source, WIDE, 4, want);
+    drop(source);
+    is_so
 }
 
-#[test]
-fn expressions(rt: HostRuntime) -> Result<(), Fail> {
-    for (expression, value, retired) in EXPRESSIONS {
-        assert!(rt; has_value(rt.alloc(), expression, value, retired)?);
+fn expressions(alloc: Global, rows: &[(&[u8], u32, u64)]) -> Result<bool, AllocError> {
+    for (expression, value, retired) in rows {
+        if !has_value(alloc, *expression, *value, *retired)? {
+            return Ok(false);
+        }
     }
-    Ok(())
+    Ok(true)
 }
 
-#[test]
-fn statements_and_calls(rt: HostRuntime) -> Result<(), Fail> {
-    for (source, value, retired) in PUTS {
-        let want = asked(Ask::Put { value }, value, retired, 4);
-        assert!(rt; comes_to(rt.alloc(), source, WIDE, 4, want)?);
+fn statements(alloc: Global, rows: &[(&[u8], u32, u64)]) -> Result<bool, AllocError> {
+    for (source, value, retired) in rows {
+        let want = asked(Ask::Put { value: *value }, *value, *retired, 4);
+        if !comes_to(alloc, *source, WIDE, 4, want)? {
+            return Ok(false);
+        }
     }
+    Ok(true)
+}
+
+fn linked_calls(alloc: Global) -> Result<bool, AllocError> {
     for (source, options, chunks, value, retired) in LINKS {
         let want = asked(Ask::Put { value }, value, retired, chunks);
-        assert!(rt; comes_to(rt.alloc(), source, options, chunks, want)?);
+        if !comes_to(alloc, source, options, chunks, want)? {
+            return Ok(false);
+        }
     }
-    Ok(())
+    Ok(true)
+}
+
+fn answered_calls(alloc: Global, rows: &[(&[u8], Ask, u32, u64)]) -> Result<bool, AllocError> {
+    for (source, ask, sum, retired) in rows {
+        let want = asked(*ask, *sum, *retired, 4);
+        if !comes_to(alloc, *source, WIDE, 4, want)? {
+            return Ok(false);
+        }
+    }
+    Ok(true)
+}
+
+fn blocking_calls(alloc: Global, rows: &[(&[u8], Block, u64)]) -> Result<bool, AllocError> {
+    for (source, block, retired) in rows {
+        let want = stopped(
+            Segment::Blocks { block: *block },
+            Some(SiteKey::new(&[0])),
+            *retired,
+        );
+        if !comes_to(alloc, *source, WIDE, 4, want)? {
+            return Ok(false);
+        }
+    }
+    Ok(true)
+}
+
+fn traps(alloc: Global, rows: &[(&[u8], TrapKind, u64)]) -> Result<bool, AllocError> {
+    for (source, kind, retired) in rows {
+        let want = stopped(Segment::Traps { kind: *kind }, None, *retired);
+        if !comes_to(alloc, *source, WIDE, 4, want)? {
+            return Ok(false);
+        }
+    }
+    Ok(true)
 }
 
 #[test]
-fn modelled_calls(rt: HostRuntime) -> Result<(), Fail> {
-    for (source, ask, sum, retired) in ASKS {
-        let want = asked(ask, sum, retired, 4);
-        assert!(rt; comes_to(rt.alloc(), source, WIDE, 4, want)?);
-    }
-    for (source, block, retired) in BLOCKS {
-        let want = stopped(Segment::Blocks { block }, Some(SiteKey::new(&[0])), retired);
-        assert!(rt; comes_to(rt.alloc(), source, WIDE, 4, want)?);
-    }
-    Ok(())
-}
-
-#[test]
-fn traps(rt: HostRuntime) -> Result<(), Fail> {
-    for (source, kind, retired) in TRAPS {
-        let want = stopped(Segment::Traps { kind }, None, retired);
-        assert!(rt; comes_to(rt.alloc(), source, WIDE, 4, want)?);
-    }
+fn operations(rt: HostRuntime) -> Result<(), Fail> {
+    let alloc = rt.alloc();
+    assert!(rt;
+        expressions(alloc, &EXPRESSIONS)? && statements(alloc, &PUTS)? && linked_calls(alloc)?
+    );
+    assert!(rt;
+        answered_calls(alloc, &ASKS)? && blocking_calls(alloc, &BLOCKS)? && traps(alloc, &TRAPS)?
+    );
     Ok(())
 }

@@ -2,8 +2,8 @@ use Rattle.std.proofs.Common.{ap}
 use Rattle.segment_run.specs.Contexts.{checked_of, code_of, local_of}
 use Rattle.segment_run.specs.Passing.{RestsBehind}
 use Rattle.segment_run.specs.declared.contexts.Context.{Context}
-use Rattle.segment_rows.proofs.Standing.{before, small, owned_still, ready}
-use Rattle.segment_rows.proofs.runs.pass.Goals as goal
+use Rattle.machine_rows.proofs.Standing.{before, small, owned_still, ready}
+use Rattle.machine_rows.proofs.runs.pass.Goals as goal
 
 pub retire-requires-clause-pc : goal.retire-requires-clause-pc
 retire-requires-clause-pc c = small c.args.accepted.now (local_of c.args.areas.now c.args.context.now) c.requires.stands.0 c.image-image.ensures.valid c.requires.stands.1
