@@ -1,4 +1,4 @@
-ghost use Rattle.std.specs.Prelude.{◌≡◌, ◌<◌, IfOk, length};
+ghost use Rattle.std.specs.Prelude.{◌≡◌, ◌<◌, length};
 ghost use Rattle.std.specs.List.{AllByRecursion};
 ghost use Rattle.std.specs.List.Sorted.{IsStrictlyIncreasing};
 ghost use Rattle.call_graph.specs.declared.sites.GraphSite.{GraphSite};
@@ -22,9 +22,7 @@ fn named(alloc: Global, name: &[u8]) -> Result<Function, AllocError> {
 }
 
 /// Functions of these names.
-fn functions_named(alloc: Global, names: &[&[u8]]) -> Result<Vec<Function>, AllocError>
-    ensures { IfOk result (λ list. length list.items ≡ length names.now) }
-{
+fn functions_named(alloc: Global, names: &[&[u8]]) -> Result<Vec<Function>, AllocError> {
     let mut list = Vec::new(alloc);
     for name in names {
         list.push(named(alloc, name)?)?;
@@ -58,7 +56,7 @@ fn has_text(
         back,
         checkpointed,
     };
-    let same = is_text(analysis_text(alloc, found), text);
+    let same = functions.len() == names.len() && is_text(analysis_text(alloc, found), text);
     drop(functions);
     Ok(same)
 }
@@ -70,48 +68,58 @@ fn is_text(found: Result<Vec<u8>, AllocError>, text: &[u8]) -> bool {
     }
 }
 
-#[test]
-fn a_call_is_plain_within_max_path_and_over_it_checkpointed(rt: HostRuntime) -> Result<(), Fail> {
-    assert!(rt;
-        has_text(
-            rt.alloc(),
-            &[b"g", b"main"],
-            &[16, 16],
-            &[16, 32],
-            &[call(0, 1, 0)],
-            &[],
-            &[],
-            b"function 0 g frame 16 bound 16\nfunction 1 main frame 16 bound 32\nsite 0 main plain\n",
-        )?
-    );
-    assert!(rt;
-        has_text(
-            rt.alloc(),
-            &[b"g", b"main"],
-            &[16, 32],
-            &[16, 32],
-            &[call(0, 1, 0)],
-            &[],
-            &[0],
-            b"function 0 g frame 16 bound 16\nfunction 1 main frame 32 bound 32\nsite 0 main over\n",
-        )?
-    );
-    Ok(())
+/// A call is plain within max path.
+fn a_plain_call_has_its_text(alloc: Global) -> Result<bool, AllocError> {
+    has_text(
+        alloc,
+        &[b"g", b"main"],
+        &[16, 16],
+        &[16, 32],
+        &[call(0, 1, 0)],
+        &[],
+        &[],
+        b"function 0 g frame 16 bound 16\nfunction 1 main frame 16 bound 32\nsite 0 main plain\n",
+    )
+}
+
+/// Over it the call is checkpointed.
+fn a_call_over_max_path_has_its_text(alloc: Global) -> Result<bool, AllocError> {
+    has_text(
+        alloc,
+        &[b"g", b"main"],
+        &[16, 32],
+        &[16, 32],
+        &[call(0, 1, 0)],
+        &[],
+        &[0],
+        b"function 0 g frame 16 bound 16\nfunction 1 main frame 32 bound 32\nsite 0 main over\n",
+    )
+}
+
+/// A back edge is no other kind.
+fn a_back_edge_has_its_text(alloc: Global) -> Result<bool, AllocError> {
+    has_text(
+        alloc,
+        &[b"a", b"b", b"main"],
+        &[32, 32, 16],
+        &[64, 32, 80],
+        &[call(0, 0, 1), call(1, 1, 0), call(2, 2, 0)],
+        &[1],
+        &[1],
+        b"function 0 a frame 32 bound 64\nfunction 1 b frame 32 bound 32\nfunction 2 main frame 16 bound 80\nsite 0 a plain\nsite 1 b back\nsite 2 main plain\n",
+    )
+}
+
+fn each_has_its_text(alloc: Global) -> Result<bool, AllocError> {
+    Ok(
+        a_plain_call_has_its_text(alloc)?
+            && a_call_over_max_path_has_its_text(alloc)?
+            && a_back_edge_has_its_text(alloc)?,
+    )
 }
 
 #[test]
-fn a_back_edge_is_no_other_kind(rt: HostRuntime) -> Result<(), Fail> {
-    assert!(rt;
-        has_text(
-            rt.alloc(),
-            &[b"a", b"b", b"main"],
-            &[32, 32, 16],
-            &[64, 32, 80],
-            &[call(0, 0, 1), call(1, 1, 0), call(2, 2, 0)],
-            &[1],
-            &[1],
-            b"function 0 a frame 32 bound 64\nfunction 1 b frame 32 bound 32\nfunction 2 main frame 16 bound 80\nsite 0 a plain\nsite 1 b back\nsite 2 main plain\n",
-        )?
-    );
+fn calls_have_their_lines(rt: HostRuntime) -> Result<(), Fail> {
+    assert!(rt; each_has_its_text(rt.alloc())?);
     Ok(())
 }

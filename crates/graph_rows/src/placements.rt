@@ -106,14 +106,21 @@ fn a_function_never_reached_is_placed(alloc: Global) -> Result<bool, AllocError>
     is_placed(alloc, &graph, 2032, &[], &[], &[48, 32])
 }
 
+fn each_is_placed(alloc: Global) -> Result<bool, AllocError> {
+    Ok(
+        a_call_is_placed(alloc)?
+            && a_call_above_is_placed(alloc)?
+            && a_pair_is_placed(alloc)?
+            && a_pair_entered_in_the_middle_is_placed(alloc)?
+            && a_self_call_is_placed(alloc)?
+            && a_table_is_placed(alloc)?
+            && a_function_never_reached_is_placed(alloc)?,
+    )
+}
+
 #[test]
 fn graphs_are_placed(rt: HostRuntime) -> Result<(), Fail> {
-    assert!(rt; a_call_is_placed(rt.alloc())? && a_call_above_is_placed(rt.alloc())?);
-    assert!(rt;
-        a_pair_is_placed(rt.alloc())? && a_pair_entered_in_the_middle_is_placed(rt.alloc())?
-    );
-    assert!(rt; a_self_call_is_placed(rt.alloc())? && a_table_is_placed(rt.alloc())?);
-    assert!(rt; a_function_never_reached_is_placed(rt.alloc())?);
+    assert!(rt; each_is_placed(rt.alloc())?);
     Ok(())
 }
 
@@ -138,10 +145,16 @@ fn refusal(alloc: Global, weights: &[u32], max_path: u32) -> Result<(u32, u32, u
     Ok(refusal_of(place(alloc, &graph, back.as_slice(), max_path)))
 }
 
+fn each_is_refused(alloc: Global) -> Result<bool, AllocError> {
+    Ok(
+        refusal(alloc, &[48], 32)? == (1, 0, 48)
+            && refusal(alloc, &[48], 48)? == (0, 0, 0)
+            && refusal(alloc, &[16, 2048, 4096], 4080)? == (1, 1, 2048),
+    )
+}
+
 #[test]
 fn the_first_frame_that_is_too_large_is_named(rt: HostRuntime) -> Result<(), Fail> {
-    assert!(rt; refusal(rt.alloc(), &[48], 32)? == (1, 0, 48));
-    assert!(rt; refusal(rt.alloc(), &[48], 48)? == (0, 0, 0));
-    assert!(rt; refusal(rt.alloc(), &[16, 2048, 4096], 4080)? == (1, 1, 2048));
+    assert!(rt; each_is_refused(rt.alloc())?);
     Ok(())
 }
