@@ -15,8 +15,8 @@ use Rattle.stack_image.specs.Refusal.{refusal_of}
 use Rattle.stack_image.specs.Reading.{image_of}
 use Rattle.stack_image.proofs.ReadAgain.{spelling_not_refused, image_of-spelling}
 use Rattle.stack_certificate.specs.declared.certificates.Certificate.{Certificate}
-use Rattle.stack_certificate.specs.FirstRefused.{IsFirstRefused}
-use Rattle.stack_certificate.proofs.Spellings.{spelling_unique, first_refused_unique, spelling_unrefused}
+use Rattle.certificate_text.specs.FirstRefused.{IsFirstRefused}
+use Rattle.certificate_text.proofs.Spellings.{spelling_unique, first_refused_unique, spelling_unrefused}
 use Rattle.stack_build.specs.Builds.{frame_refusal, IsLaidOut, IsTooLarge}
 use Rattle.stack_build.specs.declared.refusals.BuildError.TheVariants.{FrameTooLarge, CodeTooLarge}
 use Rattle.command_words.specs.WordList.{IsWordList, Request, Serve, Run, Build, Check, Graph, Demo}

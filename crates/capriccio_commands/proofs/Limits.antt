@@ -29,8 +29,8 @@ use Rattle.stack_certificate.specs.declared.certificates.Certificate.{Certificat
 use Rattle.stack_certificate.specs.declared.functions.FunctionFact.{FunctionFact}
 use Rattle.stack_certificate.specs.declared.sites.SiteFact.{SiteFact}
 use Rattle.stack_certificate.specs.Certificates.{fact_at}
-use Rattle.stack_certificate.specs.Text as certificate
-use Rattle.stack_certificate.specs.Text.{HasFewPlaces, IsAbove, Rises}
+use Rattle.certificate_text.specs.Text as certificate
+use Rattle.certificate_text.specs.Text.{HasFewPlaces, IsAbove, Rises}
 use Rattle.certificate_rules.specs.Validity.{IsValid}
 use Rattle.certificate_rules.proofs.ValidLemmas.{tables_are, globals_are}
 use Rattle.codegen_link.specs.declared.options.Options.{Options}

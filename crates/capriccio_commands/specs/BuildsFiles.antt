@@ -8,7 +8,7 @@ use Rattle.codegen_link.specs.declared.options.Options.{Options}
 use Rattle.stack_image.specs.declared.images.Image.{Image}
 use Rattle.stack_image.specs.Spelling as image
 use Rattle.stack_certificate.specs.declared.certificates.Certificate.{Certificate}
-use Rattle.stack_certificate.specs.Text as certificate
+use Rattle.certificate_text.specs.Text as certificate
 use Rattle.stack_build.specs.Builds.{IsTooLarge, IsLaidOut}
 use Rattle.stack_build.specs.declared.refusals.BuildError.TheVariants.{CodeTooLarge}
 use Rattle.capriccio_commands.specs.declared.build_command.Products.{Products}

@@ -11,8 +11,8 @@ use Rattle.stack_image.specs.declared.refusals.ImageError.{ImageError}
 use Rattle.stack_image.specs.Refusal.{refusal_of}
 use Rattle.stack_image.specs.Spelling as image
 use Rattle.stack_certificate.specs.declared.certificates.Certificate.{Certificate}
-use Rattle.stack_certificate.specs.FirstRefused.{IsFirstRefused}
-use Rattle.stack_certificate.specs.Text as certificate
+use Rattle.certificate_text.specs.FirstRefused.{IsFirstRefused}
+use Rattle.certificate_text.specs.Text as certificate
 use Rattle.capriccio_commands.specs.declared.documents.Document.{Document}
 use Rattle.capriccio_commands.specs.declared.documents.Document.TheVariants as document
 use Rattle.capriccio_commands.specs.declared.stops.Cause.TheVariants as cause

@@ -12,7 +12,8 @@ use crate::stops::{Cause, Stop};
 use c_scope::{SourceError, read_program};
 use c_tree::Program;
 use cap_io::{Shelf, ShelfError};
-use stack_certificate::{CertError, Certificate, read_cert};
+use certificate_text::{CertError, read_cert};
+use stack_certificate::Certificate;
 use stack_image::{Image, ImageError, read_image};
 use std::alloc::Global;
 

@@ -51,18 +51,24 @@ pub fn check(
     };
     match first_failure(alloc, &flat, &image, &certificate) {
         Ok(None) => Ok(Accepted::new(program, image, certificate, flat)),
-        Ok(Some(failure)) => Err(CheckError::Rejected {
-            rule: failure.rule,
-            function: failure.function,
-            index: failure.index,
-            program,
-            image,
-            certificate,
-        }),
-        Err(_) => Err(CheckError::Memory {
-            program,
-            image,
-            certificate,
-        }),
+        Ok(Some(failure)) => {
+            drop(flat);
+            Err(CheckError::Rejected {
+                rule: failure.rule,
+                function: failure.function,
+                index: failure.index,
+                program,
+                image,
+                certificate,
+            })
+        }
+        Err(_) => {
+            drop(flat);
+            Err(CheckError::Memory {
+                program,
+                image,
+                certificate,
+            })
+        }
     }
 }

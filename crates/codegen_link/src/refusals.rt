@@ -2,16 +2,13 @@ ghost use Rattle.std.specs.Prelude.{◌≡◌};
 ghost use Rattle.codegen_link.specs.declared.refusals.GenError.TheVariants.{Memory};
 
 use std::alloc::AllocError;
-use thiserror::Error;
 
 /// Why there is no code.
-#[derive(Clone, Copy, Debug, PartialEq, Eq, Error)]
+#[derive(Clone, Copy)]
 pub enum GenError {
     /// The code has so many words, more than 200,000. The count stands still at the end of its type.
-    #[error("the code has {words} words, too many")]
     CodeTooLarge { words: u64 },
     /// No memory for the code.
-    #[error("out of memory")]
     Memory,
 }
 

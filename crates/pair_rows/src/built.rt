@@ -3,16 +3,16 @@
 ghost use Rattle.codegen_link.specs.Plans.{AreInRange};
 
 use crate::changes::Change::Line;
-use crate::changes::{Change, image_of, program_of, text_of};
+use crate::changes::{Change, certificate_in, image_of, program_of, text_of};
 use crate::pairs::Of::{Linked, Plain, Putting, Spawning, Tables};
-use crate::pairs::{Of, pair_of};
+use crate::pairs::{Of, Pair, pair_of};
+use c_tree::Program;
 use certificate_check::Accepted;
 use codegen_link::Options;
 use stack_build::{BuildError, build};
-use stack_certificate::{Certificate, FunctionFact, read_cert};
+use stack_certificate::{Certificate, FunctionFact};
 use stack_image::Image;
 use std::alloc::{AllocError, Global};
-use std::process::Abort;
 use std::test::Fail;
 
 const USUAL: Options = Options {
@@ -97,21 +97,41 @@ const TWO_FRAMES: &[u8] =
 fn accepted(alloc: Global, source: &[u8], options: Options) -> Option<Accepted>
     requires { AreInRange options }
 {
-    let program = program_of(alloc, source)?;
+    match program_of(alloc, source) {
+        Some(program) => built(alloc, program, options),
+        None => None,
+    }
+}
+
+fn built(alloc: Global, program: Program, options: Options) -> Option<Accepted>
+    requires { AreInRange options }
+{
     match build(alloc, program, options) {
         Ok(accepted) => Some(accepted),
         Err(_) => None,
     }
 }
 
-// Why a source isn't built.
-fn refusal(alloc: Global, source: &[u8], options: Options) -> Option<BuildError>
+// Why a source isn't built: 1, the function and the bytes of a frame that is too large; 2, 0 and the words of code that
+// are too many; three zeroes where it is built or memory is wanting.
+fn refusal(alloc: Global, source: &[u8], options: Options) -> (u32, u32, u64)
     requires { AreInRange options }
 {
-    let program = program_of(alloc, source)?;
-    match build(alloc, program, options) {
-        Ok(_) => None,
-        Err(error) => Some(error),
+    match program_of(alloc, source) {
+        Some(program) => told(build(alloc, program, options)),
+        None => (0, 0, 0),
+    }
+}
+
+fn told(built: Result<Accepted, BuildError>) -> (u32, u32, u64) {
+    match built {
+        Ok(accepted) => {
+            drop(accepted);
+            (0, 0, 0)
+        }
+        Err(BuildError::FrameTooLarge { function, bytes }) => (1, function, u64::from(bytes)),
+        Err(BuildError::CodeTooLarge { words }) => (2, 0, words),
+        Err(BuildError::Memory) => (0, 0, 0),
     }
 }
 
@@ -156,10 +176,28 @@ fn say_the_same(found: &Certificate, wanted: &Certificate) -> bool {
 }
 
 // Whether a certificate is the one of a text.
-fn has_text(alloc: Global, accepted: &Accepted, text: &[u8]) -> bool {
-    match read_cert(alloc, text) {
-        Ok(wanted) => say_the_same(accepted.certificate(), &wanted),
-        Err(_) => false,
+fn has_text(alloc: Global, found: &Certificate, text: &[u8]) -> bool {
+    match certificate_in(alloc, text) {
+        Some(wanted) => {
+            let same = say_the_same(found, &wanted);
+            drop(wanted);
+            same
+        }
+        None => false,
+    }
+}
+
+// Whether a source is built to an image with the text of a certificate.
+fn has_lines(alloc: Global, source: &[u8], options: Options, text: &[u8]) -> bool
+    requires { AreInRange options }
+{
+    match accepted(alloc, source, options) {
+        Some(accepted) => {
+            let same = has_text(alloc, accepted.certificate(), text);
+            drop(accepted);
+            same
+        }
+        None => false,
     }
 }
 
@@ -168,28 +206,37 @@ fn is_built(alloc: Global, source: &[u8], options: Options, image: &Image, text:
     requires { AreInRange options }
 {
     match accepted(alloc, source, options) {
-        Some(accepted) => { are_same(accepted.image(), image) && has_text(alloc, &accepted, text) }
+        Some(accepted) => {
+            let same = are_same(accepted.image(), image)
+                && has_text(alloc, accepted.certificate(), text);
+            drop(accepted);
+            same
+        }
         None => false,
     }
 }
 
 // Whether a pair's source is built to just the pair.
-fn is_pair(alloc: Global, of: Of, options: Options, changes: &[Change]) -> Result<bool, AllocError>
+fn is_pair(alloc: Global, of: Of, options: Options, changes: &[Change]) -> bool
     requires { AreInRange options }
 {
     let pair = pair_of(of);
-    let image = image_of(alloc, &pair, changes)?;
-    let text = text_of(alloc, &pair, changes)?;
-    Ok(is_built(alloc, pair.source, options, &image, &text))
+    match text_of(alloc, &pair, changes) {
+        Ok(text) => is_pair_of(alloc, &pair, options, changes, &text),
+        Err(_) => false,
+    }
 }
 
-// Whether a source is built to an image with the text of a certificate.
-fn has_lines(alloc: Global, source: &[u8], options: Options, text: &[u8]) -> bool
+fn is_pair_of(alloc: Global, pair: &Pair, options: Options, changes: &[Change], text: &[u8]) -> bool
     requires { AreInRange options }
 {
-    match accepted(alloc, source, options) {
-        Some(accepted) => has_text(alloc, &accepted, text),
-        None => false,
+    match image_of(alloc, pair, changes) {
+        Ok(image) => {
+            let same = is_built(alloc, pair.source, options, &image, text);
+            drop(image);
+            same
+        }
+        Err(_) => false,
     }
 }
 
@@ -198,32 +245,25 @@ fn words_of_code(alloc: Global, source: &[u8], options: Options) -> usize
     requires { AreInRange options }
 {
     match accepted(alloc, source, options) {
-        Some(accepted) => accepted.image().code.len(),
+        Some(accepted) => {
+            let words = accepted.image().code.len();
+            drop(accepted);
+            words
+        }
         None => 0,
     }
 }
 
 #[test]
-fn the_pairs_are_built(rt: HostRuntime) -> Result<(), Fail> {
+fn pairs_frames_and_needs(rt: HostRuntime) {
     for (of, options, changes) in PAIRS {
-        assert!(rt; is_pair(rt.alloc(), of, options, changes)?);
+        assert!(rt; is_pair(rt.alloc(), of, options, changes));
     }
-    Ok(())
-}
-
-#[test]
-fn frames_and_needs(rt: HostRuntime) -> Result<(), Fail> {
     for (source, options, lines) in LINES {
         assert!(rt; has_lines(rt.alloc(), source, options, lines));
     }
     let over = refusal(rt.alloc(), b"int main() { int a[507]; return 0; }", USUAL);
-    assert!(rt;
-        over == Some(BuildError::FrameTooLarge {
-            function: 0,
-            bytes: 2048
-        })
-    );
-    Ok(())
+    assert!(rt; over == (1, 0, 2048));
 }
 
 // A main of 28 words of code, and 4 more for each assignment and 1 for each `break`.
@@ -244,7 +284,6 @@ fn code_has_its_limit(rt: HostRuntime) -> Result<(), Fail> {
     let source = long_source(rt.alloc(), 49_993, 0)?;
     assert!(rt; words_of_code(rt.alloc(), &source, SMALL) == 200_000);
     let source = long_source(rt.alloc(), 49_993, 1)?;
-    let over = refusal(rt.alloc(), &source, SMALL);
-    assert!(rt; over == Some(BuildError::CodeTooLarge { words: 200_001 }));
+    assert!(rt; refusal(rt.alloc(), &source, SMALL) == (2, 0, 200_001));
     Ok(())
 }

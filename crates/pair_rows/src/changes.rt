@@ -5,7 +5,8 @@ use c_scope::read_program;
 use c_tree::Program;
 use cap_word::Words;
 use certificate_check::{Accepted, CheckError, check};
-use stack_certificate::read_cert;
+use certificate_text::read_cert;
+use stack_certificate::Certificate;
 use stack_image::Image;
 use std::alloc::{AllocError, Global};
 
@@ -36,7 +37,7 @@ pub(crate) enum Change {
 }
 
 /// What the checker says of a pair.
-#[derive(Clone, Copy, PartialEq, Eq, Debug)]
+#[derive(Clone, Copy, PartialEq, Eq)]
 pub(crate) enum Answer {
     Accepted,
     /// The rule, the function and the index that fail first.
@@ -46,22 +47,44 @@ pub(crate) enum Answer {
 }
 
 /// What the checker says of a pair with these things changed.
-pub(crate) fn check_changed(
-    alloc: Global,
-    of: Of,
-    changes: &[Change],
-) -> Result<Answer, AllocError> {
+pub(crate) fn check_changed(alloc: Global, of: Of, changes: &[Change]) -> Answer {
     let pair = pair_of(of);
-    let image = image_of(alloc, &pair, changes)?;
-    let text = text_of(alloc, &pair, changes)?;
-    let Ok(certificate) = read_cert(alloc, &text) else {
-        return Ok(Answer::Unread);
-    };
-    let Some(program) = program_of(alloc, pair.source) else {
-        return Ok(Answer::Unread);
-    };
-    match check(alloc, program, image, certificate) {
-        Ok(accepted) => Ok(told(&accepted, &pair)),
+    match image_of(alloc, &pair, changes) {
+        Ok(image) => check_image(alloc, &pair, changes, image),
+        Err(_) => Answer::Unread,
+    }
+}
+
+fn check_image(alloc: Global, pair: &Pair, changes: &[Change], image: Image) -> Answer {
+    match certificate_of(alloc, pair, changes) {
+        Some(certificate) => check_pair(alloc, pair, image, certificate),
+        None => {
+            drop(image);
+            Answer::Unread
+        }
+    }
+}
+
+fn check_pair(alloc: Global, pair: &Pair, image: Image, certificate: Certificate) -> Answer {
+    match program_of(alloc, pair.source) {
+        Some(program) => answer(check(alloc, program, image, certificate), pair),
+        None => {
+            drop(image);
+            drop(certificate);
+            Answer::Unread
+        }
+    }
+}
+
+fn answer(found: Result<Accepted, CheckError>, pair: &Pair) -> Answer {
+    let answer = answer_told(&found, pair);
+    drop(found);
+    answer
+}
+
+fn answer_told(found: &Result<Accepted, CheckError>, pair: &Pair) -> Answer {
+    match found {
+        Ok(accepted) => told(accepted, pair),
         Err(
             CheckError::Rejected {
                 rule,
@@ -69,8 +92,24 @@ pub(crate) fn check_changed(
                 index,
                 ..
             },
-        ) => Ok(Answer::Rejected(rule, function, index)),
-        Err(CheckError::Memory { .. }) => Ok(Answer::Unread),
+        ) => Answer::Rejected(*rule, *function, *index),
+        Err(CheckError::Memory { .. }) => Answer::Unread,
+    }
+}
+
+// The certificate of a pair with these things changed, where it is read.
+fn certificate_of(alloc: Global, pair: &Pair, changes: &[Change]) -> Option<Certificate> {
+    match text_of(alloc, pair, changes) {
+        Ok(text) => certificate_in(alloc, &text),
+        Err(_) => None,
+    }
+}
+
+/// The certificate of a text, where it is one.
+pub(crate) fn certificate_in(alloc: Global, text: &[u8]) -> Option<Certificate> {
+    match read_cert(alloc, text) {
+        Ok(certificate) => Some(certificate),
+        Err(_) => None,
     }
 }
 

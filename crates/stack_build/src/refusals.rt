@@ -4,19 +4,15 @@ ghost use Rattle.stack_build.specs.declared.refusals.BuildError.TheVariants.{Mem
 use checkpoint_place::PlaceError;
 use codegen_link::GenError;
 use std::alloc::AllocError;
-use thiserror::Error;
 
 /// Why a program isn't built.
-#[derive(Clone, Copy, Debug, PartialEq, Eq, Error)]
+#[derive(Clone, Copy)]
 pub enum BuildError {
     /// The frame of this function, the first such one, exceeds the most bytes of a path or 2,032.
-    #[error("the frame of function {function} is {bytes} bytes, too large")]
     FrameTooLarge { function: u32, bytes: u32 },
     /// The code has so many words, more than 200,000. The count stands still at the end of its type.
-    #[error("the code has {words} words, too many")]
     CodeTooLarge { words: u64 },
     /// No memory.
-    #[error("out of memory")]
     Memory,
 }
 

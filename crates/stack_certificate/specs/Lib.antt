@@ -1,12 +1,8 @@
 pub mod Certificates
 pub mod Comparisons
-pub mod FirstRefused
 pub mod Fits
-pub mod Heads
 pub mod InstructionWords
 pub mod Parts
 pub mod Places
-pub mod Reading
 pub mod Registers
 pub mod Templates
-pub mod Text

@@ -5,8 +5,7 @@
 // linked call (its bound), and which calls link a new chunk. `template_word` gives the words into which
 // an operation of flat code is translated under a certificate: the generator writes them and the checker
 // compares with them, so that both mean the same. specs/Templates.antt has the table, a row an operation.
-// `read_cert` and `write_cert` turn a certificate's text into a certificate and back: specs/Text.antt has its
-// lines and limits, and specs/FirstRefused.antt which line of another text is refused.
+// A certificate's text is read and written by the crate certificate_text.
 // The idea of linked chunks and of bounds checked at chosen calls is Capriccio's (von Behren, Condit,
 // Zhou, Necula, Brewer, "Capriccio: Scalable Threads for Internet Services", SOSP 2003).
 #![tactic(auto)]
@@ -15,35 +14,25 @@ mod begins;
 mod calls;
 mod certificates;
 mod elements;
-mod errors;
-mod fact_lines;
 mod functions;
 mod instruction_lists;
 mod laws;
 mod lookups;
 mod parts;
 mod places_in_code;
-mod reading;
 mod rows;
 mod settings;
 mod sites;
 mod slots;
 mod template_words;
-mod text_laws;
-mod text_rest;
 mod words;
-mod writing;
 
 pub use begins::operation_begin;
 pub use certificates::Certificate;
-pub use errors::CertError;
 pub use functions::{FunctionFact, FunctionFacts};
 pub use laws::template_laws;
 pub use places_in_code::operation_size;
-pub use reading::read_cert;
 pub use settings::Setting;
 pub use sites::{LinkKind, SiteFact, SiteFacts};
 pub use template_words::{operation_setting, template_word};
-pub use text_laws::texts_mean_one_thing;
 pub use words::{operation_word, prologue_word, stub_word};
-pub use writing::write_cert;

@@ -1,0 +1,10 @@
+use Rattle.std.proofs.Common.{◌≡◌, ◌≤◌, ◌++◌, length, map}
+use Rattle.cap_text.specs.Decimals.{canonical_decimal}
+use Rattle.certificate_text.specs.Text.{AreWords}
+use Rattle.certificate_text.proofs.fact_lines.read_places.Given as goal
+
+abbrev pub invariant-loop-places : goal.invariant-loop-places
+invariant-loop-places l = (l.fn.fields ≡ map canonical_decimal l.places.items ++ l.fields) × AreWords l.places.items × (length l.places.items ≤ 4096)
+
+abbrev pub decreases-loop-places : goal.decreases-loop-places
+decreases-loop-places l = length l.fields

@@ -1,0 +1,9 @@
+use Rattle.std.proofs.Common.{◌≡◌, ◌++◌, map, take}
+use Rattle.std.specs.List.{AllByRecursion}
+use Rattle.cap_text.specs.TextLines.{ended_lines}
+use Rattle.certificate_text.specs.Text.{site_line, HoldsSiteWords}
+use Rattle.certificate_text.proofs.writing.put_sites.Given as goal
+
+abbrev pub invariant-loop-fact : goal.invariant-loop-fact
+invariant-loop-fact l =
+    (l.text.items ≡ l.fn.text.items ++ ended_lines (map site_line (take l.fact-index l.facts))) × AllByRecursion HoldsSiteWords (take l.fact-index l.facts)

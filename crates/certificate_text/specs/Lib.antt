@@ -1,0 +1,4 @@
+pub mod FirstRefused
+pub mod Heads
+pub mod Reading
+pub mod Text

@@ -1,0 +1,340 @@
+// The words of templates, as llvm-mc assembles the instructions of the table by hand: `llvm-mc -triple=riscv32
+// -mattr=+m --show-encoding`.
+
+ghost use Rattle.std.specs.Prelude.{◌≡◌, ◌<◌, ◌≤◌, length};
+ghost use Rattle.flat_code.specs.Codes.{function_at};
+ghost use Rattle.flat_code.specs.ProgramView.{program_code};
+ghost use Rattle.stack_certificate.specs.Templates.{IsFor};
+ghost use Rattle.pair_rows.specs.Sample.{sample_code, sample_certificate, putting_code, putting_certificate};
+
+use crate::samples::{certificate, certificate_of_putting, of_words, program, putting};
+use flat_code::{FlatProgram, weight};
+use stack_certificate::{Certificate, prologue_word, stub_word, template_word};
+use std::alloc::{AllocError, Global};
+use std::test::Fail;
+
+// Whether the operation's template has these words and no more.
+fn has_words(
+    flat: &FlatProgram,
+    certificate: &Certificate,
+    function: u32,
+    op: u32,
+    words: &[u32],
+) -> bool
+    requires certificate { IsFor (program_code flat.now) certificate.now }
+    requires function { function < length (program_code flat.now).functions }
+    requires op { op < length (function_at (program_code flat.now) function).ops }
+    requires few { length words.now < 100 }
+{
+    for k in 0..words.len() + 1 {
+        if template_word(flat, certificate, function, op, k as u32) != words.get(k).copied() {
+            return false;
+        }
+    }
+    true
+}
+
+// An operation of the program's second function, and its words.
+const OPERATIONS: [(u32, &[u32]); 37] = [
+    (0, &[0x1234_62b7, 0xfff2_8293, 0x0051_2423]),
+    (1, &[0x0081_2283, 0x0051_2c23]),
+    (2, &[0x0081_2283, 0x4050_02b3, 0x0051_2c23]),
+    (3, &[0x0081_2283, 0xfff2_c293, 0x0051_2c23]),
+    (4, &[0x0081_2283, 0x0012_b293, 0x0051_2c23]),
+    (5, &[0x0081_2283, 0x01c1_2303, 0x0062_82b3, 0x0051_2c23]),
+    (6, &[0x0081_2283, 0x01c1_2303, 0x4062_82b3, 0x0051_2c23]),
+    (7, &[0x0081_2283, 0x01c1_2303, 0x0262_82b3, 0x0051_2c23]),
+    (8, &[0x0081_2283, 0x01c1_2303, 0x0262_c2b3, 0x0051_2c23]),
+    (9, &[0x0081_2283, 0x01c1_2303, 0x0262_e2b3, 0x0051_2c23]),
+    (10, &[0x0081_2283, 0x01c1_2303, 0x0062_f2b3, 0x0051_2c23]),
+    (11, &[0x0081_2283, 0x01c1_2303, 0x0062_e2b3, 0x0051_2c23]),
+    (12, &[0x0081_2283, 0x01c1_2303, 0x0062_c2b3, 0x0051_2c23]),
+    (13, &[0x0081_2283, 0x01c1_2303, 0x0062_92b3, 0x0051_2c23]),
+    (14, &[0x0081_2283, 0x01c1_2303, 0x4062_d2b3, 0x0051_2c23]),
+    (15, &[0x0081_2283, 0x01c1_2303, 0x0062_a2b3, 0x0051_2c23]),
+    (16, &[0x0081_2283, 0x01c1_2303, 0x0053_22b3, 0x0051_2c23]),
+    (
+        17,
+        &[
+            0x0081_2283,
+            0x01c1_2303,
+            0x0053_22b3,
+            0x0012_c293,
+            0x0051_2c23,
+        ],
+    ),
+    (
+        18,
+        &[
+            0x0081_2283,
+            0x01c1_2303,
+            0x0062_a2b3,
+            0x0012_c293,
+            0x0051_2c23,
+        ],
+    ),
+    (
+        19,
+        &[
+            0x0081_2283,
+            0x01c1_2303,
+            0x4062_82b3,
+            0x0012_b293,
+            0x0051_2c23,
+        ],
+    ),
+    (
+        20,
+        &[
+            0x0081_2283,
+            0x01c1_2303,
+            0x4062_82b3,
+            0x0050_32b3,
+            0x0051_2c23,
+        ],
+    ),
+    (21, &[0x0001_2623, 0x0001_2823, 0x0001_2a23]),
+    (22, &[0x1000_0337, 0x0103_0313, 0x0003_2283, 0x0051_2c23]),
+    (23, &[0x0181_2283, 0x1000_0337, 0x0103_0313, 0x0053_2023]),
+    (
+        24,
+        &[
+            0x01c1_2283,
+            0x0000_0337,
+            0x0033_0313,
+            0x0062_e863,
+            0x0010_0513,
+            0x01f0_0893,
+            0x0000_0073,
+            0x0022_9293,
+            0x0022_82b3,
+            0x00c2_a283,
+            0x0051_2c23,
+        ],
+    ),
+    (
+        25,
+        &[
+            0x01c1_2283,
+            0x0000_0337,
+            0x0043_0313,
+            0x0062_e863,
+            0x0010_0513,
+            0x01f0_0893,
+            0x0000_0073,
+            0x0022_9293,
+            0x1000_0337,
+            0x0003_0313,
+            0x0062_82b3,
+            0x0002_a283,
+            0x0051_2c23,
+        ],
+    ),
+    (
+        26,
+        &[
+            0x01c1_2283,
+            0x0000_0337,
+            0x0033_0313,
+            0x0062_e863,
+            0x0010_0513,
+            0x01f0_0893,
+            0x0000_0073,
+            0x0022_9293,
+            0x0022_82b3,
+            0x0181_2303,
+            0x0062_a623,
+        ],
+    ),
+    (
+        27,
+        &[
+            0x01c1_2283,
+            0x0000_0337,
+            0x0043_0313,
+            0x0062_e863,
+            0x0010_0513,
+            0x01f0_0893,
+            0x0000_0073,
+            0x0022_9293,
+            0x1000_0337,
+            0x0003_0313,
+            0x0062_82b3,
+            0x0181_2303,
+            0x0062_a023,
+        ],
+    ),
+    (28, &[0x0100_006f]),
+    (29, &[0x0181_2283, 0x0002_9463, 0xdc1f_f06f]),
+    (30, &[0x0181_2503, 0xd71f_f0ef, 0x00a1_2423]),
+    (
+        31,
+        &[
+            0x01c1_2503,
+            0x0000_0337,
+            0x0303_0313,
+            0x4061_02b3,
+            0x0042_e663,
+            0xd55f_f0ef,
+            0x0180_006f,
+            0x0010_0893,
+            0x0000_0073,
+            0xd45f_f0ef,
+            0x0020_0893,
+            0x0000_0073,
+        ],
+    ),
+    (
+        32,
+        &[
+            0x0181_2283,
+            0x0000_0337,
+            0x0023_0313,
+            0x0062_e863,
+            0x0020_0513,
+            0x01f0_0893,
+            0x0000_0073,
+            0x0022_9293,
+            0x2000_0337,
+            0x0043_0313,
+            0x0062_82b3,
+            0x0002_a383,
+            0x01c1_2503,
+            0x0000_0337,
+            0x0103_0313,
+            0x4061_02b3,
+            0x0042_e663,
+            0x0003_80e7,
+            0x0180_006f,
+            0x0010_0893,
+            0x0000_0073,
+            0x0003_80e7,
+            0x0020_0893,
+            0x0000_0073,
+            0x00a1_2c23,
+        ],
+    ),
+    (33, &[0x0100_0893, 0x0000_0073, 0x00a1_2423]),
+    (34, &[0x0181_2503, 0x01c1_2583, 0x0140_0893, 0x0000_0073]),
+    (
+        35,
+        &[
+            0x0000_1537,
+            0x0085_0513,
+            0x01c1_2583,
+            0x0000_0637,
+            0x0206_0613,
+            0x0040_0893,
+            0x0000_0073,
+            0x00a1_2c23,
+        ],
+    ),
+    (36, &[0x0081_2503, 0x03c1_2083, 0x0401_0113, 0x0000_8067]),
+];
+
+// Whether each operation of the program has its words.
+fn program_has_words(flat: &FlatProgram, certificate: &Certificate) -> bool
+    requires flat { program_code flat.now ≡ sample_code }
+    requires certificate { certificate.now ≡ sample_certificate }
+{
+    for (op, words) in OPERATIONS {
+        if op >= 37 || words.len() >= 100 || !has_words(flat, certificate, 1, op, words) {
+            return false;
+        }
+    }
+    true
+}
+
+fn program_is_right(alloc: Global) -> Result<bool, AllocError> {
+    let flat = program(alloc)?;
+    let certificate = certificate(alloc)?;
+    let right = program_has_words(&flat, &certificate);
+    drop(flat);
+    drop(certificate);
+    Ok(right)
+}
+
+// The code of `int main() { put(7); return 0; }`, as the format's worked example has it.
+const EXAMPLE: [&[u32]; 6] = [
+    &[0x0000_02b7, 0x0072_8293, 0x0051_2023],
+    &[0x0001_2503, 0x0030_0893, 0x0000_0073],
+    &[0x0000_02b7, 0x0002_8293, 0x0051_2023],
+    &[0x0001_2503, 0x00c1_2083, 0x0101_0113, 0x0000_8067],
+    &[0x0000_02b7, 0x0002_8293, 0x0051_2023],
+    &[0x0001_2503, 0x00c1_2083, 0x0101_0113, 0x0000_8067],
+];
+
+// Whether each operation of the example has its words.
+fn example_has_words(flat: &FlatProgram, certificate: &Certificate) -> bool
+    requires flat { program_code flat.now ≡ putting_code }
+    requires certificate { certificate.now ≡ putting_certificate }
+{
+    for (op, words) in EXAMPLE.iter().enumerate() {
+        if words.len() >= 100 || !has_words(flat, certificate, 0, op as u32, words) {
+            return false;
+        }
+    }
+    true
+}
+
+fn example_is_right(alloc: Global) -> Result<bool, AllocError> {
+    let flat = putting(alloc)?;
+    let certificate = certificate_of_putting(alloc)?;
+    let right = example_has_words(&flat, &certificate);
+    drop(flat);
+    drop(certificate);
+    Ok(right)
+}
+
+#[test]
+fn operations_have_their_words(rt: HostRuntime) -> Result<(), Fail> {
+    assert!(rt; program_is_right(rt.alloc())? && example_is_right(rt.alloc())?);
+    Ok(())
+}
+
+// Whether the example's code begins with these words, and its function with those.
+fn begins_with(certificate: &Certificate, stub: &[Option<u32>], prologue: &[Option<u32>]) -> bool {
+    let [fact] = certificate.functions.as_slice() else {
+        return false;
+    };
+    [stub_word(0), stub_word(1), stub_word(2)].as_slice() == stub
+        && [
+            prologue_word(fact, 0, 0),
+            prologue_word(fact, 0, 1),
+            prologue_word(fact, 0, 2),
+        ]
+        .as_slice()
+            == prologue
+}
+
+#[test]
+fn code_begins_and_functions_begin(rt: HostRuntime) -> Result<(), Fail> {
+    let certificate = certificate_of_putting(rt.alloc())?;
+    assert!(rt;
+        begins_with(
+            &certificate,
+            &[Some(0x01e0_0893), Some(0x0000_0073), None],
+            &[Some(0xff01_0113), Some(0x0011_2623), None],
+        )
+    );
+    Ok(())
+}
+
+// The bytes of the frame of a function whose variable has so many words.
+fn weight_of(alloc: Global, size: u32) -> Result<u32, AllocError>
+    requires { size ≤ 1048576 }
+{
+    let function = of_words(alloc, size)?;
+    Ok(weight(&function))
+}
+
+// The variables' words and the return address, rounded up to 16 bytes: worked out by hand.
+const WEIGHTS: [(u32, u32); 5] = [(0, 16), (3, 16), (4, 32), (10, 48), (1048576, 4194320)];
+
+#[test]
+fn frames_have_their_weights(rt: HostRuntime) -> Result<(), Fail> {
+    for (size, bytes) in WEIGHTS {
+        assert!(rt; size <= 1048576 && weight_of(rt.alloc(), size)? == bytes);
+    }
+    Ok(())
+}

@@ -1,5 +1,0 @@
-use Rattle.stack_certificate.proofs.FactFields.{no_head}
-use Rattle.stack_certificate.proofs.fact_lines.read_function_numbers.Goals as goal
-
-pub returns-in_default-clause-none : goal.returns-in_default-clause-none
-returns-in_default-clause-none c = no_head _ c.in_default.ensures.none

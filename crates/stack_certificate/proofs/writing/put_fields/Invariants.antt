@@ -1,7 +1,0 @@
-use Rattle.std.proofs.Common.{◌≡◌, ◌++◌, map, take}
-use Rattle.cap_text.specs.Decimals.{canonical_decimal}
-use Rattle.cap_text.specs.Pieces.{after_each}
-use Rattle.stack_certificate.proofs.writing.put_fields.Given as goal
-
-abbrev pub invariant-loop-number : goal.invariant-loop-number
-invariant-loop-number l = l.text.items ≡ l.fn.text.items ++ after_each 32 (map canonical_decimal (take l.number-index l.numbers))

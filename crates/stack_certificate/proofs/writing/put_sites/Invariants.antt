@@ -1,9 +1,0 @@
-use Rattle.std.proofs.Common.{◌≡◌, ◌++◌, map, take}
-use Rattle.std.specs.List.{AllByRecursion}
-use Rattle.cap_text.specs.TextLines.{ended_lines}
-use Rattle.stack_certificate.specs.Text.{site_line, HoldsSiteWords}
-use Rattle.stack_certificate.proofs.writing.put_sites.Given as goal
-
-abbrev pub invariant-loop-fact : goal.invariant-loop-fact
-invariant-loop-fact l =
-    (l.text.items ≡ l.fn.text.items ++ ended_lines (map site_line (take l.fact-index l.facts))) × AllByRecursion HoldsSiteWords (take l.fact-index l.facts)
