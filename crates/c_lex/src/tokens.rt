@@ -1,7 +1,6 @@
 // Tokens, their kinds, and why a source has none.
 use crate::keywords::Keyword;
 use crate::marks::Mark;
-use thiserror::Error;
 
 /// A token, with where it stands in the source.
 #[derive(Clone, Copy, PartialEq, Eq)]
@@ -31,27 +30,23 @@ pub enum TokenKind {
 }
 
 /// Why a source has no list of tokens. `at` is the first place where no token begins, counted from 0.
-#[derive(Clone, Copy, Debug, PartialEq, Eq, Error)]
+#[derive(Clone, Copy)]
 pub enum LexError {
     /// The byte there is neither white space nor the first of a comment, a word or a mark.
-    #[error("BadByte at {at}")]
     BadByte {
         /// The byte's place.
         at: u32,
     },
     /// The comment that begins there with `/*` has no `*/`.
-    #[error("OpenComment at {at}")]
     OpenComment {
         /// The place of its `/`.
         at: u32,
     },
     /// The word that begins there with a digit is no number, or one above 4294967295.
-    #[error("BadNumber at {at}")]
     BadNumber {
         /// The place of its first digit.
         at: u32,
     },
     /// Memory ran out.
-    #[error("out of memory")]
     Memory,
 }

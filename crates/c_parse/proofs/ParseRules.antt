@@ -5,16 +5,16 @@ use Rattle.c_lex.specs.declared.tokens.Token.{Token}
 use Rattle.c_tree.specs.RawTrees.{RawItemTree}
 use Rattle.c_tree.specs.RawProgramView.{raw_program_tree}
 use Rattle.c_tree.specs.declared.raw_programs.RawProgram.{RawProgram}
-use Rattle.c_parse.specs.declared.errors.ParseError.{ParseError}
-use Rattle.c_parse.specs.declared.errors.ParseError.TheVariants.{Unexpected, TooDeep, NestedCall, Memory}
-use Rattle.c_parse.specs.Machine as tasks
-use Rattle.c_parse.specs.Reading.{run}
-use Rattle.c_parse.specs.Refusals.{Verdict, IsWithin, IsUnexpected}
-use Rattle.c_parse.specs.Grammar.{IsProgram}
+use Rattle.c_grammar.specs.declared.errors.ParseError.{ParseError}
+use Rattle.c_grammar.specs.declared.errors.ParseError.TheVariants.{Unexpected, TooDeep, NestedCall, Memory}
+use Rattle.c_grammar.specs.Machine as tasks
+use Rattle.c_grammar.specs.Reading.{run}
+use Rattle.c_grammar.specs.Refusals.{Verdict, IsWithin, IsUnexpected}
+use Rattle.c_grammar.specs.Grammar.{IsProgram}
 use Rattle.c_parse.specs.NestedCalls.{nested_in_items}
 use Rattle.c_parse.specs.Parsed.{IsParsed, IsNestedCall, IsParseErrorOf}
-use Rattle.c_parse.proofs.Outcome.{run_is_verdict, one_verdict}
-use Rattle.c_parse.proofs.TreeUnique.{program_unique}
+use Rattle.grammar_laws.proofs.Outcome.{run_is_verdict, one_verdict}
+use Rattle.grammar_laws.proofs.TreeUnique.{program_unique}
 use Rattle.c_parse.proofs.NestedWhole.{items_whole, items_none}
 
 verdict_at : (end : ℕ) (tokens : List Token) (r : Option ParseError) → run end (tasks.Items ∷ []) tokens ≡ r → Verdict end tokens r

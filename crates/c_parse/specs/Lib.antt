@@ -1,14 +1,2 @@
-pub mod Signs
-pub mod Rests
-pub mod Machine
-pub mod Reading
-pub mod Tokens
-pub mod Operators
-pub mod Grammar
-pub mod Steps
-pub mod StmtSteps
 pub mod NestedCalls
-pub mod Refusals
-pub mod BodySteps
 pub mod Parsed
-pub mod ItemSteps

@@ -3,10 +3,10 @@ use Rattle.std.specs.Prelude.{ℕ, ◌≡◌, List, Some, length}
 use Rattle.c_lex.specs.declared.tokens.Token.{Token}
 use Rattle.c_tree.specs.RawTrees.{RawItemTree}
 use Rattle.c_tree.specs.WholeCalls.{AreCallsWhole}
-use Rattle.c_parse.specs.declared.errors.ParseError.{ParseError}
-use Rattle.c_parse.specs.declared.errors.ParseError.TheVariants.{Unexpected, TooDeep, NestedCall, Memory}
-use Rattle.c_parse.specs.Refusals.{IsWithin, IsUnexpected, IsTooDeep}
-use Rattle.c_parse.specs.Grammar.{IsProgram}
+use Rattle.c_grammar.specs.declared.errors.ParseError.{ParseError}
+use Rattle.c_grammar.specs.declared.errors.ParseError.TheVariants.{Unexpected, TooDeep, NestedCall, Memory}
+use Rattle.c_grammar.specs.Refusals.{IsWithin, IsUnexpected, IsTooDeep}
+use Rattle.c_grammar.specs.Grammar.{IsProgram}
 use Rattle.c_parse.specs.NestedCalls.{nested_in_items}
 
 -- the tokens are a program in which nothing is too deep and every call is whole, and this is its tree

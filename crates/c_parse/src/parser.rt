@@ -4,12 +4,11 @@ ghost use Rattle.c_tree.specs.RawTrees.{RawItemTree};
 ghost use Rattle.c_tree.specs.RawProgramView.{raw_program_tree};
 ghost use Rattle.c_parse.specs.Parsed.{IsParsed, IsParseErrorOf};
 
-use crate::cursor::{Cursor, Text};
-use crate::errors::ParseError;
-use crate::items::items;
 use crate::nested_calls::nested_in_items;
+use c_grammar::ParseError;
 use c_lex::Token;
 use c_tree::RawProgram;
+use grammar_reader::{Cursor, Text, all_items};
 use std::alloc::Global;
 
 /// The tree of a source, whose tokens these are, as `c_lex` gives them (ISO/IEC 9899:2018, 6.5 to 6.9, the subset).
@@ -46,7 +45,7 @@ fn tree_of(alloc: Global, source: &[u8], tokens: &[Token]) -> Result<RawProgram,
         end: source.len() as u32,
     };
     let mut cursor = Cursor { tokens };
-    let items = items(text, &mut cursor)?;
+    let items = all_items(text, &mut cursor)?;
     match nested_in_items(&items) {
         Some(at) => Err(ParseError::NestedCall { at }),
         None => Ok(RawProgram::new(items)),

@@ -9,16 +9,16 @@ use Rattle.c_tree.specs.RawTrees.{RawItemTree}
 use Rattle.c_tree.specs.Trees.{ProgramTree}
 use Rattle.c_tree.specs.ProgramView.{program_tree}
 use Rattle.c_tree.specs.declared.programs.Program.{Program}
-use Rattle.c_parse.specs.declared.errors.ParseError.{ParseError}
+use Rattle.c_grammar.specs.declared.errors.ParseError.{ParseError}
 use Rattle.c_parse.specs.Parsed.{IsParsed, IsParseErrorOf}
 use Rattle.c_parse.proofs.ParseRules as parsing
-use Rattle.c_parse.proofs.TreeUnique.{program_unique}
-use Rattle.c_scope.specs.declared.errors.ScopeError.{ScopeError}
+use Rattle.grammar_laws.proofs.TreeUnique.{program_unique}
+use Rattle.scope_rules.specs.declared.errors.ScopeError.{ScopeError}
 use Rattle.c_scope.specs.declared.source_errors.SourceError.{SourceError}
 use Rattle.c_scope.specs.declared.source_errors.SourceError.TheVariants as refusals
-use Rattle.c_scope.specs.Outcomes.{IsResolved, IsRefused, IsNoMemory}
+use Rattle.scope_rules.specs.Outcomes.{IsResolved, IsRefused, IsNoMemory}
 use Rattle.c_scope.specs.SourceText.{ReadsAs, IsNoTree, IsNoProgram, IsSourceErrorOf, by_lex, by_parse, by_scope}
-use Rattle.c_scope.proofs.OneOutcome as scoping
+use Rattle.scope_rules.proofs.OneOutcome as scoping
 
 -- the three readers' refusals are the source's
 pub no_tokens : (source : List ℕ) (e : LexError) → (e ≢ LexError.Memory → IsLexErrorOf source e) → by_lex e ≢ refusals.Memory → IsSourceErrorOf source (by_lex e)

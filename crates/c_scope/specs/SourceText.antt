@@ -5,12 +5,12 @@ use Rattle.c_lex.specs.declared.tokens.LexError.{LexError}
 use Rattle.c_lex.specs.Tokens.{AreTokensOf, IsLexErrorOf}
 use Rattle.c_tree.specs.RawTrees.{RawItemTree}
 use Rattle.c_tree.specs.Trees.{ProgramTree}
-use Rattle.c_parse.specs.declared.errors.ParseError.{ParseError}
+use Rattle.c_grammar.specs.declared.errors.ParseError.{ParseError}
 use Rattle.c_parse.specs.Parsed.{IsParsed, IsParseErrorOf}
-use Rattle.c_scope.specs.declared.errors.ScopeError.{ScopeError}
+use Rattle.scope_rules.specs.declared.errors.ScopeError.{ScopeError}
 use Rattle.c_scope.specs.declared.source_errors.SourceError.{SourceError}
 use Rattle.c_scope.specs.declared.source_errors.SourceError.TheVariants as refusals
-use Rattle.c_scope.specs.Outcomes.{IsResolved, IsRefused}
+use Rattle.scope_rules.specs.Outcomes.{IsResolved, IsRefused}
 
 -- The source reads as this program: its bytes split into these tokens, by maximal munch, with white space and comments
 -- between them; the tokens are this tree of the grammar, in which nothing is too deep and every call is whole; and the tree

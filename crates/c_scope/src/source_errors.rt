@@ -2,10 +2,10 @@
 ghost use Rattle.std.specs.Prelude.{◌≡◌};
 ghost use Rattle.c_scope.specs.SourceText.{by_lex, by_parse, by_scope};
 
-use crate::errors::ScopeError;
 use c_lex::LexError;
 use c_parse::ParseError;
 use cap_word::Which;
+use scope_rules::ScopeError;
 use thiserror::Error;
 
 /// Why a source text is no program: the refusal of the first of the three readings, into tokens, into a tree and into a

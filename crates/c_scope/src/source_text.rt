@@ -4,11 +4,11 @@ ghost use Rattle.c_tree.specs.Trees.{ProgramTree};
 ghost use Rattle.c_tree.specs.ProgramView.{program_tree};
 ghost use Rattle.c_scope.specs.SourceText.{ReadsAs, IsSourceErrorOf};
 
-use crate::resolver::resolve;
 use crate::source_errors::{SourceError, of_lex, of_parse, of_scope};
 use c_lex::lex;
 use c_parse::parse;
 use c_tree::Program;
+use scope_rules::resolve;
 use std::alloc::Global;
 
 /// The program that a source of at most 1,048,576 bytes is: its tokens (ISO/IEC 9899:2018, 6.4), its tree (6.5 to 6.9) and

@@ -1,10 +1,15 @@
-// Rows over the reading of whole sources: which are programs, and the refusal with its place of each that is none.
+// Rows over the public calls of the crates that read a source: tokens, trees, grammar, whole programs, and values.
 //
-// It has tests alone. What comes in is a table of sources; what each must give was worked out by hand from
-// ISO/IEC 9899:2018, 6.4 to 6.9, and the rules and limits of the subset that docs/LANGUAGE.md gives. No crate stands
-// on this one: it is apart from the libraries so that they are proved once and not a second time with their tests.
+// It has tests alone. What comes in is a table of sources, numbers and trees made by hand; what each must give was worked
+// out by hand from ISO/IEC 9899:2018, 6.4 to 6.9, and the rules and limits of the subset that docs/LANGUAGE.md gives. A
+// table is one text, a row a line: what is wanted, a colon, and the source (`lines`); a long source is made of parts
+// (`built`). No crate stands on this one: it is apart from the libraries so that they are proved once and not a second
+// time with their tests. The small programs of `trees` and `values` are made by `Program::new`, so a well-scoped program
+// exists (specs/Sample.antt).
 #![tactic(auto)]
 
+#[cfg(test)]
+mod built;
 #[cfg(test)]
 mod depth;
 #[cfg(test)]
@@ -12,4 +17,12 @@ mod grammar;
 #[cfg(test)]
 mod limits;
 #[cfg(test)]
+mod lines;
+#[cfg(test)]
 mod programs;
+#[cfg(test)]
+mod tokens;
+#[cfg(test)]
+mod trees;
+#[cfg(test)]
+mod values;

@@ -1,7 +1,7 @@
 use Rattle.std.proofs.Common.{◌≡◌, None, Some, refl, sym, ap, ◌∙◌}
 use Rattle.c_tree.specs.RawViews.{raw_item_trees}
 use Rattle.c_parse.specs.NestedCalls.{nested_in_items}
-use Rattle.c_parse.proofs.Paths.{exit}
+use Rattle.grammar_reader.proofs.Paths.{exit}
 use Rattle.c_parse.proofs.ParseRules.{parsed_whole, parsed_nested, parsed_refused}
 use Rattle.c_parse.proofs.parser.tree_of.Goals as goal
 

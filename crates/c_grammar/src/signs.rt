@@ -1,0 +1,117 @@
+// What the grammar tells tokens apart by.
+ghost use Rattle.std.specs.Prelude.{◌≡◌};
+ghost use Rattle.c_grammar.specs.Signs.{sign_of_lem, keyword_sign_lem, mark_sign_lem};
+
+use c_lex::{Keyword, Mark, TokenKind};
+
+/// What a token is to the grammar. `+`, `-` and `*` have uses beside that between two operands, and `!` and `~` stand
+/// before an operand alone; the other operators between operands differ in how tightly they bind, and in nothing else
+/// that the grammar sees.
+#[derive(Clone, Copy, PartialEq, Eq)]
+pub enum Sign {
+    Name,
+    Number,
+    Int,
+    Void,
+    If,
+    Else,
+    While,
+    For,
+    Break,
+    Continue,
+    Return,
+    LeftParenthesis,
+    RightParenthesis,
+    LeftBracket,
+    RightBracket,
+    LeftBrace,
+    RightBrace,
+    Comma,
+    Semicolon,
+    Question,
+    Colon,
+    Assign,
+    Plus,
+    Minus,
+    Star,
+    /// `!` and `~`
+    Prefix,
+    /// `/` and `%`
+    Multiplicative,
+    /// `<<` and `>>`
+    Shift,
+    /// `<`, `<=`, `>` and `>=`
+    Relational,
+    /// `==` and `!=`
+    Equality,
+    BitAnd,
+    BitXor,
+    BitOr,
+    LogicalAnd,
+    LogicalOr,
+    /// A keyword or a mark of C that the grammar has no use for.
+    Unused,
+    /// No token: the end of the source.
+    Finish,
+}
+
+/// What a token of this kind is to the grammar.
+pub fn sign_of(kind: TokenKind) -> Sign
+    ensures { result ≡ sign_of_lem kind }
+{
+    match kind {
+        TokenKind::Name => Sign::Name,
+        TokenKind::Number { .. } => Sign::Number,
+        TokenKind::Keyword(keyword) => keyword_sign(keyword),
+        TokenKind::Mark(mark) => mark_sign(mark),
+    }
+}
+
+fn keyword_sign(keyword: Keyword) -> Sign
+    ensures { result ≡ keyword_sign_lem keyword }
+{
+    match keyword {
+        Keyword::Int => Sign::Int,
+        Keyword::Void => Sign::Void,
+        Keyword::If => Sign::If,
+        Keyword::Else => Sign::Else,
+        Keyword::While => Sign::While,
+        Keyword::For => Sign::For,
+        Keyword::Break => Sign::Break,
+        Keyword::Continue => Sign::Continue,
+        Keyword::Return => Sign::Return,
+        _ => Sign::Unused,
+    }
+}
+
+fn mark_sign(mark: Mark) -> Sign
+    ensures { result ≡ mark_sign_lem mark }
+{
+    match mark {
+        Mark::LeftParenthesis => Sign::LeftParenthesis,
+        Mark::RightParenthesis => Sign::RightParenthesis,
+        Mark::LeftBracket => Sign::LeftBracket,
+        Mark::RightBracket => Sign::RightBracket,
+        Mark::LeftBrace => Sign::LeftBrace,
+        Mark::RightBrace => Sign::RightBrace,
+        Mark::Comma => Sign::Comma,
+        Mark::Semicolon => Sign::Semicolon,
+        Mark::Question => Sign::Question,
+        Mark::Colon => Sign::Colon,
+        Mark::Assign => Sign::Assign,
+        Mark::Plus => Sign::Plus,
+        Mark::Minus => Sign::Minus,
+        Mark::Star => Sign::Star,
+        Mark::Exclamation | Mark::Tilde => Sign::Prefix,
+        Mark::Slash | Mark::Percent => Sign::Multiplicative,
+        Mark::ShiftLeft | Mark::ShiftRight => Sign::Shift,
+        Mark::Less | Mark::LessEqual | Mark::Greater | Mark::GreaterEqual => Sign::Relational,
+        Mark::Equal | Mark::NotEqual => Sign::Equality,
+        Mark::Ampersand => Sign::BitAnd,
+        Mark::Caret => Sign::BitXor,
+        Mark::Bar => Sign::BitOr,
+        Mark::AndAnd => Sign::LogicalAnd,
+        Mark::OrOr => Sign::LogicalOr,
+        _ => Sign::Unused,
+    }
+}

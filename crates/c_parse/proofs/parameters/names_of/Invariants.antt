@@ -1,8 +1,0 @@
-use Rattle.std.proofs.Common.{◌≡◌, map}
-use Rattle.std.specs.Prelude.{option_map}
-use Rattle.c_tree.specs.RawViews.{name_tree}
-use Rattle.c_parse.specs.ItemSteps.{names_in}
-use Rattle.c_parse.proofs.parameters.names_of.Given as goal
-
-abbrev pub invariant-loop-param : goal.invariant-loop-param
-invariant-loop-param l = map name_tree l.names.items ≡ names_in (map (option_map name_tree) l.yielded)

@@ -1,6 +1,0 @@
-use Rattle.std.proofs.Common.{◌≡◌, ◌≤◌, ◌+◌, drop, sum, map}
-use Rattle.c_tree.specs.Temporaries.{capped}
-use Rattle.c_scope.proofs.limits.global_words.Given as goal
-
-abbrev pub invariant-loop-global : goal.invariant-loop-global
-invariant-loop-global l = (l.total ≤ 65537) × (capped (l.total + sum (map (λ g. g.words) (drop l.global-index l.globals))) ≡ capped (sum (map (λ g. g.words) l.globals)))

@@ -1,7 +1,0 @@
-use Rattle.std.proofs.Common.{◌≡◌, max, drop, map}
-use Rattle.c_tree.specs.Views.{function_tree}
-use Rattle.c_scope.specs.Limits.{most_params}
-use Rattle.c_scope.proofs.limits.most_params.Given as goal
-
-abbrev pub invariant-loop-function : goal.invariant-loop-function
-invariant-loop-function l = max l.most (most_params (map function_tree (drop l.function-index l.functions))) ≡ most_params (map function_tree l.functions)

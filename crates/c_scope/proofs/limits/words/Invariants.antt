@@ -1,6 +1,0 @@
-use Rattle.std.proofs.Common.{◌≡◌, ◌≤◌, ◌+◌, drop, sum}
-use Rattle.c_tree.specs.Temporaries.{capped}
-use Rattle.c_scope.proofs.limits.words.Given as goal
-
-abbrev pub invariant-loop-size : goal.invariant-loop-size
-invariant-loop-size l = (l.total ≤ 65537) × (capped (l.total + sum (drop l.size-index l.sizes)) ≡ capped (sum l.sizes))

@@ -1,0 +1,29 @@
+use Rattle.std.proofs.Common.{◌∷◌, [], refl}
+use Rattle.std.proofs.lemmas.List.{map-append}
+use Rattle.std.proofs.lemmas.Result.{IfOk-weaker, IfErr-weaker}
+use Rattle.c_grammar.specs.Machine as tasks
+use Rattle.grammar_reader.specs.Steps.{Refused}
+use Rattle.grammar_reader.proofs.Paths.{exit, sign_other}
+use Rattle.grammar_reader.proofs.ItemRules.{after_int_table, after_int_no_name, after_int_function, after_int_function_refused, after_int_globals, after_int_globals_refused}
+use Rattle.grammar_reader.proofs.items.after_int.Goals as goal
+
+pub returns-then-eq-clause-read : goal.returns-then-eq-clause-read
+returns-then-eq-clause-read c = after_int_table _ _ _ _ _ _ _ c.in_ok-table.ensures.read (rw (c.in_ok-push.ensures.items, map-append) refl)
+
+pub returns-in_err-name-clause-refused : goal.returns-in_err-name-clause-refused
+returns-in_err-name-clause-refused c = exit _ _ c.from_residual-in_err-name.ensures.1 (after_int_no_name _ _ _ (sign_other c.sign.ensures c.if-eq.ensures) c.in_err-name.ensures.refused)
+
+pub returns-in_err-item-clause-refused : goal.returns-in_err-item-clause-refused
+returns-in_err-item-clause-refused c = exit _ _ c.from_residual-in_err-item.ensures.1 (after_int_function_refused _ _ _ _ _ _ c.in_ok-name.ensures.taken c.in_err-item.ensures.refused)
+
+pub returns-then-eq-2-clause-read : goal.returns-then-eq-2-clause-read
+returns-then-eq-2-clause-read c = after_int_function _ _ _ _ _ _ _ _ _ c.in_ok-name.ensures.taken c.in_ok-item.ensures.read (rw (c.in_ok-push-2.ensures.items, map-append) refl)
+
+pub returns-clause-read : goal.returns-clause-read
+returns-clause-read c =
+    IfOk-weaker c.globals.result _ _ (λ x h. after_int_globals _ _ _ _ _ _ _ _ c.in_ok-name.ensures.taken h) c.globals.ensures.read
+
+pub returns-clause-refused : goal.returns-clause-refused
+returns-clause-refused c =
+    IfErr-weaker c.globals.result (λ error. Refused c.args.text.end 0 (tasks.AfterIntName ∷ []) c.take_name.new.self.tokens.now error) (λ error. Refused c.args.text.end 0 (tasks.AfterInt ∷ []) c.args.cursor.now.tokens.now error)
+    (λ error h. after_int_globals_refused _ _ _ _ _ _ c.in_ok-name.ensures.taken h) c.globals.ensures.refused

@@ -1,0 +1,11 @@
+use Rattle.std.proofs.Common.{map, length}
+use Rattle.std.specs.Prelude.{option_map}
+use Rattle.c_tree.specs.RawViews.{name_tree}
+use Rattle.grammar_reader.specs.ItemSteps.{ReadingParameters}
+use Rattle.grammar_reader.proofs.parameters.parameter_list.Given as goal
+
+abbrev pub invariant-loop-cursor : goal.invariant-loop-cursor
+invariant-loop-cursor l = ReadingParameters l.fn.text.bytes.now l.fn.text.end l.fn.cursor.tokens.now (map (option_map name_tree) l.params.items) l.cursor.tokens.now
+
+abbrev pub decreases-loop-cursor : goal.decreases-loop-cursor
+decreases-loop-cursor l = length l.cursor.tokens.now

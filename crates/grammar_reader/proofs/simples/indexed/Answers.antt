@@ -1,0 +1,45 @@
+use Rattle.std.proofs.Common.{ℕ, List, [], ◌∷◌}
+use Rattle.std.proofs.lemmas.Result.{IfOk-at_ok, IfErr-at_err}
+use Rattle.c_lex.specs.declared.tokens.Token.{Token}
+use Rattle.c_tree.specs.declared.raw_expressions.RawExpr.{RawExpr}
+use Rattle.c_tree.specs.RawViews.{name_tree, raw_expr_tree}
+use Rattle.c_grammar.specs.Machine.{Expr, Parenthesized}
+use Rattle.grammar_reader.specs.Steps.{Refused, ReadsExpr, ReadsParenthesized}
+use Rattle.grammar_reader.proofs.Paths.{exit}
+use Rattle.grammar_reader.proofs.SignTests.{is_sign, other_sign}
+use Rattle.grammar_reader.proofs.SimpleRules.{indexed_call, indexed_call_refused, indexed_no_assign, indexed_set_refused, indexed_set}
+use Rattle.grammar_reader.proofs.simples.indexed.Goals as goal
+
+abbrev ReadsArgument : List ℕ → ℕ → ℕ → List Token → List Token → RawExpr → Type 0
+ReadsArgument source end depth before after e = ReadsParenthesized source end depth before (raw_expr_tree e) after
+
+abbrev ReadsValue : List ℕ → ℕ → ℕ → List Token → List Token → RawExpr → Type 0
+ReadsValue source end depth before after e = ReadsExpr source end depth before (raw_expr_tree e) after
+
+pub returns-in_err-called-clause-refused : goal.returns-in_err-called-clause-refused
+returns-in_err-called-clause-refused c =
+    let refused = IfErr-at_err (Refused c.args.text.end c.args.depth (Parenthesized ∷ []) c.args.cursor.now.tokens.now) c.in_err-called.ensures.refused c.parenthesized.ensures.refused in
+    exit _ _ c.from_residual.ensures.1 (indexed_call_refused c.args.text.end c.args.depth c.args.cursor.now.tokens.now c.in_err-called.field-0.0 (is_sign c.sign.ensures c.if-eq.ensures) refused)
+
+pub returns-then-eq-clause-read : goal.returns-then-eq-clause-read
+returns-then-eq-clause-read c =
+    let read = IfOk-at_ok (ReadsArgument c.args.text.bytes.now c.args.text.end c.args.depth c.args.cursor.now.tokens.now c.parenthesized.new.cursor.tokens.now) c.in_ok-called.ensures.had c.parenthesized.ensures.read in
+    rw c.in_ok-called.ensures.held
+    (indexed_call c.args.text.bytes.now c.args.text.end c.args.depth (name_tree c.args.name) (raw_expr_tree c.args.index) (raw_expr_tree c.in_ok-called.argument) c.args.cursor.now.tokens.now c.parenthesized.new.cursor.tokens.now read)
+
+pub returns-in_err-target-clause-refused : goal.returns-in_err-target-clause-refused
+returns-in_err-target-clause-refused c =
+    exit _ _ c.from_residual-in_err-target.ensures.1
+    (indexed_no_assign c.args.text.end c.args.depth c.args.cursor.now.tokens.now c.in_err-target.field-0.0 (other_sign c.sign.ensures c.if-eq.ensures) c.in_err-target.ensures.other c.in_err-target.ensures.place)
+
+pub returns-in_err-target-2-clause-refused : goal.returns-in_err-target-2-clause-refused
+returns-in_err-target-2-clause-refused c =
+    let refused = IfErr-at_err (Refused c.args.text.end c.args.depth (Expr ∷ []) c.before_sign.new.cursor.tokens.now) c.in_err-target-2.ensures.refused c.expression.ensures.refused in
+    exit _ _ c.from_residual-in_err-target-2.ensures.1
+    (indexed_set_refused c.args.text.end c.args.depth c.args.cursor.now.tokens.now c.before_sign.new.cursor.tokens.now c.in_err-target-2.field-0.0 c.requires c.in_ok-target.ensures.taken refused)
+
+pub returns-clause-read : goal.returns-clause-read
+returns-clause-read c =
+    let read = IfOk-at_ok (ReadsValue c.args.text.bytes.now c.args.text.end c.args.depth c.before_sign.new.cursor.tokens.now c.expression.new.cursor.tokens.now) c.in_ok-target-2.ensures.had c.expression.ensures.read in
+    rw (c.in_ok-target-2.ensures.held, c.in_ok-target.ensures.held)
+    (indexed_set c.args.text.bytes.now c.args.text.end c.args.depth (name_tree c.args.name) (raw_expr_tree c.args.index) (raw_expr_tree c.in_ok-target-2.value) c.args.cursor.now.tokens.now c.before_sign.new.cursor.tokens.now c.expression.new.cursor.tokens.now c.requires c.in_ok-target.ensures.taken read)

@@ -1,0 +1,4 @@
+pub mod Steps
+pub mod StmtSteps
+pub mod BodySteps
+pub mod ItemSteps

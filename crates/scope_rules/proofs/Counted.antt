@@ -1,0 +1,40 @@
+-- The words that functions declare, as they are counted.
+use Rattle.std.proofs.Common.{ℕ, zero, suc, ◌≡◌, refl, sym, ap, ◌∙◌, List, [], ◌∷◌, ◌++◌, length, drop, map, sum, max, arith}
+use Rattle.std.proofs.lemmas.List.{map-append}
+use Rattle.c_tree.specs.declared.facts.Function.{Function}
+use Rattle.c_tree.specs.Views.{function_tree}
+use Rattle.c_tree.specs.RawTrees.{NameTree, RawStmtTrees}
+use Rattle.c_tree.specs.Trees.{FunctionTree}
+use Rattle.c_tree.specs.TextOrder.{stmts_names}
+use Rattle.c_tree.specs.Sizes.{scalars, declared_words}
+use Rattle.c_tree.specs.Temporaries.{capped}
+use Rattle.scope_rules.specs.Places.{Spot}
+use Rattle.scope_rules.specs.Statements.{stmts_after, stmts_of}
+use Rattle.scope_rules.specs.Items.{unsized, params_after}
+use Rattle.scope_rules.specs.Limits.{most_locals}
+use Rattle.scope_rules.proofs.Growth.{words, stmts_grown}
+use Rattle.scope_rules.proofs.Programs.{params_sizes}
+
+locals_more : (fs : List FunctionTree) (f : FunctionTree) → most_locals (fs ++ f ∷ []) ≡ max (most_locals fs) (sum (declared_words f))
+locals_more [] f = omega arith
+locals_more (g ∷ fs) f = let k = locals_more fs f in omega arith
+
+pub counted_more : (fs : List FunctionTree) (f : FunctionTree) (old here new : ℕ) → old ≡ capped (most_locals fs) → here ≡ capped (sum (declared_words f)) → new ≡ max old here → new ≡ capped (most_locals (fs ++ f ∷ []))
+counted_more fs f old here new a b c = let k = locals_more fs f in omega arith
+
+drop_scalars : (n : ℕ) (ws : List ℕ) → drop n (scalars n ++ ws) ≡ ws
+drop_scalars zero ws = refl
+drop_scalars (suc n) ws = drop_scalars n ws
+
+pub counted_push : (fs : List Function) (f : Function) (more : List Function) (old here new : ℕ) → more ≡ fs ++ f ∷ []
+    → old ≡ capped (most_locals (map function_tree fs)) → here ≡ capped (sum (declared_words (function_tree f))) → new ≡ max old here → new ≡ capped (most_locals (map function_tree more))
+counted_push fs f more old here new e a b c =
+    counted_more (map function_tree fs) (function_tree f) old here new a b c
+    ∙ ap (λ x. capped (most_locals x)) (sym (ap (map function_tree) e ∙ map-append function_tree fs (f ∷ [])))
+
+pub body_words : (s : Spot) (ps : List NameTree) (body : RawStmtTrees)
+    → drop (length ps) (stmts_after (params_after (unsized s) ps) body).sizes ≡ words (stmts_names (stmts_of (params_after (unsized s) ps) body))
+body_words s ps body =
+    let b = params_after (unsized s) ps in
+    let ws = words (stmts_names (stmts_of b body)) in
+    ap (drop (length ps)) ((stmts_grown b body).sizes ∙ ap (λ x. x ++ ws) (params_sizes (unsized s) ps)) ∙ drop_scalars (length ps) ws

@@ -1,0 +1,87 @@
+-- Each name that is declared where no rule is broken has a word.
+use Rattle.std.proofs.Common.{ℕ, ◌≡◌, ◌≤◌, Bool, true, List, [], ◌∷◌, ◌++◌, length, sum, Option, Some, None, arith}
+use Rattle.std.specs.Prelude.{nat_lt, ◌||◌, option_map}
+use Rattle.c_tree.specs.RawTrees.{RawSimpleTree, RawDeclareScalar, RawDeclareArray, RawDeclareWith, RawSet, RawSetElement, RawCalling, RawTableCalling, RawStmtTree, RawStmtTrees, RawDo, RawEmpty, RawBlock, RawIf, RawIfElse, RawWhile, RawFor, RawBreak, RawContinue, RawReturn, NoRawStmts, RawThen}
+use Rattle.std.proofs.lemmas.List.Sums.{sum_by-cons}
+use Rattle.c_tree.specs.TextOrder.{Declared, simple_names, simples_names, step_names, stmt_names, stmts_names}
+use Rattle.scope_rules.specs.declared.faults.Rule.{Rule}
+use Rattle.scope_rules.specs.Names.{find}
+use Rattle.scope_rules.specs.Meanings.{variable_of}
+use Rattle.scope_rules.specs.Expressions.{expr_faults, expr_of}
+use Rattle.scope_rules.specs.Calls.{right_of}
+use Rattle.scope_rules.specs.Places.{Spot}
+use Rattle.scope_rules.specs.Simples.{declare_faults, size_faults, simple_faults, simple_of, simple_after, simples_faults, simples_of, simples_after}
+use Rattle.scope_rules.specs.Statements.{inside, left, condition_faults, step_kind, step_faults, step_after, stmt_after, stmt_faults, stmts_faults, stmt_of, stmts_of}
+use Rattle.scope_rules.proofs.NoFaults.{both_none, not_broken, neither, not_less}
+use Rattle.scope_rules.proofs.Growth.{words, set_scalar_names, set_element_names}
+
+abbrev pub ArePositive : List Declared → Type 0
+ArePositive [] = Unit {0}
+ArePositive (d ∷ ds) = (1 ≤ d.words) × ArePositive ds
+
+pub both_positive : (ds es : List Declared) → ArePositive ds → ArePositive es → ArePositive (ds ++ es)
+both_positive [] es h k = k
+both_positive (d ∷ ds) es h k = (h.0, both_positive ds es h.1 k)
+
+pub no_more_than_words : (ds : List Declared) → ArePositive ds → length ds ≤ sum (words ds)
+no_more_than_words [] h = omega arith
+no_more_than_words (d ∷ ds) h = let k = no_more_than_words ds h.1 in omega (arith, h.0, sum_by-cons (λ (x : ℕ). x) d.words (words ds))
+
+simple_positive : (s : Spot) (p : RawSimpleTree) → simple_faults s p ≡ [] → ArePositive (simple_names (simple_of s p))
+simple_positive s (RawDeclareScalar n) h = (omega arith, tt)
+simple_positive s (RawDeclareArray n size) h =
+    let k = both_none (declare_faults s n) (size_faults n size) h in
+    let b = neither (nat_lt size 1) (nat_lt 65536 size) (not_broken (nat_lt size 1 || nat_lt 65536 size) n.at Rule.Kind k.1) in
+    (not_less size 1 b.0, tt)
+simple_positive s (RawDeclareWith n v) h = (omega arith, tt)
+simple_positive s (RawSet n v) h = rw (set_scalar_names (variable_of (find n.text s.names)) (right_of s.names s.site v)) tt
+simple_positive s (RawSetElement n i v) h = rw (set_element_names (variable_of (find n.text s.names)) (expr_of s.names i) (right_of s.names s.site v)) tt
+simple_positive s (RawCalling n es) h = tt
+simple_positive s (RawTableCalling n i e) h = tt
+
+simples_positive : (s : Spot) (ps : List RawSimpleTree) → simples_faults s ps ≡ [] → ArePositive (simples_names (simples_of s ps))
+simples_positive s [] h = tt
+simples_positive s (p ∷ ps) h =
+    let k = both_none (simple_faults s p) (simples_faults (simple_after s p) ps) h in
+    both_positive (simple_names (simple_of s p)) (simples_names (simples_of (simple_after s p) ps)) (simple_positive s p k.0) (simples_positive (simple_after s p) ps k.1)
+
+step_positive : (s : Spot) (p : Option RawSimpleTree) → step_faults s p ≡ [] → ArePositive (step_names (option_map (simple_of s) p))
+step_positive s None h = tt
+step_positive s (Some p) h = let k = both_none (step_kind p) (simple_faults s p) h in simple_positive s p k.1
+
+mutual
+  pub stmt_positive : (gives loop : Bool) (s : Spot) (p : RawStmtTree) → stmt_faults gives loop s p ≡ [] → ArePositive (stmt_names (stmt_of s p))
+  stmt_positive gives loop s (RawDo p) h = simple_positive s p h
+  stmt_positive gives loop s RawEmpty h = tt
+  stmt_positive gives loop s (RawBlock ps) h = stmts_positive gives loop (inside s) ps h
+  stmt_positive gives loop s (RawIf c p) h =
+      let k = both_none (expr_faults s.names c) (stmt_faults gives loop (inside s) p) h in stmt_positive gives loop (inside s) p k.1
+  stmt_positive gives loop s (RawIfElse c p r) h =
+      let m = left s (stmt_after (inside s) p) in
+      let k = both_none (expr_faults s.names c) (stmt_faults gives loop (inside s) p ++ stmt_faults gives loop (inside m) r) h in
+      let j = both_none (stmt_faults gives loop (inside s) p) (stmt_faults gives loop (inside m) r) k.1 in
+      both_positive (stmt_names (stmt_of (inside s) p)) (stmt_names (stmt_of (inside m) r)) (stmt_positive gives loop (inside s) p j.0) (stmt_positive gives loop (inside m) r j.1)
+  stmt_positive gives loop s (RawWhile c p) h =
+      let k = both_none (expr_faults s.names c) (stmt_faults gives true (inside s) p) h in stmt_positive gives true (inside s) p k.1
+  stmt_positive gives loop s (RawFor init c step p) h =
+      let a = inside s in
+      let b = simples_after a init in
+      let d = step_after b step in
+      let fi = simples_faults a init in
+      let fe = condition_faults b.names c in
+      let fs = step_faults b step in
+      let fp = stmt_faults gives true (inside d) p in
+      let k = both_none fi (fe ++ (fs ++ fp)) h in
+      let j = both_none fe (fs ++ fp) k.1 in
+      let i = both_none fs fp j.1 in
+      both_positive (simples_names (simples_of a init)) (step_names (option_map (simple_of b) step) ++ stmt_names (stmt_of (inside d) p)) (simples_positive a init k.0)
+      (both_positive (step_names (option_map (simple_of b) step)) (stmt_names (stmt_of (inside d) p)) (step_positive b step i.0) (stmt_positive gives true (inside d) p i.1))
+  stmt_positive gives loop s (RawBreak at) h = tt
+  stmt_positive gives loop s (RawContinue at) h = tt
+  stmt_positive gives loop s (RawReturn at v) h = tt
+
+  pub stmts_positive : (gives loop : Bool) (s : Spot) (ps : RawStmtTrees) → stmts_faults gives loop s ps ≡ [] → ArePositive (stmts_names (stmts_of s ps))
+  stmts_positive gives loop s NoRawStmts h = tt
+  stmts_positive gives loop s (RawThen p ps) h =
+      let k = both_none (stmt_faults gives loop s p) (stmts_faults gives loop (stmt_after s p) ps) h in
+      both_positive (stmt_names (stmt_of s p)) (stmts_names (stmts_of (stmt_after s p) ps)) (stmt_positive gives loop s p k.0) (stmts_positive gives loop (stmt_after s p) ps k.1)

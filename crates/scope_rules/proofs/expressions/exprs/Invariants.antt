@@ -1,0 +1,12 @@
+use Rattle.std.proofs.Common.{◌≡◌, ◌++◌, drop, map}
+use Rattle.c_tree.specs.Views.{expr_tree}
+use Rattle.c_tree.specs.RawViews.{raw_expr_tree}
+use Rattle.scope_rules.specs.Faults.{least_of}
+use Rattle.scope_rules.specs.Expressions.{exprs_of, exprs_faults}
+use Rattle.scope_rules.proofs.expressions.exprs.Given as goal
+
+abbrev pub invariant-loop-argument : goal.invariant-loop-argument
+invariant-loop-argument l = record {
+  trees : map expr_tree l.exprs.items ++ exprs_of l.names (map raw_expr_tree (drop l.argument-index l.raw)) ≡ exprs_of l.names (map raw_expr_tree l.raw);
+  faults : least_of l.least (exprs_faults l.names (map raw_expr_tree (drop l.argument-index l.raw))) ≡ least_of l.initial.least (exprs_faults l.names (map raw_expr_tree l.raw));
+}

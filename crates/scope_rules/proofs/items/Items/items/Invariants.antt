@@ -1,0 +1,14 @@
+use Rattle.std.proofs.Common.{◌≡◌, drop}
+use Rattle.c_tree.specs.RawViews.{raw_item_trees}
+use Rattle.scope_rules.specs.Faults.{least_of}
+use Rattle.scope_rules.specs.ItemViews.{sofar_of, IsCounted}
+use Rattle.scope_rules.specs.Items.{items_after, items_faults}
+use Rattle.scope_rules.proofs.items.Items.items.Given as goal
+
+abbrev pub invariant-loop-item : goal.invariant-loop-item
+invariant-loop-item l = record {
+  counted : IsCounted l.initial.self → IsCounted l.self;
+  definitions : l.self.definitions ≡ l.initial.self.definitions;
+  sofar : items_after l.initial.self.definitions (sofar_of l.self) (raw_item_trees (drop l.item-index l.raw)) ≡ items_after l.initial.self.definitions (sofar_of l.initial.self) (raw_item_trees l.raw);
+  faults : least_of l.self.place.least (items_faults l.initial.self.definitions (sofar_of l.self) (raw_item_trees (drop l.item-index l.raw))) ≡ least_of l.initial.self.place.least (items_faults l.initial.self.definitions (sofar_of l.initial.self) (raw_item_trees l.raw));
+}

@@ -1,0 +1,7 @@
+use Rattle.std.proofs.Common.{◌≡◌, max, drop, map}
+use Rattle.c_tree.specs.Views.{function_tree}
+use Rattle.scope_rules.specs.Limits.{most_params}
+use Rattle.scope_rules.proofs.limits.most_params.Given as goal
+
+abbrev pub invariant-loop-function : goal.invariant-loop-function
+invariant-loop-function l = max l.most (most_params (map function_tree (drop l.function-index l.functions))) ≡ most_params (map function_tree l.functions)

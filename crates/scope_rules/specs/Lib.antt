@@ -1,0 +1,14 @@
+pub mod Names
+pub mod Faults
+pub mod Meanings
+pub mod Expressions
+pub mod Operands
+pub mod Calls
+pub mod Forms
+pub mod Places
+pub mod Simples
+pub mod Statements
+pub mod Items
+pub mod ItemViews
+pub mod Limits
+pub mod Outcomes

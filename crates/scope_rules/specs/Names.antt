@@ -1,0 +1,32 @@
+-- The names in scope at a place, and what a name is there.
+use Rattle.std.specs.Prelude.{ℕ, ◌≡◌, List, [], ◌∷◌, length, map, Option, Some, None, if◌then◌else◌}
+use Rattle.std.specs.Str.{bytes_eq}
+use Rattle.std.specs.Cmp.Lexicographic.{slice_cmp}
+use Rattle.std.specs.Ordering.{nat_cmp}
+use Rattle.std.specs.BTreeMap.{BTreeMap, get_by}
+use Rattle.std.specs.Borrow.{Bor}
+use Rattle.scope_rules.specs.declared.meanings.Meaning.{Meaning}
+use Rattle.scope_rules.specs.declared.meanings.Found.{Found}
+use Rattle.scope_rules.specs.declared.names.Declared.{Declared}
+
+-- a name in scope, and what it is
+pub record Binding : Type 0 where
+  pub text : List ℕ
+  pub meaning : Meaning
+
+-- what a name is where these names are in scope, the latest first: an inner name hides an outer one
+abbrev pub find : List ℕ → List Binding → Option Found
+find t [] = None
+find t (b ∷ bs) = if bytes_eq b.text t then Some (record { position = length bs; meaning = b.meaning }) else find t bs
+
+abbrev pub binding_of : Declared → Binding
+binding_of d = record { text = d.text.now; meaning = d.found.meaning }
+
+-- each entry tells how many names were there before it, and what its name was
+abbrev pub AreLinked : List Declared → Type 0
+AreLinked [] = Unit {0}
+AreLinked (d ∷ ds) = (d.found.position ≡ length ds) × (d.hidden ≡ find d.text.now (map binding_of ds)) × AreLinked ds
+
+-- the map finds what each name is
+abbrev pub Finds : BTreeMap (Bor (List ℕ)) Found → List Binding → Type 0
+Finds m bs = (t : List ℕ) → get_by (λ k. slice_cmp nat_cmp t k.now) m ≡ find t bs

@@ -1,0 +1,42 @@
+// What an expression is as a whole: a name alone, a call, or neither.
+
+ghost use Rattle.c_tree.specs.RawViews.{raw_expr_tree};
+ghost use Rattle.scope_rules.specs.Forms.{IsForm};
+
+use c_tree::{Name, RawExpr};
+
+/// What an expression is as a whole. A chain with no operator in it is what its one operand is.
+#[derive(Clone, Copy)]
+pub enum Form<'r> {
+    Name(&'r Name),
+    Call(&'r Name, &'r [RawExpr]),
+    TableCall(&'r Name, &'r RawExpr, &'r RawExpr),
+    Neither,
+}
+
+/// What the expression is as a whole.
+pub fn form_of(raw: &RawExpr) -> Form<'_>
+    ensures { IsForm result (raw_expr_tree raw.now) }
+{
+    match raw {
+        RawExpr::Name(name) => Form::Name(name),
+        RawExpr::Call { name, arguments } => Form::Call(name, arguments),
+        RawExpr::TableCall {
+            name,
+            index,
+            argument,
+        } => Form::TableCall(name, index, argument),
+        RawExpr::Chain { first, rest } => {
+            if rest.is_empty() {
+                form_of(first)
+            } else {
+                Form::Neither
+            }
+        }
+        RawExpr::Number(_)
+        | RawExpr::Element { .. }
+        | RawExpr::Unary { .. }
+        | RawExpr::Parenthesized(_)
+        | RawExpr::Conditional { .. } => Form::Neither,
+    }
+}

@@ -1,0 +1,471 @@
+// What a source declares and defines outside functions.
+
+ghost use Rattle.std.specs.Prelude.{◌≡◌, ◌∷◌, ◌++◌, [], None, false, IfOk, OnOk, map, option_map, length};
+ghost use Rattle.c_tree.specs.RawViews.{name_tree, raw_stmt_trees, raw_item_tree, raw_item_trees};
+ghost use Rattle.c_tree.specs.Views.{stmt_trees};
+ghost use Rattle.scope_rules.specs.Names.{find};
+ghost use Rattle.scope_rules.specs.Statements.{left, stmts_after, stmts_faults, stmts_of};
+ghost use Rattle.scope_rules.specs.Faults.{least_of};
+ghost use Rattle.scope_rules.specs.Expressions.{use_faults};
+ghost use Rattle.scope_rules.specs.Meanings.{is_member, function_of};
+ghost use Rattle.scope_rules.specs.Places.{spot_of};
+ghost use Rattle.scope_rules.specs.Items.{outer_faults, differ, repeated_faults, function_faults, main_faults, is_missing, is_defined, with_function, param_faults, param_bound, prototype_faults, params_faults, params_after, members_faults, members_of, with_definition, with_definitions, definitions, modelled_names, at_start, with_global, item_faults, item_after, items_faults, items_after, function_left, unsized};
+ghost use Rattle.scope_rules.specs.ItemViews.{sofar_of, IsCounted};
+
+use crate::faults::{Fault, Rule, note, note_if};
+use crate::limits::{declared_words, larger};
+use crate::meanings::{Found, Meaning, function_of};
+use crate::names::Names;
+use crate::places::Place;
+use crate::simples::{bind, check_declared, check_size, number};
+use c_tree::{
+    Function, GlobalFact, ModelledCall, Name, RawFunction, RawItem, RawPrototype, RawTable, Stmt,
+    TableFact,
+};
+use std::alloc::{AllocError, Global};
+use std::mem;
+
+/// What the items so far make, and the functions that the source defines.
+#[derive(Drop)]
+pub struct Items<'a> {
+    pub place: Place<'a>,
+    pub definitions: Names<'a>,
+    pub globals: Vec<GlobalFact>,
+    pub tables: Vec<TableFact>,
+    pub functions: Vec<Function>,
+    /// The most words that a function so far declares, its parameters not counted, up to 65,537.
+    pub locals: u32,
+}
+
+// What is wrong with a global's or a table's name that is this already.
+fn check_outer(least: &mut Option<Fault>, found: Option<Found>, at: u32)
+    ensures { least.new ≡ least_of least.old (outer_faults found at) }
+{
+    if let Some(found) = found {
+        match found.meaning {
+            Meaning::Modelled(_) | Meaning::Spawn => note(least, at, Rule::Kind),
+            Meaning::Local { .. }
+            | Meaning::Global { .. }
+            | Meaning::Table { .. }
+            | Meaning::Function { .. } => note(least, at, Rule::Twice),
+        }
+    }
+}
+
+// Whether two results differ.
+fn differ(gives: bool, other: bool) -> bool
+    ensures { result ≡ differ gives other }
+{
+    if gives { !other } else { other }
+}
+
+// What is wrong with a prototype or a definition of a name that is this already.
+fn check_function(
+    least: &mut Option<Fault>,
+    defining: bool,
+    gives: bool,
+    params: usize,
+    at: u32,
+    found: Option<Found>,
+)
+    ensures { least.new ≡ least_of least.old (function_faults defining gives params at found) }
+{
+    let Some(found) = found else {
+        return;
+    };
+    match found.meaning {
+        Meaning::Local { .. } | Meaning::Global { .. } | Meaning::Table { .. } => {
+            note(least, at, Rule::Twice);
+        }
+        Meaning::Function {
+            gives: earlier,
+            params: count,
+            defined,
+            ..
+        } => {
+            note_if(least, defining && defined, at, Rule::Twice);
+            note_if(
+                least,
+                differ(earlier, gives) || count != params,
+                at,
+                Rule::Arity,
+            );
+        }
+        Meaning::Modelled(_) | Meaning::Spawn => note(least, at, Rule::Kind),
+    }
+}
+
+// `main` with parameters.
+fn check_main(least: &mut Option<Fault>, name: &Name, params: usize)
+    ensures { least.new ≡ least_of least.old (main_faults (name_tree name.now) params) }
+{
+    let is_main = name.text.as_slice() == b"main".as_slice();
+    note_if(least, is_main && params != 0, name.at, Rule::Kind);
+}
+
+// Whether a name is nothing.
+fn is_missing(found: Option<Found>) -> bool
+    ensures { result ≡ is_missing found }
+{
+    match found {
+        None => true,
+        Some(_) => false,
+    }
+}
+
+// Whether a name is a function that is defined already.
+fn is_defined(found: Option<Found>) -> bool
+    ensures { result ≡ is_defined found }
+{
+    match found {
+        Some(
+            Found {
+                meaning: Meaning::Function { defined, .. },
+                ..
+            },
+        ) => defined,
+        _ => false,
+    }
+}
+
+// A parameter of a prototype, which may have a name.
+fn prototype_name<'a>(
+    names: &mut Names<'a>,
+    least: &mut Option<Fault>,
+    outer: usize,
+    param: &'a Option<Name>,
+) -> Result<(), AllocError>
+    ensures names { OnOk result (names.new ≡ param_bound names.old (option_map name_tree param.now)) }
+    ensures faults { OnOk result (least.new ≡ least_of least.old (param_faults names.old outer (option_map name_tree param.now))) }
+{
+    match param {
+        None => Ok(()),
+        Some(name) => {
+            check_declared(least, names.find(&name.text), outer, name.at);
+            let meaning = Meaning::Local {
+                variable: 0,
+                array: false,
+            };
+            bind(names, &name.text, meaning)
+        }
+    }
+}
+
+// The names in a prototype's parentheses.
+fn prototype_names<'a>(
+    names: &mut Names<'a>,
+    least: &mut Option<Fault>,
+    params: &'a [Option<Name>],
+) -> Result<(), AllocError>
+    ensures names { OnOk result (names.new ≡ names.old) }
+    ensures faults { OnOk result (least.new ≡ least_of least.old (prototype_faults names.old (length names.old) (map (option_map name_tree) params.now))) }
+{
+    let outer = names.len();
+    for param in params {
+        prototype_name(names, least, outer, param)?;
+    }
+    names.leave(outer);
+    Ok(())
+}
+
+// A member of a table, by its number.
+fn member(names: &Names, least: &mut Option<Fault>, name: &Name) -> u32
+    ensures function { result ≡ function_of (find name.now.text.items names.now) }
+    ensures faults { least.new ≡ least_of least.old (use_faults is_member (find name.now.text.items names.now) name.now.at) }
+{
+    let found = names.find(&name.text);
+    match found {
+        None => note(least, name.at, Rule::Unknown),
+        Some(found) => note_if(least, !found.meaning.is_member(), name.at, Rule::Kind),
+    }
+    function_of(found)
+}
+
+// The members of a table, by their numbers.
+fn members(
+    alloc: Global,
+    names: &Names,
+    least: &mut Option<Fault>,
+    raw: &[Name],
+) -> Result<Vec<u32>, AllocError>
+    ensures tree { IfOk result (λ fs. fs.items ≡ members_of names.now (map name_tree raw.now)) }
+    ensures faults { OnOk result (least.new ≡ least_of least.old (members_faults names.now (map name_tree raw.now))) }
+{
+    let mut members = Vec::new(alloc);
+    for name in raw {
+        members.push(member(names, least, name))?;
+    }
+    Ok(members)
+}
+
+impl<'a> Place<'a> {
+    // The members of a table, by their numbers.
+    fn table_members(&mut self, raw: &[Name]) -> Result<Vec<u32>, AllocError>
+        ensures tree { IfOk result (λ fs. fs.items ≡ members_of self.old.names (map name_tree raw.now)) }
+        ensures place { OnOk result (spot_of self.new ≡ spot_of self.old) }
+        ensures faults { OnOk result (self.new.least ≡ least_of self.old.least (members_faults self.old.names (map name_tree raw.now))) }
+    {
+        members(self.alloc, &self.names, &mut self.least, raw)
+    }
+
+    // The names in a prototype's parentheses.
+    fn prototype_params(&mut self, raw: &'a [Option<Name>]) -> Result<(), AllocError>
+        ensures place { OnOk result (spot_of self.new ≡ spot_of self.old) }
+        ensures faults { OnOk result (self.new.least ≡ least_of self.old.least (prototype_faults self.old.names (length self.old.names) (map (option_map name_tree) raw.now))) }
+    {
+        prototype_names(&mut self.names, &mut self.least, raw)
+    }
+
+    // The parameters of a definition.
+    fn params(&mut self, raw: &'a [Name]) -> Result<(), AllocError>
+        ensures place { OnOk result (spot_of self.new ≡ params_after (spot_of self.old) (map name_tree raw.now)) }
+        ensures faults { OnOk result (self.new.least ≡ least_of self.old.least (params_faults (spot_of self.old) (map name_tree raw.now))) }
+    {
+        for name in raw {
+            self.check_declare(name);
+            self.declare(name, false, 1)?;
+        }
+        Ok(())
+    }
+
+    // The parameters and the body of a definition, whose name is in scope already.
+    fn function_body(&mut self, raw: &'a RawFunction) -> Result<Vec<Stmt>, AllocError>
+        ensures tree { IfOk result (λ ss. stmt_trees ss.items ≡ stmts_of (params_after (unsized (spot_of self.old)) (map name_tree raw.now.params.items)) (raw_stmt_trees raw.now.body.items)) }
+        ensures place { OnOk result (spot_of self.new ≡ left (spot_of self.old) (stmts_after (params_after (unsized (spot_of self.old)) (map name_tree raw.now.params.items)) (raw_stmt_trees raw.now.body.items))) }
+        ensures faults { OnOk result (self.new.least ≡ least_of self.old.least (params_faults (unsized (spot_of self.old)) (map name_tree raw.now.params.items) ++ stmts_faults raw.now.gives false (params_after (unsized (spot_of self.old)) (map name_tree raw.now.params.items)) (raw_stmt_trees raw.now.body.items))) }
+    {
+        self.sizes.clear();
+        let scope = self.enter();
+        self.params(&raw.params)?;
+        let body = self.stmts(raw.gives, false, &raw.body)?;
+        self.leave(scope);
+        Ok(body)
+    }
+}
+
+// Adds the function that an item defines, if it defines one.
+fn define<'a>(definitions: &mut Names<'a>, item: &'a RawItem) -> Result<(), AllocError>
+    ensures { OnOk result (definitions.new ≡ with_definition definitions.old (raw_item_tree item.now)) }
+{
+    match item {
+        RawItem::Function(function) => {
+            let meaning = Meaning::Function {
+                function: number(definitions.len()),
+                gives: function.gives,
+                params: function.params.len(),
+                defined: true,
+            };
+            definitions.declare(&function.name.text, meaning)
+        }
+        RawItem::Global { .. }
+        | RawItem::GlobalArray { .. }
+        | RawItem::Table(_)
+        | RawItem::Prototype(_) => Ok(()),
+    }
+}
+
+/// The functions that a source defines.
+pub fn definitions<'a>(alloc: Global, raw: &'a [RawItem]) -> Result<Names<'a>, AllocError>
+    ensures { IfOk result (λ ds. ds ≡ definitions (raw_item_trees raw.now)) }
+{
+    let mut definitions = Names::new(alloc);
+    for item in raw {
+        define(&mut definitions, item)?;
+    }
+    Ok(definitions)
+}
+
+// The modelled calls.
+fn modelled_names<'a>(alloc: Global) -> Result<Names<'a>, AllocError>
+    ensures { IfOk result (λ names. names ≡ modelled_names) }
+{
+    let names = Names::new(alloc);
+    let names = names.with(b"accept", Meaning::Modelled(ModelledCall::Accept))?;
+    let names = names.with(b"wait", Meaning::Modelled(ModelledCall::Wait))?;
+    let names = names.with(b"sleep", Meaning::Modelled(ModelledCall::Sleep))?;
+    let names = names.with(b"yield", Meaning::Modelled(ModelledCall::Yield))?;
+    let names = names.with(b"take", Meaning::Modelled(ModelledCall::Take))?;
+    let names = names.with(b"put", Meaning::Modelled(ModelledCall::Put))?;
+    let names = names.with(b"give", Meaning::Modelled(ModelledCall::Give))?;
+    let names = names.with(b"self", Meaning::Modelled(ModelledCall::SelfNumber))?;
+    let names = names.with(b"spawn", Meaning::Spawn)?;
+    Ok(names)
+}
+
+impl<'a> Items<'a> {
+    /// No items, in a source with these definitions.
+    pub fn new(alloc: Global, definitions: Names<'a>) -> Result<Items<'a>, AllocError>
+        ensures sofar { IfOk result (λ w. sofar_of w ≡ at_start) }
+        ensures definitions { IfOk result (λ w. w.definitions ≡ definitions.entry) }
+        ensures faults { IfOk result (λ w. w.place.least ≡ None) }
+        ensures counted { IfOk result (λ w. IsCounted w) }
+    {
+        Ok(Items {
+            place: Place {
+                alloc,
+                names: modelled_names(alloc)?,
+                outer: 9,
+                sizes: Vec::new(alloc),
+                site: 0,
+                least: None,
+            },
+            definitions,
+            globals: Vec::new(alloc),
+            tables: Vec::new(alloc),
+            functions: Vec::new(alloc),
+            locals: 0,
+        })
+    }
+
+    // What is wrong with a global's or a table's name.
+    fn check_name(&mut self, name: &Name)
+        ensures sofar { sofar_of self.new ≡ sofar_of self.old }
+        ensures definitions { self.new.definitions ≡ self.old.definitions }
+        ensures faults { self.new.place.least ≡ least_of self.old.place.least (outer_faults (find name.now.text.items self.old.place.names) name.now.at) }
+        ensures counted { IsCounted self.old → IsCounted self.new }
+    {
+        let found = self.place.names.find(&name.text);
+        check_outer(&mut self.place.least, found, name.at);
+    }
+
+    // A global of so many words, each of which starts at `start`.
+    fn global(
+        &mut self,
+        name: &'a Name,
+        array: bool,
+        words: u32,
+        start: u32,
+    ) -> Result<(), AllocError>
+        ensures sofar { OnOk result (sofar_of self.new ≡ with_global (sofar_of self.old) (name_tree name.now) array (record { words = words; start = start })) }
+        ensures definitions { OnOk result (self.new.definitions ≡ self.old.definitions) }
+        ensures faults { OnOk result (self.new.place.least ≡ self.old.place.least) }
+        ensures counted { OnOk result (IsCounted self.old → IsCounted self.new) }
+    {
+        let global = number(self.globals.len());
+        bind(
+            &mut self.place.names,
+            &name.text,
+            Meaning::Global { global, array },
+        )?;
+        self.globals.push(GlobalFact { words, start })?;
+        Ok(())
+    }
+
+    // A table.
+    fn table(&mut self, raw: &'a RawTable) -> Result<(), AllocError>
+        ensures sofar { OnOk result (sofar_of self.new ≡ item_after self.old.definitions (sofar_of self.old) (raw_item_tree (RawItem.Table raw.now))) }
+        ensures definitions { OnOk result (self.new.definitions ≡ self.old.definitions) }
+        ensures faults { OnOk result (self.new.place.least ≡ least_of self.old.place.least (item_faults self.old.definitions (sofar_of self.old) (raw_item_tree (RawItem.Table raw.now)))) }
+        ensures counted { OnOk result (IsCounted self.old → IsCounted self.new) }
+    {
+        self.check_name(&raw.name);
+        let is_wrong = raw.size == 0 || raw.size as usize != raw.members.len();
+        note_if(&mut self.place.least, is_wrong, raw.name.at, Rule::Arity);
+        let members = self.place.table_members(&raw.members)?;
+        let table = number(self.tables.len());
+        bind(
+            &mut self.place.names,
+            &raw.name.text,
+            Meaning::Table { table },
+        )?;
+        self.tables.push(TableFact { members })?;
+        Ok(())
+    }
+
+    // A prototype.
+    fn prototype(&mut self, raw: &'a RawPrototype) -> Result<(), AllocError>
+        ensures sofar { OnOk result (sofar_of self.new ≡ item_after self.old.definitions (sofar_of self.old) (raw_item_tree (RawItem.Prototype raw.now))) }
+        ensures definitions { OnOk result (self.new.definitions ≡ self.old.definitions) }
+        ensures faults { OnOk result (self.new.place.least ≡ least_of self.old.place.least (item_faults self.old.definitions (sofar_of self.old) (raw_item_tree (RawItem.Prototype raw.now)))) }
+        ensures counted { OnOk result (IsCounted self.old → IsCounted self.new) }
+    {
+        let name = &raw.name;
+        let params = raw.params.len();
+        let definition = self.definitions.find(&name.text);
+        let found = self.place.names.find(&name.text);
+        let least = &mut self.place.least;
+        note_if(least, is_missing(definition), name.at, Rule::Unknown);
+        check_function(least, false, raw.gives, params, name.at, found);
+        check_main(least, name, params);
+        let meaning = Meaning::Function {
+            function: function_of(definition),
+            gives: raw.gives,
+            params,
+            defined: is_defined(found),
+        };
+        bind(&mut self.place.names, &name.text, meaning)?;
+        self.place.prototype_params(&raw.params)?;
+        Ok(())
+    }
+
+    // A definition.
+    fn function(&mut self, raw: &'a RawFunction) -> Result<(), AllocError>
+        ensures sofar { OnOk result (sofar_of self.new ≡ item_after self.old.definitions (sofar_of self.old) (raw_item_tree (RawItem.Function raw.now))) }
+        ensures definitions { OnOk result (self.new.definitions ≡ self.old.definitions) }
+        ensures faults { OnOk result (self.new.place.least ≡ least_of self.old.place.least (item_faults self.old.definitions (sofar_of self.old) (raw_item_tree (RawItem.Function raw.now)))) }
+        ensures counted { OnOk result (IsCounted self.old → IsCounted self.new) }
+    {
+        let alloc = self.place.alloc;
+        let name = &raw.name;
+        let params = raw.params.len();
+        let definition = self.definitions.find(&name.text);
+        let found = self.place.names.find(&name.text);
+        let least = &mut self.place.least;
+        check_function(least, true, raw.gives, params, name.at, found);
+        check_main(least, name, params);
+        let meaning = Meaning::Function {
+            function: function_of(definition),
+            gives: raw.gives,
+            params,
+            defined: true,
+        };
+        bind(&mut self.place.names, &name.text, meaning)?;
+        let body = self.place.function_body(raw)?;
+        let sizes = mem::replace(&mut self.place.sizes, Vec::new(alloc));
+        self.locals = larger(self.locals, declared_words(&sizes, params));
+        self.functions.push(Function {
+            name: Vec::from_slice(alloc, &name.text)?,
+            params: number(params),
+            gives: raw.gives,
+            sizes,
+            body,
+        })?;
+        Ok(())
+    }
+
+    /// One more item.
+    pub fn item(&mut self, raw: &'a RawItem) -> Result<(), AllocError>
+        ensures sofar { OnOk result (sofar_of self.new ≡ item_after self.old.definitions (sofar_of self.old) (raw_item_tree raw.now)) }
+        ensures definitions { OnOk result (self.new.definitions ≡ self.old.definitions) }
+        ensures faults { OnOk result (self.new.place.least ≡ least_of self.old.place.least (item_faults self.old.definitions (sofar_of self.old) (raw_item_tree raw.now))) }
+        ensures counted { OnOk result (IsCounted self.old → IsCounted self.new) }
+    {
+        match raw {
+            RawItem::Global { name, start } => {
+                self.check_name(name);
+                self.global(name, false, 1, *start)
+            }
+            RawItem::GlobalArray { name, words } => {
+                self.check_name(name);
+                check_size(&mut self.place.least, name, *words);
+                self.global(name, true, *words, 0)
+            }
+            RawItem::Table(table) => self.table(table),
+            RawItem::Prototype(prototype) => self.prototype(prototype),
+            RawItem::Function(function) => self.function(function),
+        }
+    }
+
+    /// Items one after another.
+    pub fn items(&mut self, raw: &'a [RawItem]) -> Result<(), AllocError>
+        ensures sofar { OnOk result (sofar_of self.new ≡ items_after self.old.definitions (sofar_of self.old) (raw_item_trees raw.now)) }
+        ensures definitions { OnOk result (self.new.definitions ≡ self.old.definitions) }
+        ensures faults { OnOk result (self.new.place.least ≡ least_of self.old.place.least (items_faults self.old.definitions (sofar_of self.old) (raw_item_trees raw.now))) }
+        ensures counted { OnOk result (IsCounted self.old → IsCounted self.new) }
+    {
+        for item in raw {
+            self.item(item)?;
+        }
+        Ok(())
+    }
+}

@@ -1,0 +1,146 @@
+// From a tree as it is read to a program.
+
+ghost use Rattle.std.specs.Prelude.{◌≡◌, ℕ, Some, None, Option, IfOk, IfErr, MatchResult, ◌⊎◌, map, length};
+ghost use Rattle.cap_word.specs.declared.limits.Which.{Which};
+ghost use Rattle.c_tree.specs.Trees.{ProgramTree};
+ghost use Rattle.c_tree.specs.Programs.{tree_of};
+ghost use Rattle.c_tree.specs.ProgramView.{program_tree};
+ghost use Rattle.c_tree.specs.RawProgramView.{raw_program_tree};
+ghost use Rattle.c_tree.specs.RawViews.{raw_item_trees};
+ghost use Rattle.c_tree.specs.TextOrder.{functions_sites};
+ghost use Rattle.c_tree.specs.Views.{function_tree};
+ghost use Rattle.c_tree.specs.Temporaries.{capped};
+ghost use Rattle.c_tree.specs.WellScoped.{IsWellScoped};
+ghost use Rattle.c_tree.specs.WholeCalls.{AreCallsWhole};
+ghost use Rattle.scope_rules.specs.Faults.{least_of};
+ghost use Rattle.scope_rules.specs.Items.{definitions, faults_of, parts_of};
+ghost use Rattle.scope_rules.specs.ItemViews.{sofar_of, IsCounted};
+ghost use Rattle.scope_rules.specs.Limits.{exceeded, first_exceeded};
+ghost use Rattle.scope_rules.specs.Outcomes.{IsResolved, IsRefused, IsNoMemory, refusal_by};
+
+use crate::errors::ScopeError;
+use crate::faults::{Fault, Rule};
+use crate::items::{Items, definitions};
+use crate::limits::{global_words, most_params, table_members};
+use crate::meanings::function_of;
+use c_tree::{Program, RawItem, RawProgram};
+use cap_word::Which;
+use std::alloc::{AllocError, Global};
+
+// The refusal of a fault.
+fn refusal(fault: Fault) -> ScopeError
+    ensures { result ≡ refusal_by fault.rule fault.at }
+{
+    let at = fault.at;
+    match fault.rule {
+        Rule::Unknown => ScopeError::Unknown { at },
+        Rule::Twice => ScopeError::Twice { at },
+        Rule::Arity => ScopeError::Arity { at },
+        Rule::Kind => ScopeError::Kind { at },
+    }
+}
+
+// The first limit of those that are exceeded.
+fn first_exceeded(
+    functions: bool,
+    sites: bool,
+    globals: bool,
+    tables: bool,
+    locals: bool,
+    params: bool,
+) -> Option<Which>
+    ensures { result ≡ first_exceeded functions sites globals tables locals params }
+{
+    if functions {
+        Some(Which::Functions)
+    } else if sites {
+        Some(Which::Sites)
+    } else if globals {
+        Some(Which::Globals)
+    } else if tables {
+        Some(Which::Tables)
+    } else if locals {
+        Some(Which::Locals)
+    } else if params {
+        Some(Which::Params)
+    } else {
+        None
+    }
+}
+
+// The first limit that the items exceed, whatever function is `main`.
+fn exceeded(items: &Items) -> Option<Which>
+    requires sites { items.now.place.site ≡ capped (length (functions_sites (map function_tree items.now.functions.items))) }
+    requires locals { IsCounted items.now }
+    ensures { (main : ℕ) → result ≡ exceeded (tree_of items.now.functions.items items.now.globals.items items.now.tables.items main) }
+{
+    let functions = items.functions.len() > 4_096;
+    let sites = items.place.site > 65_535;
+    let globals = global_words(&items.globals) > 65_536;
+    let tables = table_members(&items.tables) > 65_536;
+    let locals = items.locals > 4_096;
+    let params = most_params(&items.functions) > 6;
+    first_exceeded(functions, sites, globals, tables, locals, params)
+}
+
+// What the items of a source make.
+fn read_items<'a>(alloc: Global, raw: &'a [RawItem]) -> Result<Items<'a>, AllocError>
+    ensures sofar { IfOk result (λ w. sofar_of w ≡ parts_of (raw_item_trees raw.now)) }
+    ensures definitions { IfOk result (λ w. w.definitions ≡ definitions (raw_item_trees raw.now)) }
+    ensures faults { IfOk result (λ w. w.place.least ≡ least_of None (faults_of (raw_item_trees raw.now))) }
+    ensures counted { IfOk result (λ w. IsCounted w) }
+{
+    let mut items = Items::new(alloc, definitions(alloc, raw)?)?;
+    items.items(raw)?;
+    Ok(items)
+}
+
+// The program that a source is, or a refusal of it.
+fn decide(alloc: Global, raw: &RawProgram) -> Result<Program, ScopeError>
+    ensures resolved { IfOk result (λ p. IsResolved (raw_program_tree raw.now) (program_tree p)) }
+    ensures refused { IfErr result (λ e. IsRefused (raw_program_tree raw.now) e) }
+{
+    let Ok(items) = read_items(alloc, raw.items()) else {
+        return Err(ScopeError::Memory);
+    };
+    if let Some(fault) = items.place.least {
+        return Err(refusal(fault));
+    }
+    let Some(main) = items.definitions.find(b"main") else {
+        return Err(ScopeError::NoMain);
+    };
+    if let Some(which) = exceeded(&items) {
+        return Err(ScopeError::Limit { which });
+    }
+    let Items {
+        functions,
+        globals,
+        tables,
+        ..
+    } = items;
+    match Program::new(alloc, functions, globals, tables, function_of(Some(main))) {
+        Ok(program) => Ok(program),
+        Err(_) => Err(ScopeError::Memory),
+    }
+}
+
+/// The program that a source is, whose tree as it is read this is, and in which every call is whole.
+///
+/// # Errors
+///
+/// The rule that is broken at the least place: `Unknown`, `Twice`, `Arity` or `Kind`, and at one place the first of these;
+/// `NoMain` where no rule is broken and `main` has no definition; `Limit` where `main` has one, with the first limit that
+/// is exceeded: 4,096 functions, 65,535 calls, 65,536 words of globals, 65,536 members of tables, 4,096 declared words of
+/// one function, 6 parameters; `Memory` where the program has no room.
+pub fn resolve(alloc: Global, raw: &RawProgram) -> Result<Program, ScopeError>
+    requires { AreCallsWhole (raw_program_tree raw.now) }
+    ensures resolved { IfOk result (λ p. IsResolved (raw_program_tree raw.now) (program_tree p)) }
+    ensures refused { IfErr result (λ e. IsRefused (raw_program_tree raw.now) e) }
+    ensures only_resolved { (p : ProgramTree) → IsResolved (raw_program_tree raw.now) p → MatchResult result (λ q. program_tree q ≡ p) (λ e. e ≡ ScopeError.Memory) }
+    ensures only_refused { (e : ScopeError) → IsRefused (raw_program_tree raw.now) e → IsNoMemory e → MatchResult result (λ q. ⊥) (λ d. (d ≡ e) ⊎ (d ≡ ScopeError.Memory)) }
+{
+    match decide(alloc, raw) {
+        Ok(program) => Ok(program),
+        Err(refusal) => Err(refusal),
+    }
+}

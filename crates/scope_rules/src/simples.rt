@@ -1,0 +1,176 @@
+// Declarations, assignments and calls.
+
+ghost use Rattle.std.specs.Prelude.{◌≡◌, ◌∷◌, IfOk, OnOk, map, false, if◌then◌else◌};
+ghost use Rattle.c_tree.specs.RawTrees.{RawDeclareWith};
+ghost use Rattle.c_tree.specs.RawViews.{name_tree, raw_expr_tree, raw_simple_tree};
+ghost use Rattle.c_tree.specs.Views.{simple_tree};
+ghost use Rattle.c_tree.specs.Temporaries.{capped};
+ghost use Rattle.scope_rules.specs.Names.{find};
+ghost use Rattle.scope_rules.specs.Faults.{least_of};
+ghost use Rattle.scope_rules.specs.Places.{spot_of};
+ghost use Rattle.scope_rules.specs.Simples.{declared_faults, declare_faults, size_faults, bound, is_fixed, next_variable, with_variable, simple_faults, simple_of, simple_after, simples_faults, simples_of, simples_after};
+
+use crate::expressions::{array, expr, scalar};
+use crate::faults::{Fault, Rule, note_if};
+use crate::meanings::{Found, Meaning, Variable};
+use crate::names::Names;
+use crate::places::Place;
+use c_tree::{Name, RawExpr, RawSimple, Simple};
+use std::alloc::AllocError;
+
+/// What is wrong with the declaration of a name that is this already.
+pub fn check_declared(least: &mut Option<Fault>, found: Option<Found>, outer: usize, at: u32)
+    ensures { least.new ≡ least_of least.old (declared_faults found outer at) }
+{
+    if let Some(found) = found {
+        note_if(least, !(found.position < outer), at, Rule::Twice);
+        note_if(least, found.meaning.is_modelled(), at, Rule::Kind);
+    }
+}
+
+/// What is wrong with the size of an array.
+pub fn check_size(least: &mut Option<Fault>, name: &Name, words: u32)
+    ensures { least.new ≡ least_of least.old (size_faults (name_tree name.now) words) }
+{
+    note_if(least, words < 1 || 65_536 < words, name.at, Rule::Kind);
+}
+
+/// Puts a name into scope, unless it is a modelled call's.
+pub fn bind<'a>(names: &mut Names<'a>, text: &'a [u8], meaning: Meaning) -> Result<(), AllocError>
+    ensures { OnOk result (names.new ≡ bound names.old text.now meaning) }
+{
+    if let Some(found) = names.find(text) {
+        if found.meaning.is_modelled() {
+            return Ok(());
+        }
+    }
+    names.declare(text, meaning)
+}
+
+/// A count as the number of what comes next, up to 65,537.
+pub fn number(count: usize) -> u32
+    ensures { result ≡ capped count }
+{
+    if count < 65_537 { count as u32 } else { 65_537 }
+}
+
+impl<'a> Place<'a> {
+    // Declares a variable of so many words, and gives its number.
+    pub fn declare(&mut self, name: &'a Name, array: bool, words: u32) -> Result<u32, AllocError>
+        ensures number { IfOk result (λ x. x ≡ next_variable (spot_of self.old)) }
+        ensures place { OnOk result (spot_of self.new ≡ with_variable (spot_of self.old) (name_tree name.now) array words) }
+        ensures faults { self.new.least ≡ self.old.least }
+    {
+        let variable = number(self.sizes.len());
+        bind(
+            &mut self.names,
+            &name.text,
+            Meaning::Local { variable, array },
+        )?;
+        self.sizes.push(words)?;
+        Ok(variable)
+    }
+
+    // Declares a variable of one word, and gives what stands before it and its number.
+    fn then_declare<T: Drop>(&mut self, before: T, name: &'a Name) -> Result<(T, u32), AllocError>
+        ensures before { IfOk result (λ p. p.0 ≡ before) }
+        ensures number { IfOk result (λ p. p.1 ≡ next_variable (spot_of self.old)) }
+        ensures place { OnOk result (spot_of self.new ≡ with_variable (spot_of self.old) (name_tree name.now) false 1) }
+        ensures faults { self.new.least ≡ self.old.least }
+    {
+        let variable = self.declare(name, false, 1)?;
+        Ok((before, variable))
+    }
+
+    // What is wrong with a name that is declared here.
+    pub fn check_declare(&mut self, name: &Name)
+        ensures place { spot_of self.new ≡ spot_of self.old }
+        ensures faults { self.new.least ≡ least_of self.old.least (declare_faults (spot_of self.old) (name_tree name.now)) }
+    {
+        let found = self.names.find(&name.text);
+        check_declared(&mut self.least, found, self.outer, name.at);
+    }
+
+    // A declaration of one name with its initialiser, in which the name isn't in scope.
+    fn declare_with(&mut self, name: &'a Name, initial: &RawExpr) -> Result<Simple, AllocError>
+        ensures tree { IfOk result (λ s. simple_tree s ≡ simple_of (spot_of self.old) (RawDeclareWith (name_tree name.now) (raw_expr_tree initial.now))) }
+        ensures place { OnOk result (spot_of self.new ≡ simple_after (spot_of self.old) (RawDeclareWith (name_tree name.now) (raw_expr_tree initial.now))) }
+        ensures faults { OnOk result (self.new.least ≡ least_of self.old.least (simple_faults (spot_of self.old) (RawDeclareWith (name_tree name.now) (raw_expr_tree initial.now)))) }
+    {
+        self.check_declare(name);
+        let value = self.right(initial)?;
+        let (value, variable) = self.then_declare(value, name)?;
+        Ok(Simple::DeclareWith { variable, value })
+    }
+
+    /// A declaration of one name, an assignment, or a call.
+    pub fn simple(&mut self, raw: &'a RawSimple) -> Result<Simple, AllocError>
+        ensures tree { IfOk result (λ s. simple_tree s ≡ simple_of (spot_of self.old) (raw_simple_tree raw.now)) }
+        ensures place { OnOk result (spot_of self.new ≡ simple_after (spot_of self.old) (raw_simple_tree raw.now)) }
+        ensures faults { OnOk result (self.new.least ≡ least_of self.old.least (simple_faults (spot_of self.old) (raw_simple_tree raw.now))) }
+    {
+        match raw {
+            RawSimple::DeclareScalar { name } => {
+                self.check_declare(name);
+                Ok(Simple::DeclareScalar {
+                    variable: self.declare(name, false, 1)?,
+                })
+            }
+            RawSimple::DeclareArray { name, words } => {
+                self.check_declare(name);
+                check_size(&mut self.least, name, *words);
+                Ok(Simple::DeclareArray {
+                    variable: self.declare(name, true, *words)?,
+                    words: *words,
+                })
+            }
+            RawSimple::DeclareWith { name, value } => self.declare_with(name, value),
+            RawSimple::Set { name, value } => {
+                let variable = scalar(&self.names, &mut self.least, name);
+                let value = self.right(value)?;
+                match variable {
+                    Variable::Local(variable) => Ok(Simple::SetLocal { variable, value }),
+                    Variable::Global(global) => Ok(Simple::SetGlobal { global, value }),
+                }
+            }
+            RawSimple::SetElement { name, index, value } => {
+                let array = array(&self.names, &mut self.least, name);
+                let index = expr(self.alloc, &self.names, &mut self.least, index)?;
+                let (index, value) = self.then_right(index, value)?;
+                match array {
+                    Variable::Local(array) => Ok(Simple::SetLocalElement {
+                        array,
+                        index,
+                        value,
+                    }),
+                    Variable::Global(array) => Ok(Simple::SetGlobalElement {
+                        array,
+                        index,
+                        value,
+                    }),
+                }
+            }
+            RawSimple::Call { name, arguments } => {
+                Ok(Simple::Call(self.call(false, name, arguments)?))
+            }
+            RawSimple::TableCall {
+                name,
+                index,
+                argument,
+            } => Ok(Simple::Call(self.table_call(name, index, argument)?)),
+        }
+    }
+
+    /// Declarations, assignments and calls one after another.
+    pub fn simples(&mut self, raw: &'a [RawSimple]) -> Result<Vec<Simple>, AllocError>
+        ensures tree { IfOk result (λ ps. map simple_tree ps.items ≡ simples_of (spot_of self.old) (map raw_simple_tree raw.now)) }
+        ensures place { OnOk result (spot_of self.new ≡ simples_after (spot_of self.old) (map raw_simple_tree raw.now)) }
+        ensures faults { OnOk result (self.new.least ≡ least_of self.old.least (simples_faults (spot_of self.old) (map raw_simple_tree raw.now))) }
+    {
+        let mut simples = Vec::new(self.alloc);
+        for simple in raw {
+            simples.push(self.simple(simple)?)?;
+        }
+        Ok(simples)
+    }
+}
