@@ -1,5 +1,0 @@
-pub mod Told
-pub mod OnePair
-pub mod OneRun
-pub mod OneCase
-pub mod GoodRun

@@ -13,7 +13,7 @@ use Rattle.stack_certificate.specs.declared.certificates.Certificate.{Certificat
 use Rattle.stack_build.specs.Builds.{frame_refusal, IsTooLarge, IsLaidOut}
 use Rattle.stack_build.specs.declared.refusals.BuildError.TheVariants.{FrameTooLarge, CodeTooLarge, Memory}
 use Rattle.capriccio_commands.specs.declared.build_command.Products.{Products}
-use Rattle.capriccio_commands.specs.Outcome.{Outcome}
+use Rattle.command_outcomes.specs.Outcome.{Outcome}
 use Rattle.capriccio_commands.specs.BuildsFiles.{BuildsProgram, IsProductsOf, stored_products, built}
 use Rattle.capriccio_commands.proofs.Analyses.{frame-not-code}
 use Rattle.capriccio_commands.proofs.OneBuild.{code-fits}

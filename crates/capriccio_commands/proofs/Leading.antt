@@ -15,17 +15,18 @@ use Rattle.command_words.specs.declared.options.Policy.{Policy as RunOptions}
 use Rattle.stack_build.specs.Builds.{IsLaidOut}
 use Rattle.stack_image.specs.declared.images.Image.{Image}
 use Rattle.stack_certificate.specs.declared.certificates.Certificate.{Certificate}
-use Rattle.capriccio_commands.specs.declared.documents.Document.{Document}
-use Rattle.capriccio_commands.specs.declared.loading.LoadedFiles.{LoadedFiles}
-use Rattle.capriccio_commands.specs.declared.stops.Stop.{Stop}
-use Rattle.capriccio_commands.specs.Outcome.{Outcome}
+use Rattle.command_outcomes.specs.declared.documents.Document.{Document}
+use Rattle.command_outcomes.specs.declared.loading.LoadedFiles.{LoadedFiles}
+use Rattle.command_outcomes.specs.declared.stops.Stop.{Stop}
+use Rattle.command_outcomes.specs.Outcome.{Outcome}
 use Rattle.capriccio_commands.specs.BuildsFiles.{HasFittingCode}
 use Rattle.capriccio_commands.specs.Graphs.{HasFittingFrames}
-use Rattle.capriccio_commands.specs.Loads.{AfterLoad, AfterThree}
+use Rattle.command_outcomes.specs.Loads.{AfterLoad, AfterThree}
 use Rattle.capriccio_commands.specs.Runs.{RunsOn, RunsPair, ServesProgram, setup_of}
 use Rattle.capriccio_commands.specs.RunSteps.{LeadsOn}
-use Rattle.capriccio_commands.specs.Steps.{IsStop, IsShelfStop, IsUnaccepted, IsLoaded, AreLoaded}
-use Rattle.capriccio_commands.proofs.Follows.{loaded, of-three, stop-on-shelf}
+use Rattle.command_outcomes.specs.Steps.{IsStop, IsShelfStop, IsLoaded, AreLoaded}
+use Rattle.capriccio_commands.specs.Closings.{IsUnaccepted}
+use Rattle.command_outcomes.proofs.Follows.{loaded, of-three, stop-on-shelf}
 
 -- Loads.
 

@@ -1,8 +1,5 @@
-pub mod Follows
 pub mod Leading
-pub mod Ending
 pub mod Analyses
-pub mod Appended
 pub mod Stopped
 pub mod Limits
 pub mod Built

@@ -18,7 +18,7 @@ use Rattle.runner.specs.Answers.{IsAtStart, KeepsRun}
 use Rattle.stack_certificate.specs.Certificates.{fact_at}
 use Rattle.thread_core.specs.Making.{IsPolicy, IsStart}
 use Rattle.thread_core.specs.Worlds.{Held}
-use Rattle.capriccio_commands.specs.Done.{IsWorldOf}
+use Rattle.command_outcomes.specs.Done.{IsWorldOf}
 use Rattle.capriccio_commands.specs.Runs.{IsAccepted}
 use Rattle.capriccio_commands.specs.RunSteps.{IsMade, IsRunPolicy, setup_in, world_policy_of}
 

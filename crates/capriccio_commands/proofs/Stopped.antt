@@ -13,15 +13,16 @@ use Rattle.runner.specs.declared.ends.RunEnd.TheVariants as end
 use Rattle.schedule_log.specs.declared.entries.Entry.{Entry}
 use Rattle.schedule_log.specs.declared.entries.StopLine.{StopLine}
 use Rattle.thread_core.specs.Worlds.{Held}
-use Rattle.capriccio_commands.specs.declared.faults.Fault.TheVariants.{Read, Write, Memory}
-use Rattle.capriccio_commands.specs.declared.stops.Stop.{Stop}
-use Rattle.capriccio_commands.specs.declared.stops.Stop.TheVariants.{Failed}
-use Rattle.capriccio_commands.specs.declared.running.Ended.{Ended}
-use Rattle.capriccio_commands.specs.Outcome.{Outcome}
-use Rattle.capriccio_commands.specs.Done.{Outside, IsWhole, IsCutInOut, NoneCounted, TraceCounted, WriteCounted, IsWorldOf}
+use Rattle.command_outcomes.specs.declared.faults.Fault.TheVariants.{Read, Write, Memory}
+use Rattle.command_outcomes.specs.declared.stops.Stop.{Stop}
+use Rattle.command_outcomes.specs.declared.stops.Stop.TheVariants.{Failed}
+use Rattle.command_outcomes.specs.declared.ended.Ended.{Ended}
+use Rattle.command_outcomes.specs.Outcome.{Outcome}
+use Rattle.command_outcomes.specs.Done.{Outside, IsWhole, IsCutInOut, NoneCounted, TraceCounted, WriteCounted, IsWorldOf}
 use Rattle.capriccio_commands.specs.Runs.{IsAccepted, IsRun, RunsOn, run_outcome, stop_status}
-use Rattle.capriccio_commands.specs.Steps.{EndsAs, IsClosed}
-use Rattle.capriccio_commands.proofs.Ending.{kept-are-stored}
+use Rattle.command_outcomes.specs.Steps.{EndsAs}
+use Rattle.capriccio_commands.specs.Closings.{IsClosed}
+use Rattle.command_outcomes.proofs.Ending.{kept-are-stored}
 
 -- the status that goes with the end of a run
 abbrev end-status : RunEnd → ℕ

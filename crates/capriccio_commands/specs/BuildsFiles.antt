@@ -12,11 +12,11 @@ use Rattle.certificate_text.specs.Text as certificate
 use Rattle.stack_build.specs.Builds.{IsTooLarge, IsLaidOut}
 use Rattle.stack_build.specs.declared.refusals.BuildError.TheVariants.{CodeTooLarge}
 use Rattle.capriccio_commands.specs.declared.build_command.Products.{Products}
-use Rattle.capriccio_commands.specs.declared.stops.Cause.TheVariants as cause
-use Rattle.capriccio_commands.specs.declared.documents.Document.TheVariants as document
-use Rattle.capriccio_commands.specs.Outcome.{Outcome}
-use Rattle.capriccio_commands.specs.CauseLines.{refusal}
-use Rattle.capriccio_commands.specs.Loads.{AfterLoad, AfterSource}
+use Rattle.command_outcomes.specs.declared.stops.Cause.TheVariants as cause
+use Rattle.command_outcomes.specs.declared.documents.Document.TheVariants as document
+use Rattle.command_outcomes.specs.Outcome.{Outcome}
+use Rattle.command_outcomes.specs.CauseLines.{refusal}
+use Rattle.command_outcomes.specs.Loads.{AfterLoad, AfterSource}
 use Rattle.capriccio_commands.specs.Graphs.{IsFrameRefused, HasFittingFrames}
 
 -- `built code W globals G tables T`, with its line feed

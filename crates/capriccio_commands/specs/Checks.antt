@@ -8,9 +8,9 @@ use Rattle.stack_image.specs.declared.images.Image.{Image}
 use Rattle.stack_certificate.specs.declared.certificates.Certificate.{Certificate}
 use Rattle.capriccio_commands.specs.declared.check_command.Verdict.{Verdict}
 use Rattle.capriccio_commands.specs.declared.check_command.Verdict.TheVariants.{Accepted, Rejected}
-use Rattle.capriccio_commands.specs.Outcome.{Outcome, printed}
-use Rattle.capriccio_commands.specs.CauseLines.{rejected_words}
-use Rattle.capriccio_commands.specs.Loads.{AfterThree, AfterSource, AfterImage, AfterCertificate}
+use Rattle.command_outcomes.specs.Outcome.{Outcome, printed}
+use Rattle.command_outcomes.specs.CauseLines.{rejected_words}
+use Rattle.command_outcomes.specs.Loads.{AfterThree, AfterSource, AfterImage, AfterCertificate}
 
 -- the status of a verdict, and its line
 abbrev pub verdict_status : Verdict → ℕ

@@ -3,14 +3,14 @@ use Rattle.std.specs.Prelude.{ℕ, ◌≡◌, ◌⊎◌, List, [], ◌∷◌, co
 use Rattle.codegen_link.specs.declared.options.Options.{Options}
 use Rattle.command_words.specs.WordList.{IsWordList, Request, Serve, Run, Build, Check, Graph, Demo}
 use Rattle.command_words.specs.declared.options.Placement.{Placement}
-use Rattle.capriccio_commands.specs.declared.stops.Cause.{Cause}
-use Rattle.capriccio_commands.specs.declared.stops.Cause.TheVariants as cause
-use Rattle.capriccio_commands.specs.Outcome.{Outcome}
-use Rattle.capriccio_commands.specs.CauseLines.{refusal}
+use Rattle.command_outcomes.specs.declared.stops.Cause.{Cause}
+use Rattle.command_outcomes.specs.declared.stops.Cause.TheVariants as cause
+use Rattle.command_outcomes.specs.Outcome.{Outcome}
+use Rattle.command_outcomes.specs.CauseLines.{refusal}
 use Rattle.capriccio_commands.specs.Graphs.{Graphs}
 use Rattle.capriccio_commands.specs.Checks.{Checks}
 use Rattle.capriccio_commands.specs.BuildsFiles.{Builds}
-use Rattle.capriccio_commands.specs.Done.{Outside}
+use Rattle.command_outcomes.specs.Done.{Outside}
 use Rattle.capriccio_commands.specs.Runs.{Serves, Runs}
 
 -- the sizes that the words give, for the generator

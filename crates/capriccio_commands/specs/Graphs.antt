@@ -8,10 +8,10 @@ use Rattle.checkpoint_place.specs.declared.plans.Plan.{Plan}
 use Rattle.stack_build.specs.Builds.{frame_refusal, IsPlacedBy}
 use Rattle.stack_build.specs.declared.refusals.BuildError.TheVariants.{FrameTooLarge}
 use Rattle.analysis_lines.specs.Lines.{analysis_lines, name_at}
-use Rattle.capriccio_commands.specs.declared.documents.Document.TheVariants as document
-use Rattle.capriccio_commands.specs.Outcome.{Outcome, printed, refused}
-use Rattle.capriccio_commands.specs.CauseLines.{frame_words}
-use Rattle.capriccio_commands.specs.Loads.{AfterLoad, AfterSource}
+use Rattle.command_outcomes.specs.declared.documents.Document.TheVariants as document
+use Rattle.command_outcomes.specs.Outcome.{Outcome, printed, refused}
+use Rattle.command_outcomes.specs.CauseLines.{frame_words}
+use Rattle.command_outcomes.specs.Loads.{AfterLoad, AfterSource}
 
 -- the names of a program's functions, by number
 abbrev pub names_of : ProgramTree → List (List ℕ)

@@ -1,13 +1,7 @@
-pub mod Prefixes
-pub mod FaultLines
-pub mod Outcome
-pub mod CauseLines
-pub mod Loads
 pub mod Graphs
 pub mod BuildsFiles
 pub mod Checks
 pub mod Due
-pub mod Done
-pub mod Steps
 pub mod Runs
 pub mod RunSteps
+pub mod Closings

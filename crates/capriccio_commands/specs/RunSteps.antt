@@ -9,7 +9,7 @@ use Rattle.certificate_check.specs.Acceptance.{Acceptance}
 use Rattle.thread_core.specs.Making.{IsPolicy, IsStart}
 use Rattle.thread_core.specs.Worlds.{Held}
 use Rattle.thread_core.specs.declared.policy.WorldPolicy.{WorldPolicy}
-use Rattle.capriccio_commands.specs.Outcome.{Outcome}
+use Rattle.command_outcomes.specs.Outcome.{Outcome}
 use Rattle.capriccio_commands.specs.Runs.{RunsOn, setup_of}
 
 -- the options of a run are in their ranges

@@ -20,13 +20,13 @@ use Rattle.schedule_log.specs.declared.entries.StopLine.{StopLine}
 use Rattle.stack_build.specs.Builds.{IsLaidOut}
 use Rattle.stack_image.specs.declared.images.Image.{Image}
 use Rattle.stack_certificate.specs.declared.certificates.Certificate.{Certificate}
-use Rattle.capriccio_commands.specs.declared.documents.Document.TheVariants as document
-use Rattle.capriccio_commands.specs.declared.stops.Cause.TheVariants as cause
-use Rattle.capriccio_commands.specs.CauseLines.{refusal}
+use Rattle.command_outcomes.specs.declared.documents.Document.TheVariants as document
+use Rattle.command_outcomes.specs.declared.stops.Cause.TheVariants as cause
+use Rattle.command_outcomes.specs.CauseLines.{refusal}
 use Rattle.capriccio_commands.specs.Graphs.{HasFittingFrames}
 use Rattle.capriccio_commands.specs.BuildsFiles.{HasFittingCode, IsUnbuilt}
-use Rattle.capriccio_commands.specs.Loads.{AfterLoad, AfterThree, AfterSource, AfterImage, AfterCertificate}
-use Rattle.capriccio_commands.specs.Outcome.{Outcome}
+use Rattle.command_outcomes.specs.Loads.{AfterLoad, AfterThree, AfterSource, AfterImage, AfterCertificate}
+use Rattle.command_outcomes.specs.Outcome.{Outcome}
 
 -- ---- a run
 

@@ -3,15 +3,15 @@ ghost use Rattle.std.specs.Prelude.{◌≡◌, ◌++◌, ◌∷◌, [], ◌≤�
 ghost use Rattle.cap_io.specs.Files.{KeepsFiles};
 ghost use Rattle.c_tree.specs.ProgramView.{program_tree};
 ghost use Rattle.capriccio_commands.specs.Checks.{Checks, ChecksBytes, ChecksPair, verdict_status, verdict_line, verdict_outcome};
-ghost use Rattle.capriccio_commands.specs.Steps.{IsStop, IsShelfStop};
+ghost use Rattle.command_outcomes.specs.Steps.{IsStop, IsShelfStop};
 
-use crate::cause_lines::{put_rejected, put_text};
-use crate::faults::Fault;
-use crate::loading::{load_three, read_certificate_bytes, read_image_bytes, read_source};
-use crate::stops::Stop;
 use c_tree::Program;
 use cap_io::Shelf;
 use certificate_check::{CheckError, check};
+use command_outcomes::{
+    Fault, Stop, load_three, put_rejected, put_text, read_certificate_bytes, read_image_bytes,
+    read_source,
+};
 use stack_certificate::Certificate;
 use stack_image::Image;
 use std::alloc::{AllocError, Global};

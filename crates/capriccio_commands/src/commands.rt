@@ -5,24 +5,21 @@ ghost use Rattle.command_words.specs.WordList.{IsWordList, request_of};
 ghost use Rattle.codegen_link.specs.Plans.{AreInRange};
 ghost use Rattle.capriccio_commands.specs.BuildsFiles.{Builds};
 ghost use Rattle.capriccio_commands.specs.Checks.{Checks};
-ghost use Rattle.capriccio_commands.specs.Done.{Outside, outside_by};
+ghost use Rattle.command_outcomes.specs.Done.{Outside, outside_by};
 ghost use Rattle.capriccio_commands.specs.Due.{Does, IsDue, IsUnlisted, sizes_of};
 ghost use Rattle.capriccio_commands.specs.Graphs.{Graphs};
 ghost use Rattle.capriccio_commands.specs.Runs.{Serves, Runs};
 ghost use Rattle.capriccio_commands.specs.RunSteps.{IsRunPolicy};
-ghost use Rattle.capriccio_commands.specs.Steps.{EndsAs};
+ghost use Rattle.command_outcomes.specs.Steps.{EndsAs};
 
 use crate::build_command::build_source;
 use crate::check_command::check_files;
-use crate::faults::Fault;
 use crate::graph_command::graph_source;
 use crate::run_command::{accept_files, accept_source};
-use crate::running::{Ended, run_accepted};
-use crate::stops::{Cause, Stop};
-use crate::stores::store_both;
-use crate::telling::print;
+use crate::running::run_accepted;
 use cap_io::{Shelf, Sink, Source};
 use codegen_link::Options;
+use command_outcomes::{Cause, Ended, Fault, Stop, print, store_both};
 use command_words::{Command, Placement, Policy, WordsError, read_words};
 use std::alloc::Global;
 

@@ -5,11 +5,10 @@ ghost use Rattle.c_lower.specs.ProgramCode.{lowered};
 ghost use Rattle.stack_build.specs.Builds.{frame_refusal};
 ghost use Rattle.stack_build.specs.declared.refusals.BuildError.TheVariants.{FrameTooLarge};
 ghost use Rattle.capriccio_commands.specs.Graphs.{IsFrameRefused};
-ghost use Rattle.capriccio_commands.specs.Steps.{IsStop};
+ghost use Rattle.command_outcomes.specs.Steps.{IsStop};
 
-use crate::faults::Fault;
-use crate::stops::{Cause, Stop};
 use c_tree::Program;
+use command_outcomes::{Cause, Fault, Stop};
 use std::alloc::Global;
 
 /// The refusal of the frame of a function, the first that is too large for paths of so many bytes.

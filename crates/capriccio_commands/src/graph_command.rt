@@ -6,20 +6,17 @@ ghost use Rattle.c_lower.specs.ProgramCode.{lowered};
 ghost use Rattle.stack_build.specs.Builds.{frame_refusal, IsPlacedBy};
 ghost use Rattle.stack_build.specs.declared.refusals.BuildError.TheVariants as errors;
 ghost use Rattle.stack_plan.specs.Plans.{IsEnough};
-ghost use Rattle.capriccio_commands.specs.Outcome.{printed};
-ghost use Rattle.capriccio_commands.specs.Loads.{AfterSource};
+ghost use Rattle.command_outcomes.specs.Outcome.{printed};
+ghost use Rattle.command_outcomes.specs.Loads.{AfterSource};
 ghost use Rattle.capriccio_commands.specs.Graphs.{Graphs, GraphsProgram, IsFrameRefused, IsAnalysed};
-ghost use Rattle.capriccio_commands.specs.Steps.{IsStop, IsShelfStop};
+ghost use Rattle.command_outcomes.specs.Steps.{IsStop, IsShelfStop};
 
-use crate::documents::Document;
-use crate::faults::Fault;
 use crate::frames::frame_stop;
-use crate::loading::{load, read_source};
-use crate::stops::Stop;
 use analysis_lines::{Findings, analysis_text};
 use c_tree::Program;
 use cap_io::Shelf;
 use codegen_link::Options;
+use command_outcomes::{Document, Fault, Stop, load, read_source};
 use stack_build::{Analysis, BuildError, analyse};
 use std::alloc::{AllocError, Global};
 

@@ -5,13 +5,12 @@ ghost use Rattle.c_lower.specs.ProgramCode.{lowered};
 ghost use Rattle.stack_build.specs.Builds.{frame_refusal, IsTooLarge};
 ghost use Rattle.stack_build.specs.declared.refusals.BuildError.TheVariants as errors;
 ghost use Rattle.capriccio_commands.specs.BuildsFiles.{IsUnbuilt};
-ghost use Rattle.capriccio_commands.specs.Steps.{IsStop};
+ghost use Rattle.command_outcomes.specs.Steps.{IsStop};
 
-use crate::faults::Fault;
 use crate::frames::frame_stop;
-use crate::stops::{Cause, Stop};
 use c_tree::Program;
 use codegen_link::Options;
+use command_outcomes::{Cause, Fault, Stop};
 use stack_build::BuildError;
 use std::alloc::Global;
 

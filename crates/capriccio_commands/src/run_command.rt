@@ -5,20 +5,21 @@ ghost use Rattle.c_tree.specs.ProgramView.{program_tree};
 ghost use Rattle.certificate_check.specs.Accepting.{accepted_tree};
 ghost use Rattle.codegen_link.specs.Plans.{AreInRange};
 ghost use Rattle.command_words.specs.declared.options.Policy.{Policy as RunOptions};
-ghost use Rattle.capriccio_commands.specs.Loads.{AfterSource};
+ghost use Rattle.command_outcomes.specs.Loads.{AfterSource};
 ghost use Rattle.capriccio_commands.specs.Runs.{Serves, ServesProgram, Runs, RunsBytes, RunsPair};
 ghost use Rattle.capriccio_commands.specs.RunSteps.{LeadsOn};
-ghost use Rattle.capriccio_commands.specs.Steps.{IsStop, IsShelfStop, IsUnaccepted};
+ghost use Rattle.command_outcomes.specs.Steps.{IsStop, IsShelfStop};
+ghost use Rattle.capriccio_commands.specs.Closings.{IsUnaccepted};
 
-use crate::documents::Document;
-use crate::faults::Fault;
 use crate::layouts::layout_stop;
-use crate::loading::{load, load_three, read_certificate_bytes, read_image_bytes, read_source};
-use crate::stops::{Cause, Stop};
 use c_tree::Program;
 use cap_io::Shelf;
 use certificate_check::{Accepted, CheckError, check};
 use codegen_link::Options;
+use command_outcomes::{
+    Cause, Document, Fault, Stop, load, load_three, read_certificate_bytes, read_image_bytes,
+    read_source,
+};
 use command_words::Policy;
 use stack_build::lay_out;
 use stack_certificate::Certificate;

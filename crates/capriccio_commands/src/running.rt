@@ -3,29 +3,20 @@ ghost use Rattle.std.specs.Prelude.{◌≡◌, ◌≤◌, ◌*◌, ◌∷◌, So
 ghost use Rattle.certificate_check.specs.Accepting.{accepted_tree};
 ghost use Rattle.resource_monitor.specs.Pressure.{AnswersCurve, IsReading, curve_value};
 ghost use Rattle.resource_monitor.specs.declared.curves.Curve.TheVariants.{Linear};
-ghost use Rattle.capriccio_commands.specs.declared.stops.Stop.TheVariants.{Failed};
+ghost use Rattle.command_outcomes.specs.declared.stops.Stop.TheVariants.{Failed};
 ghost use Rattle.capriccio_commands.specs.Runs.{RunsOn, setup_of};
 ghost use Rattle.capriccio_commands.specs.RunSteps.{IsRunPolicy, IsMade, setup_in, world_policy_of};
-ghost use Rattle.capriccio_commands.specs.Steps.{IsClosed, RunEnds};
+ghost use Rattle.command_outcomes.specs.Steps.{RunEnds};
+ghost use Rattle.capriccio_commands.specs.Closings.{IsClosed};
 
-use crate::faults::Fault;
-use crate::stops::Stop;
 use cap_io::{Sink, Source};
 use certificate_check::Accepted;
+use command_outcomes::{Ended, Fault, Stop};
 use command_words::Policy;
 use resource_monitor::{Curve, Gauge, Measure, Monitor};
 use runner::{RunEnd, run};
 use std::alloc::{AllocError, Global};
 use thread_core::{World, WorldError, WorldPolicy};
-
-/// How a command ended that did what its words ask.
-#[derive(Drop)]
-pub struct Ended {
-    /// The status that it ends with.
-    pub status: u8,
-    /// The world that it ran, if any, as it is at the stop.
-    pub last: Option<World>,
-}
 
 /// Runs an accepted program to its stop.
 pub(crate) fn run_accepted<S: Source, K: Sink>(

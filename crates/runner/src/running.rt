@@ -63,9 +63,20 @@ fn go<S: Source, K: Sink, C: Measure + Drop>(
         return Err(Failure::Memory);
     };
     loop {
-        if let Some(halt) = course.step(alloc, world, trace, out)? {
-            write_end(alloc, world, &course.graph, halt, out)?;
-            return Ok(halt.end());
+        match course.step(alloc, world, trace, out) {
+            Ok(None) => (),
+            Ok(Some(halt)) => {
+                let written = write_end(alloc, world, &course.graph, halt, out);
+                drop(course);
+                return match written {
+                    Ok(()) => Ok(halt.end()),
+                    Err(failure) => Err(failure),
+                };
+            }
+            Err(failure) => {
+                drop(course);
+                return Err(failure);
+            }
         }
     }
 }

@@ -4,7 +4,7 @@ ghost use Rattle.std.specs.Prelude.{IfSome};
 ghost use Rattle.thread_rows.specs.Moments.{IsAt, after_turn};
 ghost use Rattle.thread_rows.specs.declared.moments.Moment.TheVariants.{Between};
 
-use crate::building::{Setup, world_of};
+use crate::building::{FUEL, Setup, world_of};
 use crate::sources::CROWD;
 use crate::turns::{again, begin_main, go_on};
 use cap_word::Stop;
@@ -54,34 +54,37 @@ fn stops(world: &mut World, live: u32, stop: Stop, cost: u64) -> bool
 fn is_row(alloc: Global, chunks: u32, live: u32, stop: Stop, cost: u64, free: u32) -> bool {
     let setup = Setup {
         chunk: 64,
+        max_path: 48,
         chunks,
+        fuel: FUEL,
         backlog: 1,
         cap: 0,
     };
     match world_of(alloc, CROWD, setup) {
         None => false,
         Some(mut world) => {
-            stops(&mut world, live, stop, cost) && world.live() == live && world.free() == free
+            let is_so = stops(&mut world, live, stop, cost);
+            let is_left = world.live() == live && world.free() == free;
+            drop(world);
+            is_so && is_left
         }
     }
 }
 
-// As many threads live as may, and one chunk is free. A round of the loop that starts threads has 16 instructions up to the call.
-#[test]
-fn the_most_threads(rt: HostRuntime) -> Result<(), Fail> {
-    assert!(rt; is_row(rt.alloc(), 65_536, 65_535, Stop::Threads, 1_048_560, 1));
-    Ok(())
-}
-
-// No chunk is free either: the number of threads comes first.
-#[test]
-fn the_most_threads_and_no_chunk(rt: HostRuntime) -> Result<(), Fail> {
-    assert!(rt; is_row(rt.alloc(), 65_535, 65_535, Stop::Threads, 1_048_560, 0));
-    Ok(())
-}
+// How many chunks there are, how many threads live at the stop, the stop with its cost, and how many chunks are free.
+//
+// As many threads live as may, and one chunk is free: a round of the loop that starts threads has 16 instructions up to the call.
+// Then no chunk is free either: the number of threads comes first. At last no chunk is free for a thread.
+const ROWS: [(u32, u32, Stop, u64, u32); 3] = [
+    (65_536, 65_535, Stop::Threads, 1_048_560, 1),
+    (65_535, 65_535, Stop::Threads, 1_048_560, 0),
+    (3, 3, Stop::NoChunk, 48, 0),
+];
 
 #[test]
-fn no_chunk_for_a_thread(rt: HostRuntime) -> Result<(), Fail> {
-    assert!(rt; is_row(rt.alloc(), 3, 3, Stop::NoChunk, 48, 0));
+fn crowds(rt: HostRuntime) -> Result<(), Fail> {
+    for (chunks, live, stop, cost, free) in ROWS {
+        assert!(rt; is_row(rt.alloc(), chunks, live, stop, cost, free));
+    }
     Ok(())
 }

@@ -29,7 +29,11 @@ fn starts_or_stops(world: &mut World) -> bool
 fn is_row(alloc: Global) -> bool {
     match world_of(alloc, SERVER, USUAL) {
         None => true,
-        Some(mut world) => starts_or_stops(&mut world),
+        Some(mut world) => {
+            let is_so = starts_or_stops(&mut world);
+            drop(world);
+            is_so
+        }
     }
 }
 

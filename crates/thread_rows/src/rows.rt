@@ -1,6 +1,6 @@
 // Rows of worlds: who is ready when, what comes and is dropped, what is taken, who sleeps, who starts and ends.
 
-use crate::building::{Setup, USUAL, world_of};
+use crate::building::{FUEL, Setup, USUAL, world_of};
 use crate::playing::Step::{
     Advance, AnyElsewhere, AnyReady, Arrive, AtAccept, Begin, Clock, Free, IsReady, Live,
     NoneWakes, Proceed, Send, Used, Wakes,
@@ -14,7 +14,9 @@ use std::test::Fail;
 // Queues that hold one item.
 const NARROW: Setup = Setup {
     chunk: 4096,
+    max_path: 2032,
     chunks: 1024,
+    fuel: FUEL,
     backlog: 1,
     cap: 1,
 };
@@ -22,7 +24,9 @@ const NARROW: Setup = Setup {
 // A cap of 3.
 const THREE: Setup = Setup {
     chunk: 4096,
+    max_path: 2032,
     chunks: 1024,
+    fuel: FUEL,
     backlog: 1024,
     cap: 3,
 };
@@ -224,7 +228,11 @@ const LAST_CHANNEL: &[Step] = &[
 fn is_row(alloc: Global, source: &[u8], setup: Setup, steps: &[Step]) -> bool {
     match world_of(alloc, source, setup) {
         None => false,
-        Some(mut world) => plays(&mut world, steps),
+        Some(mut world) => {
+            let is_so = plays(&mut world, steps);
+            drop(world);
+            is_so
+        }
     }
 }
 

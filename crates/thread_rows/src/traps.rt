@@ -1,12 +1,16 @@
 // Rows of the traps of modelled calls, each at the border of its condition, and that a run that has stopped answers as it did.
 
-use crate::building::{Setup, world_of};
+ghost use Rattle.thread_rows.specs.Moments.{IsAt};
+ghost use Rattle.thread_rows.specs.declared.moments.Moment.TheVariants.{Between};
+
+use crate::building::{FUEL, Setup, world_of};
 use crate::playing::Step::{Begin, Free, Proceed};
 use crate::playing::Told::{Cut, Ends, Stops, Waits};
 use crate::playing::{Told, plays};
 use cap_word::{Stop, TrapKind};
 use std::alloc::Global;
 use std::test::Fail;
+use thread_core::World;
 
 const RESOURCE: Told = Stops(Stop::Trap(TrapKind::Resource));
 
@@ -56,23 +60,36 @@ const ROWS: [(&[u8], u32, Told, u32); 15] = [
     ),
 ];
 
+// Whether the first segment of a world ends so, with so many chunks free; a run that has stopped answers so again.
+fn tells(world: &mut World, told: Told, free: u32) -> bool
+    requires { IsAt Between world.old }
+{
+    match told {
+        Cut(..) | Stops(_) => plays(
+            world,
+            &[Begin(0, told), Begin(0, told), Proceed(told), Free(free)],
+        ),
+        _ => plays(world, &[Begin(0, told), Free(free)]),
+    }
+}
+
 // Whether the first segment of a program ends so.
 fn is_row(alloc: Global, source: &[u8], cap: u32, told: Told, free: u32) -> bool {
     let setup = Setup {
         chunk: 4096,
+        max_path: 2032,
         chunks: 4,
+        fuel: FUEL,
         backlog: 1,
         cap,
     };
     match world_of(alloc, source, setup) {
         None => false,
-        Some(mut world) => match told {
-            Cut(..) | Stops(_) => plays(
-                &mut world,
-                &[Begin(0, told), Begin(0, told), Proceed(told), Free(free)],
-            ),
-            _ => plays(&mut world, &[Begin(0, told), Free(free)]),
-        },
+        Some(mut world) => {
+            let is_so = tells(&mut world, told, free);
+            drop(world);
+            is_so
+        }
     }
 }
 

@@ -3,7 +3,7 @@ use Rattle.c_tree.specs.ProgramView.{program_tree}
 use Rattle.flat_code.specs.WellFormed.{IsWellFormed}
 use Rattle.capriccio_commands.specs.BuildsFiles.{BuildsProgram, IsUnbuilt}
 use Rattle.capriccio_commands.proofs.Built.{pair-built}
-use Rattle.capriccio_commands.proofs.Follows.{stop-follows}
+use Rattle.command_outcomes.proofs.Follows.{stop-follows}
 use Rattle.capriccio_commands.proofs.Limits.{image-fits, certificate-fits}
 use Rattle.capriccio_commands.proofs.build_command.build_program.Goals as goal
 

@@ -1,10 +1,10 @@
 use Rattle.std.proofs.lemmas.Result.{err_from_is_err_and}
 use Rattle.capriccio_commands.specs.declared.build_command.Products.{Products}
-use Rattle.capriccio_commands.specs.declared.documents.Document.TheVariants as document
-use Rattle.capriccio_commands.specs.Outcome.{NoMore}
-use Rattle.capriccio_commands.specs.Loads.{AfterLoad, AfterSource}
+use Rattle.command_outcomes.specs.declared.documents.Document.TheVariants as document
+use Rattle.command_outcomes.specs.Outcome.{NoMore}
+use Rattle.command_outcomes.specs.Loads.{AfterLoad, AfterSource}
 use Rattle.capriccio_commands.specs.BuildsFiles.{Builds, BuildsProgram, stored_products}
-use Rattle.capriccio_commands.proofs.Follows.{after-load, load-follows, shelf-stop-follows}
+use Rattle.command_outcomes.proofs.Follows.{after-load, load-follows, shelf-stop-follows}
 use Rattle.capriccio_commands.proofs.build_command.build_source.Goals as goal
 
 pub returns-in_err-source-clause-answer : goal.returns-in_err-source-clause-answer

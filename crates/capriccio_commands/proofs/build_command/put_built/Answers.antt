@@ -1,7 +1,7 @@
 use Rattle.std.proofs.Common.{[], ◌∷◌, length}
 use Rattle.std.specs.Prelude.{codes}
 use Rattle.cap_text.specs.Decimals.{canonical_decimal}
-use Rattle.capriccio_commands.proofs.Appended.{seven-pieces}
+use Rattle.command_outcomes.proofs.Appended.{seven-pieces}
 use Rattle.capriccio_commands.proofs.build_command.put_built.Goals as goal
 
 pub returns : goal.returns

@@ -2,10 +2,10 @@ use Rattle.std.proofs.Common.{inl}
 use Rattle.std.proofs.lemmas.Result.{err_from_is_err_and, MatchResult-weaker}
 use Rattle.c_tree.specs.ProgramView.{program_tree}
 use Rattle.stack_certificate.specs.declared.certificates.Certificate.{Certificate}
-use Rattle.capriccio_commands.specs.Outcome.{NoMore}
-use Rattle.capriccio_commands.specs.Loads.{AfterCertificate}
+use Rattle.command_outcomes.specs.Outcome.{NoMore}
+use Rattle.command_outcomes.specs.Loads.{AfterCertificate}
 use Rattle.capriccio_commands.specs.Checks.{ChecksBytes, ChecksPair}
-use Rattle.capriccio_commands.proofs.Follows.{stop-follows, certificate-follows}
+use Rattle.command_outcomes.proofs.Follows.{stop-follows, certificate-follows}
 use Rattle.capriccio_commands.proofs.check_command.check_bytes.Goals as goal
 
 pub returns-in_err-certificate : goal.returns-in_err-certificate

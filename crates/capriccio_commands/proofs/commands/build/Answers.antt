@@ -1,9 +1,9 @@
 use Rattle.std.proofs.Common.{◌≡◌, ◌≢◌, ◌∙◌, ℕ, List, [], ◌∷◌, Err, refl, subst}
 use Rattle.std.proofs.lemmas.Result.{err_from_is_err_and}
 use Rattle.capriccio_commands.specs.BuildsFiles.{Builds, stored_products}
-use Rattle.capriccio_commands.specs.Done.{Outside, WhereTold, AreStored}
-use Rattle.capriccio_commands.specs.Steps.{AreStores, IsPrinted}
-use Rattle.capriccio_commands.proofs.Ending.{keeps-itself, stopped, stores-cut, printed-ends, stored-after, stores-after}
+use Rattle.command_outcomes.specs.Done.{Outside, WhereTold, AreStored}
+use Rattle.command_outcomes.specs.Steps.{AreStores, IsPrinted}
+use Rattle.command_outcomes.proofs.Ending.{keeps-itself, stopped, stores-cut, printed-ends, stored-after, stores-after}
 use Rattle.capriccio_commands.proofs.commands.build.Goals as goal
 
 pub returns-in_err-products : goal.returns-in_err-products

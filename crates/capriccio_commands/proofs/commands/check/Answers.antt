@@ -1,10 +1,10 @@
 use Rattle.std.proofs.Common.{refl}
 use Rattle.std.proofs.lemmas.Result.{err_from_is_err_and}
-use Rattle.capriccio_commands.specs.Done.{Outside}
+use Rattle.command_outcomes.specs.Done.{Outside}
 use Rattle.capriccio_commands.specs.Checks.{Checks, verdict_status, verdict_line}
-use Rattle.capriccio_commands.specs.declared.faults.Fault.TheVariants.{Memory}
-use Rattle.capriccio_commands.specs.declared.stops.Stop.TheVariants.{Failed}
-use Rattle.capriccio_commands.proofs.Ending.{stopped, printed-now, keeps-itself}
+use Rattle.command_outcomes.specs.declared.faults.Fault.TheVariants.{Memory}
+use Rattle.command_outcomes.specs.declared.stops.Stop.TheVariants.{Failed}
+use Rattle.command_outcomes.proofs.Ending.{stopped, printed-now, keeps-itself}
 use Rattle.capriccio_commands.proofs.commands.check.Goals as goal
 
 pub returns-in_err-verdict : goal.returns-in_err-verdict

@@ -3,14 +3,14 @@ use Rattle.codegen_link.specs.declared.options.Options.{Options}
 use Rattle.command_words.specs.declared.commands.Command.{Command}
 use Rattle.command_words.specs.WordList.{request_of}
 use Rattle.capriccio_commands.specs.BuildsFiles.{Builds}
-use Rattle.capriccio_commands.specs.Done.{Outside}
+use Rattle.command_outcomes.specs.Done.{Outside}
 use Rattle.capriccio_commands.specs.Due.{Does, sizes_of}
 use Rattle.capriccio_commands.specs.Graphs.{Graphs}
 use Rattle.capriccio_commands.specs.Runs.{Serves}
-use Rattle.capriccio_commands.specs.Steps.{EndsAs}
-use Rattle.capriccio_commands.specs.declared.stops.Cause.TheVariants.{NotBuilt}
-use Rattle.capriccio_commands.specs.declared.stops.Stop.TheVariants.{Refused}
-use Rattle.capriccio_commands.proofs.Ending.{refused-at-once}
+use Rattle.command_outcomes.specs.Steps.{EndsAs}
+use Rattle.command_outcomes.specs.declared.stops.Cause.TheVariants.{NotBuilt}
+use Rattle.command_outcomes.specs.declared.stops.Stop.TheVariants.{Refused}
+use Rattle.command_outcomes.proofs.Ending.{refused-at-once}
 use Rattle.capriccio_commands.proofs.Options.{build-sizes, serve-sizes, serve-policy, serve-pool, run-policy}
 use Rattle.capriccio_commands.proofs.commands.do_command.Goals as goal
 

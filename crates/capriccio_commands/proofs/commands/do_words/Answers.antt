@@ -3,8 +3,8 @@ use Rattle.std.specs.String.{string_bytes}
 use Rattle.command_words.specs.WordList.{request_of}
 use Rattle.command_words.specs.declared.commands.WordsError.{WordsError}
 use Rattle.capriccio_commands.specs.Due.{Does, IsDue, IsUnlisted}
-use Rattle.capriccio_commands.specs.Done.{Outside}
-use Rattle.capriccio_commands.proofs.Ending.{ends-follow, refused-at-once, memory-at-once}
+use Rattle.command_outcomes.specs.Done.{Outside}
+use Rattle.command_outcomes.proofs.Ending.{ends-follow, refused-at-once, memory-at-once}
 use Rattle.capriccio_commands.proofs.commands.do_words.Goals as goal
 
 pub do_command-requires : goal.do_command-requires

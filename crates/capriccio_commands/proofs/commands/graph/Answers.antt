@@ -1,8 +1,8 @@
 use Rattle.std.proofs.Common.{refl}
 use Rattle.std.proofs.lemmas.Result.{err_from_is_err_and}
-use Rattle.capriccio_commands.specs.Done.{Outside}
+use Rattle.command_outcomes.specs.Done.{Outside}
 use Rattle.capriccio_commands.specs.Graphs.{Graphs}
-use Rattle.capriccio_commands.proofs.Ending.{stopped, printed-now, keeps-itself}
+use Rattle.command_outcomes.proofs.Ending.{stopped, printed-now, keeps-itself}
 use Rattle.capriccio_commands.proofs.commands.graph.Goals as goal
 
 pub returns-in_err-text : goal.returns-in_err-text

@@ -2,8 +2,8 @@ use Rattle.std.proofs.Common.{◌≡◌, ◌<◌, ◌++◌, ◌∷◌, [], ℕ, 
 use Rattle.std.specs.Prelude.{slice_index_or}
 use Rattle.c_tree.specs.ProgramView.{program_tree}
 use Rattle.c_lower.specs.ProgramCode.{lowered}
-use Rattle.capriccio_commands.specs.CauseLines.{frame_words}
-use Rattle.capriccio_commands.specs.Outcome.{refused}
+use Rattle.command_outcomes.specs.CauseLines.{frame_words}
+use Rattle.command_outcomes.specs.Outcome.{refused}
 use Rattle.capriccio_commands.proofs.Analyses.{frame-there, functions-count, name-of}
 use Rattle.capriccio_commands.proofs.frames.frame_stop.Goals as goal
 

@@ -4,8 +4,8 @@ use Rattle.c_tree.specs.ProgramView.{program_tree}
 use Rattle.c_lower.specs.ProgramCode.{lowered}
 use Rattle.stack_build.proofs.Frames.{frames-fit}
 use Rattle.capriccio_commands.specs.Graphs.{GraphsProgram}
-use Rattle.capriccio_commands.specs.Outcome.{Outcome}
-use Rattle.capriccio_commands.proofs.Follows.{stop-follows}
+use Rattle.command_outcomes.specs.Outcome.{Outcome}
+use Rattle.command_outcomes.proofs.Follows.{stop-follows}
 use Rattle.capriccio_commands.proofs.graph_command.graph_program.Goals as goal
 
 pub returns : goal.returns

@@ -4,10 +4,10 @@ use Rattle.c_tree.specs.ProgramView.{program_tree}
 use Rattle.c_tree.specs.Trees.{ProgramTree}
 use Rattle.stack_image.specs.declared.images.Image.{Image}
 use Rattle.stack_certificate.specs.declared.certificates.Certificate.{Certificate}
-use Rattle.capriccio_commands.specs.Outcome.{NoMore}
-use Rattle.capriccio_commands.specs.Loads.{AfterSource, AfterImage, AfterCertificate}
+use Rattle.command_outcomes.specs.Outcome.{NoMore}
+use Rattle.command_outcomes.specs.Loads.{AfterSource, AfterImage, AfterCertificate}
 use Rattle.capriccio_commands.specs.Runs.{RunsBytes, RunsPair}
-use Rattle.capriccio_commands.proofs.Follows.{stop-follows, source-follows, image-follows, certificate-follows}
+use Rattle.command_outcomes.proofs.Follows.{stop-follows, source-follows, image-follows, certificate-follows}
 use Rattle.capriccio_commands.proofs.run_command.accept_bytes.Goals as goal
 
 pub returns-in_err-program : goal.returns-in_err-program

@@ -1,9 +1,9 @@
 use Rattle.std.proofs.Common.{◌≤◌, ◌*◌}
 use Rattle.std.proofs.lemmas.Result.{err_from_is_err_and}
 use Rattle.certificate_check.specs.Acceptance.{Acceptance}
-use Rattle.capriccio_commands.specs.Loads.{AfterThree}
+use Rattle.command_outcomes.specs.Loads.{AfterThree}
 use Rattle.capriccio_commands.specs.Runs.{RunsBytes}
-use Rattle.capriccio_commands.proofs.Follows.{Nothing, three-follow, shelf-stop-follows}
+use Rattle.command_outcomes.proofs.Follows.{Nothing, three-follow, shelf-stop-follows}
 use Rattle.capriccio_commands.proofs.Leading.{leads-after-three}
 use Rattle.capriccio_commands.proofs.run_command.accept_files.Goals as goal
 

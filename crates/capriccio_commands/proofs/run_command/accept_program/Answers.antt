@@ -3,7 +3,7 @@ use Rattle.c_tree.specs.ProgramView.{program_tree}
 use Rattle.flat_code.specs.WellFormed.{IsWellFormed}
 use Rattle.capriccio_commands.specs.BuildsFiles.{IsUnbuilt}
 use Rattle.capriccio_commands.specs.Runs.{ServesProgram}
-use Rattle.capriccio_commands.proofs.Follows.{stop-follows}
+use Rattle.command_outcomes.proofs.Follows.{stop-follows}
 use Rattle.capriccio_commands.proofs.Leading.{laid-out-leads, laid-out-chunk}
 use Rattle.capriccio_commands.proofs.OneBuild.{code-fits}
 use Rattle.capriccio_commands.proofs.run_command.accept_program.Goals as goal

@@ -1,11 +1,11 @@
 use Rattle.std.proofs.Common.{◌≡◌}
 use Rattle.std.proofs.lemmas.Result.{err_from_is_err_and}
 use Rattle.certificate_check.specs.Acceptance.{Acceptance}
-use Rattle.capriccio_commands.specs.declared.documents.Document.TheVariants as document
-use Rattle.capriccio_commands.specs.Outcome.{NoMore}
-use Rattle.capriccio_commands.specs.Loads.{AfterLoad, AfterSource}
+use Rattle.command_outcomes.specs.declared.documents.Document.TheVariants as document
+use Rattle.command_outcomes.specs.Outcome.{NoMore}
+use Rattle.command_outcomes.specs.Loads.{AfterLoad, AfterSource}
 use Rattle.capriccio_commands.specs.Runs.{Serves, ServesProgram}
-use Rattle.capriccio_commands.proofs.Follows.{load-follows, shelf-stop-follows}
+use Rattle.command_outcomes.proofs.Follows.{load-follows, shelf-stop-follows}
 use Rattle.capriccio_commands.proofs.Leading.{leads-after-load}
 use Rattle.capriccio_commands.proofs.run_command.accept_source.Goals as goal
 

@@ -1,8 +1,8 @@
 use Rattle.std.proofs.Common.{refl, sym, subst}
 use Rattle.certificate_check.specs.declared.checking.CheckError.{CheckError}
-use Rattle.capriccio_commands.specs.declared.stops.Cause.TheVariants as cause
-use Rattle.capriccio_commands.specs.declared.stops.Stop.TheVariants.{Refused}
-use Rattle.capriccio_commands.specs.Steps.{IsUnaccepted}
+use Rattle.command_outcomes.specs.declared.stops.Cause.TheVariants as cause
+use Rattle.command_outcomes.specs.declared.stops.Stop.TheVariants.{Refused}
+use Rattle.capriccio_commands.specs.Closings.{IsUnaccepted}
 use Rattle.capriccio_commands.proofs.run_command.check_stop.Goals as goal
 
 pub returns-in-Rejected : goal.returns-in-Rejected

@@ -1,7 +1,7 @@
-use Rattle.capriccio_commands.specs.Done.{Outside}
+use Rattle.command_outcomes.specs.Done.{Outside}
 use Rattle.capriccio_commands.specs.Runs.{RunsOn}
 use Rattle.capriccio_commands.specs.RunSteps.{setup_in}
-use Rattle.capriccio_commands.proofs.Ending.{memory-before}
+use Rattle.command_outcomes.proofs.Ending.{memory-before}
 use Rattle.capriccio_commands.proofs.Making.{at-start, made-accepted, world-of}
 use Rattle.capriccio_commands.proofs.Stopped.{closed}
 use Rattle.capriccio_commands.proofs.running.run_measured.Goals as goal

@@ -2,10 +2,10 @@ use Rattle.runner.specs.Ranks.{rank}
 use Rattle.runner.proofs.Rounds.{RunsOn}
 use Rattle.runner.proofs.running.go.Given as goal
 
-abbrev pub invariant-loop-course : goal.invariant-loop-course
-invariant-loop-course g l =
+abbrev pub invariant-loop-halt : goal.invariant-loop-halt
+invariant-loop-halt g l =
     RunsOn l.fn.world l.fn.monitor (g.S.Source.left l.fn.trace) (g.K.Sink.taken l.fn.out) (g.S.Source.faults l.fn.trace) (g.K.Sink.faults l.fn.out) l.course l.world (g.S.Source.left l.trace) (g.K.Sink.taken l.out) (g.S.Source.faults l.trace)
     (g.K.Sink.faults l.out)
 
-abbrev pub decreases-loop-course : goal.decreases-loop-course
-decreases-loop-course g l = rank l.course l.world
+abbrev pub decreases-loop-halt : goal.decreases-loop-halt
+decreases-loop-halt g l = rank l.course l.world

@@ -1,0 +1,5 @@
+pub mod Told
+pub mod OnePair
+pub mod OneRun
+pub mod OneCase
+pub mod GoodRun

@@ -1,0 +1,310 @@
+-- One outcome is due at most: two that are due for the same words, files and trace are one.
+use Rattle.std.proofs.Common.{◌≡◌, ◌⊎◌, ℕ, ◌<◌, ◌≤◌, ◌*◌, List, [], ◌∷◌, ◌++◌, Option, Some, None, Result, Ok, Err, refl, sym, ap, subst, ◌∙◌, arith, inl, inr, ⊎_elim}
+use Rattle.std.proofs.lemmas.Bool.{cases_order}
+use Rattle.cap_io.specs.Faults.{Stayed}
+use Rattle.cap_io.specs.Files.{Files}
+use Rattle.c_tree.specs.Trees.{ProgramTree}
+use Rattle.c_tree.specs.WellScoped.{IsWellScoped}
+use Rattle.c_scope.specs.declared.source_errors.SourceError.{SourceError}
+use Rattle.c_lower.specs.ProgramCode.{lowered}
+use Rattle.flat_code.specs.Codes.{FlatCode}
+use Rattle.certificate_rules.specs.Validity.{IsFirstFailure}
+use Rattle.stack_image.specs.declared.images.Image.{Image}
+use Rattle.stack_image.specs.declared.refusals.ImageError.{ImageError}
+use Rattle.stack_image.specs.Refusal.{refusal_of}
+use Rattle.stack_image.specs.Reading.{image_of}
+use Rattle.stack_image.proofs.ReadAgain.{spelling_not_refused, image_of-spelling}
+use Rattle.stack_certificate.specs.declared.certificates.Certificate.{Certificate}
+use Rattle.certificate_text.specs.FirstRefused.{IsFirstRefused}
+use Rattle.certificate_text.proofs.Spellings.{spelling_unique, first_refused_unique, spelling_unrefused}
+use Rattle.stack_build.specs.Builds.{frame_refusal, IsLaidOut, IsTooLarge}
+use Rattle.stack_build.specs.declared.refusals.BuildError.TheVariants.{FrameTooLarge, CodeTooLarge}
+use Rattle.command_words.specs.WordList.{IsWordList, Request, Serve, Run, Build, Check, Graph, Demo}
+use Rattle.command_words.proofs.OneRequest.{one_request}
+use Rattle.analysis_lines.specs.Lines.{name_at}
+use Rattle.command_outcomes.specs.declared.documents.Document.{Document}
+use Rattle.command_outcomes.specs.declared.documents.Document.TheVariants as document
+use Rattle.command_outcomes.specs.declared.stops.Cause.{Cause}
+use Rattle.command_outcomes.specs.declared.stops.Cause.TheVariants as cause
+use Rattle.command_outcomes.specs.declared.faults.Fault.{Fault}
+use Rattle.command_outcomes.specs.declared.faults.Fault.TheVariants.{Read, Write, Memory}
+use Rattle.capriccio_commands.specs.declared.check_command.Verdict.{Verdict}
+use Rattle.capriccio_commands.specs.declared.check_command.Verdict.TheVariants.{Accepted, Rejected}
+use Rattle.command_outcomes.specs.Outcome.{Outcome, refused, printed}
+use Rattle.command_outcomes.specs.CauseLines.{refusal, frame_words}
+use Rattle.command_outcomes.specs.Loads.{OfFile, AfterLoad, AfterThree, AfterSource, AfterImage, AfterCertificate, IsImageText, IsCertificateText}
+use Rattle.capriccio_commands.specs.Graphs.{Graphs, GraphsProgram, HasFittingFrames, IsFrameRefused, names_of}
+use Rattle.capriccio_commands.specs.Checks.{Checks, ChecksBytes, ChecksPair, IsVerdict, verdict_outcome}
+use Rattle.codegen_link.specs.declared.options.Options.{Options}
+use Rattle.command_words.specs.declared.options.Policy.{Policy as RunOptions}
+use Rattle.capriccio_commands.specs.BuildsFiles.{Builds, BuildsProgram, HasFittingCode, IsUnbuilt, built}
+use Rattle.capriccio_commands.specs.Runs.{RunsOn, Serves, ServesProgram, Runs, RunsBytes, RunsPair, setup_of}
+use Rattle.capriccio_commands.specs.RunSteps.{IsRunPolicy}
+use Rattle.capriccio_commands.specs.Due.{Does, IsDue, IsUnlisted, sizes_of}
+use Rattle.command_outcomes.specs.Done.{Outside, IsRisen, IsDone, IsExact}
+use Rattle.c_scope.proofs.SourceTexts.{one_program, one_source_error, never}
+use Rattle.capriccio_commands.proofs.OneBuild.{plans-are-one, words-are-one, texts-are-one}
+use Rattle.capriccio_call.proofs.OnePair.{pairs-are-one}
+use Rattle.capriccio_call.proofs.OneRun.{one-outcome}
+use Rattle.capriccio_commands.proofs.Options.{serve-policy, serve-pool, run-policy}
+
+alike : (a b o : Outcome) → a ≡ o → b ≡ o → a ≡ b
+alike a b o p q = p ∙ sym q
+
+-- Files.
+
+file-case : (which : Document) (file : Option (List ℕ)) (next : List ℕ → Outcome → Type 0) (a b : Outcome) → ((bytes : List ℕ) → next bytes a → next bytes b → a ≡ b) → OfFile which file next a → OfFile which file next b → a ≡ b
+file-case which None next a b one h k = alike a b (refusal (cause.Absent which)) h k
+file-case which (Some bytes) next a b one h k =
+    ⊎_elim
+    (λ x. ⊎_elim (λ y. one bytes x.1 y.1) (λ y. let fits = x.0 in let long = y.0 in absurd (omega arith)) k)
+    (λ x. ⊎_elim (λ y. let fits = y.0 in let long = x.0 in absurd (omega arith)) (λ y. alike a b (refusal (cause.TooLong which)) x.1 y.1) k)
+    h
+
+load-case : (which : Document) (f : Files) (name : List ℕ) (next : List ℕ → Outcome → Type 0) (a b : Outcome) → ((bytes : List ℕ) → next bytes a → next bytes b → a ≡ b) → AfterLoad which (Some f) name next a → AfterLoad which (Some f) name next b → a ≡ b
+load-case which f name next a b one h k =
+    let first = subst (λ file. OfFile which file next a) (sym h.1) h.2 in
+    let second = subst (λ file. OfFile which file next b) (sym k.1) k.2 in
+    file-case which (f name) next a b one first second
+
+three-case : (f : Files) (s i c : List ℕ) (next : List ℕ → List ℕ → List ℕ → Outcome → Type 0) (a b : Outcome) → ((source image certificate : List ℕ) → next source image certificate a → next source image certificate b → a ≡ b) →
+    AfterThree (Some f) s i c next a → AfterThree (Some f) s i c next b → a ≡ b
+three-case f s i c next a b one h k =
+    load-case document.Source f s (λ source. AfterLoad document.Image (Some f) i (λ image. AfterLoad document.Certificate (Some f) c (next source image))) a b
+    (λ source x y. load-case document.Image f i (λ image. AfterLoad document.Certificate (Some f) c (next source image)) a b
+    (λ image z w. load-case document.Certificate f c (next source image) a b (one source image) z w) x y) h k
+
+-- Readers.
+
+source-case : (bytes : List ℕ) (next : ProgramTree → Outcome → Type 0) (a b : Outcome) → ((p : ProgramTree) → IsWellScoped p → next p a → next p b → a ≡ b) → AfterSource bytes next a → AfterSource bytes next b → a ≡ b
+source-case bytes next a b one h k =
+    ⊎_elim
+    (λ x. ⊎_elim
+    (λ y. let left = x.1 in let right = y.1 in one y.0 right.scoped (subst (λ (p : ProgramTree). next p a) (one_program bytes x.0 y.0 left.reads right.reads) x.2) y.2)
+    (λ y. let left = x.1 in absurd (never bytes x.0 y.0 left.reads y.1)) k)
+    (λ x. ⊎_elim
+    (λ y. let right = y.1 in absurd (never bytes y.0 x.0 right.reads x.1))
+    (λ y. alike a b (refusal (cause.Source y.0)) (x.2 ∙ ap (λ (e : SourceError). refusal (cause.Source e)) (one_source_error bytes x.0 y.0 x.1 y.1)) y.2) k)
+    h
+
+image-is : (bytes : List ℕ) (i : Image) → IsImageText bytes i → image_of bytes ≡ i
+image-is bytes i h = ap image_of h.spelled ∙ image_of-spelling i h.limits h.words
+
+image-never : (bytes : List ℕ) (i : Image) (e : ImageError) → IsImageText bytes i → refusal_of bytes ≡ Some e → ⊥
+image-never bytes i e h r = let none = spelling_not_refused i h.limits in let same = ap refusal_of h.spelled in let clash : Some e ≡ None = sym r ∙ (same ∙ none) in cc
+
+image-case : (bytes : List ℕ) (next : Image → Outcome → Type 0) (a b : Outcome) → ((i : Image) → next i a → next i b → a ≡ b) → AfterImage bytes next a → AfterImage bytes next b → a ≡ b
+image-case bytes next a b one h k =
+    ⊎_elim
+    (λ x. ⊎_elim
+    (λ y. one y.0 (subst (λ (i : Image). next i a) (sym (image-is bytes x.0 x.1) ∙ image-is bytes y.0 y.1) x.2) y.2)
+    (λ y. absurd (image-never bytes x.0 y.0 x.1 y.1)) k)
+    (λ x. ⊎_elim
+    (λ y. absurd (image-never bytes y.0 x.0 y.1 x.1))
+    (λ y. let e : Some x.0 ≡ Some y.0 = sym x.1 ∙ y.1 in let same : x.0 ≡ y.0 = cc in alike a b (refusal (cause.Image y.0)) (x.2 ∙ ap (λ (r : ImageError). refusal (cause.Image r)) same) y.2) k)
+    h
+
+certificate-never : (bytes : List ℕ) (c : Certificate) (n : ℕ) → IsCertificateText bytes c → IsFirstRefused bytes n → ⊥
+certificate-never bytes c n h r = spelling_unrefused c n h.limits h.words (subst (λ (t : List ℕ). IsFirstRefused t n) h.spelled r)
+
+certificate-case : (bytes : List ℕ) (next : Certificate → Outcome → Type 0) (a b : Outcome) → ((c : Certificate) → next c a → next c b → a ≡ b) → AfterCertificate bytes next a → AfterCertificate bytes next b → a ≡ b
+certificate-case bytes next a b one h k =
+    ⊎_elim
+    (λ x. ⊎_elim
+    (λ y. let left = x.1 in let right = y.1 in one y.0 (subst (λ (c : Certificate). next c a) (spelling_unique x.0 y.0 (sym left.spelled ∙ right.spelled)) x.2) y.2)
+    (λ y. absurd (certificate-never bytes x.0 y.0 x.1 y.1)) k)
+    (λ x. ⊎_elim
+    (λ y. absurd (certificate-never bytes y.0 x.0 y.1 x.1))
+    (λ y. alike a b (refusal (cause.CertificateLine y.0)) (x.2 ∙ ap (λ (n : ℕ). refusal (cause.CertificateLine n)) (first_refused_unique bytes x.0 y.0 x.1 y.1)) y.2) k)
+    h
+
+-- Commands.
+
+same-frame : (p : ProgramTree) (path : ℕ) (a b : Outcome) → IsFrameRefused p path a → IsFrameRefused p path b → a ≡ b
+same-frame p path a b h k =
+    let e : Some (FrameTooLarge h.function h.bytes) ≡ Some (FrameTooLarge k.function k.bytes) = sym h.first ∙ k.first in
+    let functions : h.function ≡ k.function = cc in
+    let bytes : h.bytes ≡ k.bytes = cc in
+    alike a b (refused 5 (frame_words (name_at (names_of p) k.function) k.bytes ++ 10 ∷ []))
+    (h.is ∙ (ap (λ (f : ℕ). refused 5 (frame_words (name_at (names_of p) f) h.bytes ++ 10 ∷ [])) functions ∙ ap (λ (n : ℕ). refused 5 (frame_words (name_at (names_of p) k.function) n ++ 10 ∷ [])) bytes)) k.is
+
+frame-or-fit : (p : ProgramTree) (path : ℕ) (a : Outcome) → IsFrameRefused p path a → frame_refusal (lowered p) path ≡ None → ⊥
+frame-or-fit p path a h none = let e : Some (FrameTooLarge h.function h.bytes) ≡ None = sym h.first ∙ none in cc
+
+program-case : (path : ℕ) (p : ProgramTree) (a b : Outcome) → IsWellScoped p → GraphsProgram path p a → GraphsProgram path p b → a ≡ b
+program-case path p a b scoped h k =
+    ⊎_elim
+    (λ x. ⊎_elim (λ y. same-frame p path a b x y) (λ y. absurd (frame-or-fit p path a x y.0)) k)
+    (λ x. ⊎_elim (λ y. absurd (frame-or-fit p path b y x.0))
+    (λ y. let left = x.1 in let right = y.1 in alike a b (printed 0 right.0) (left.2 ∙ ap (λ (text : List ℕ). printed 0 text) (texts-are-one p scoped path left.0 right.0 left.1 right.1)) right.2) k)
+    h
+
+-- numbers are equal where neither is below the other
+equal : (a b : ℕ) → (a < b → ⊥) → (b < a → ⊥) → a ≡ b
+equal a b not_below not_above =
+    elim (cases_order a b) [ inl e ↦ e | inr h ↦ elim h [ inl lt ↦ absurd (not_below lt) | inr lt ↦ absurd (not_above lt) ] ]
+
+same-failure : (code : FlatCode) (i : Image) (c : Certificate) (rule f k other g j : ℕ) → IsFirstFailure code i c rule f k → IsFirstFailure code i c other g j → (rule ≡ other) × (f ≡ g) × (k ≡ j)
+same-failure code i c rule f k other g j first second =
+    let rules : rule ≡ other = equal rule other (λ lt. first.fails (second.lower_rules rule f k lt)) (λ lt. second.fails (first.lower_rules other g j lt)) in
+    let P : ℕ → Type 0 = λ r. IsFirstFailure code i c r g j in
+    let moved : IsFirstFailure code i c rule g j = subst P (sym rules) second in
+    let functions : f ≡ g = equal f g (λ lt. first.fails (moved.lower_functions f k lt)) (λ lt. moved.fails (first.lower_functions g j lt)) in
+    let Q : ℕ → Type 0 = λ h. IsFirstFailure code i c rule h j in
+    let same : IsFirstFailure code i c rule f j = subst Q (sym functions) moved in
+    (rules, functions, equal k j (λ lt. first.fails (same.lower_indices k lt)) (λ lt. same.fails (first.lower_indices j lt)))
+
+same-verdict : (p : ProgramTree) (i : Image) (c : Certificate) (v w : Verdict) → IsVerdict p i c v → IsVerdict p i c w → v ≡ w
+same-verdict p i c Accepted Accepted h k = refl
+same-verdict p i c Accepted (Rejected rule f n) h k = absurd (k.fails (h.holds rule f n))
+same-verdict p i c (Rejected rule f n) Accepted h k = absurd (h.fails (k.holds rule f n))
+same-verdict p i c (Rejected rule f n) (Rejected other g m) h k =
+    let same = same-failure (lowered p) i c rule f n other g m h k in
+    let rules = same.0 in let functions = same.1 in let indices = same.2 in cc
+
+pair-case : (p : ProgramTree) (i : Image) (c : Certificate) (a b : Outcome) → ChecksPair p i c a → ChecksPair p i c b → a ≡ b
+pair-case p i c a b h k = alike a b (verdict_outcome k.0) (h.2 ∙ ap verdict_outcome (same-verdict p i c h.0 k.0 h.1 k.1)) k.2
+
+bytes-case : (source image certificate : List ℕ) (a b : Outcome) → ChecksBytes source image certificate a → ChecksBytes source image certificate b → a ≡ b
+bytes-case source image certificate a b h k =
+    source-case source (λ p. AfterImage image (λ i. AfterCertificate certificate (λ c. ChecksPair p i c))) a b
+    (λ p scoped x y. image-case image (λ i. AfterCertificate certificate (λ c. ChecksPair p i c)) a b
+    (λ i z w. certificate-case certificate (λ c. ChecksPair p i c) a b (λ c u v. pair-case p i c a b u v) z w) x y) h k
+
+-- Builds.
+
+same-words : (p : ProgramTree) (sizes : Options) (a b : Outcome) (m n : ℕ) → IsWellScoped p → IsTooLarge (lowered p) sizes (CodeTooLarge m) → IsTooLarge (lowered p) sizes (CodeTooLarge n) → a ≡ refusal (cause.Code m) → b ≡ refusal (cause.Code n) → a ≡ b
+same-words p sizes a b m n scoped h k left right = alike a b (refusal (cause.Code n)) (left ∙ ap (λ (x : ℕ). refusal (cause.Code x)) (words-are-one p scoped sizes m n h k)) right
+
+unbuilt-case : (sizes : Options) (p : ProgramTree) (a b : Outcome) → IsWellScoped p → IsUnbuilt sizes p a → IsUnbuilt sizes p b → a ≡ b
+unbuilt-case sizes p a b scoped h k =
+    ⊎_elim
+    (λ x. ⊎_elim (λ y. same-frame p sizes.max_path a b x y) (λ y. absurd (frame-or-fit p sizes.max_path a x y.0)) k)
+    (λ x. ⊎_elim (λ y. absurd (frame-or-fit p sizes.max_path b y x.0)) (λ y. same-words p sizes a b x.1 y.1 scoped x.2 y.2 x.3 y.3) k)
+    h
+
+-- a program isn't built where its pair is laid out
+not-unbuilt : (sizes : Options) (p : ProgramTree) (a : Outcome) → IsUnbuilt sizes p a → HasFittingFrames p sizes.max_path → HasFittingCode p sizes → ⊥
+not-unbuilt sizes p a h frames code = ⊎_elim (λ x. frame-or-fit p sizes.max_path a x frames) (λ x. code x.1 x.2) h
+
+same-built : (p : ProgramTree) (options : Options) (n m : List ℕ) (i j : Image) (c d : Certificate) (a b : Outcome) → IsWellScoped p → IsLaidOut (lowered p) options i c → IsLaidOut (lowered p) options j d →
+    a ≡ built n m i c → b ≡ built n m j d → a ≡ b
+same-built p options n m i j c d a b scoped h k left right =
+    let pairs = pairs-are-one (lowered p) options i j c d h k (plans-are-one p scoped options.max_path h.0 k.0 h.1 k.1) in
+    alike a b (built n m j d) (left ∙ (λ k. built n m (pairs.0 k) (pairs.1 k))) right
+
+built-case : (options : Options) (n m : List ℕ) (p : ProgramTree) (a b : Outcome) → IsWellScoped p → BuildsProgram options n m p a → BuildsProgram options n m p b → a ≡ b
+built-case options n m p a b scoped h k =
+    ⊎_elim
+    (λ x. ⊎_elim (λ y. unbuilt-case options p a b scoped x y) (λ y. absurd (not-unbuilt options p a x y.0 y.1)) k)
+    (λ x. ⊎_elim (λ y. absurd (not-unbuilt options p b y x.0 x.1)) (λ y. same-built p options n m x.2 y.2 x.3 y.3 a b scoped x.4 y.4 x.5 y.5) k)
+    h
+
+-- Runs.
+
+-- the pool of the options is within its limit with these chunks
+abbrev IsWithinPool : RunOptions → ℕ → Type 0
+IsWithinPool policy chunk = policy.chunks * chunk ≤ 67108864
+
+runs-case : (trace : List ℕ) (policy : RunOptions) (p : ProgramTree) (i : Image) (c : Certificate) (a b : Outcome) → IsRunPolicy policy → IsWithinPool policy c.chunk →
+    RunsOn (Some trace) (setup_of p i c policy) a → RunsOn (Some trace) (setup_of p i c policy) b → a ≡ b
+runs-case trace policy p i c a b ranges fits h k = one-outcome (setup_of p i c policy) trace a b ranges.some_chunks ranges.chunks ranges.fuel fits h k
+
+served-case : (trace : List ℕ) (sizes : Options) (policy : RunOptions) (p : ProgramTree) (a b : Outcome) → IsRunPolicy policy → IsWithinPool policy sizes.chunk → IsWellScoped p →
+    ServesProgram (Some trace) sizes policy p a → ServesProgram (Some trace) sizes policy p b → a ≡ b
+served-case trace sizes policy p a b ranges fits scoped h k =
+    ⊎_elim
+    (λ x. ⊎_elim (λ y. unbuilt-case sizes p a b scoped x y) (λ y. absurd (not-unbuilt sizes p a x y.0 y.1)) k)
+    (λ x. ⊎_elim (λ y. absurd (not-unbuilt sizes p b y x.0 x.1))
+    (λ y.
+    let laid = y.4 in
+    let is = laid.2 in
+    let plans = plans-are-one p scoped sizes.max_path x.4.0 y.4.0 x.4.1 y.4.1 in
+    let pairs = pairs-are-one (lowered p) sizes x.2 y.2 x.3 y.3 x.4 y.4 plans in
+    let image : RunsOn (Some trace) (setup_of p y.2 x.3 policy) a = subst (λ (i : Image). RunsOn (Some trace) (setup_of p i x.3 policy) a) pairs.0 x.5 in
+    let runs : RunsOn (Some trace) (setup_of p y.2 y.3 policy) a = subst (λ (c : Certificate). RunsOn (Some trace) (setup_of p y.2 c policy) a) pairs.1 image in
+    runs-case trace policy p y.2 y.3 a b ranges (subst (IsWithinPool policy) (sym is.chunk) fits) runs y.5) k)
+    h
+
+run-case : (trace : List ℕ) (policy : RunOptions) (p : ProgramTree) (i : Image) (c : Certificate) (a b : Outcome) → IsRunPolicy policy → RunsPair (Some trace) policy p i c a → RunsPair (Some trace) policy p i c b → a ≡ b
+run-case trace policy p i c a b ranges h k =
+    ⊎_elim
+    (λ x. ⊎_elim
+    (λ y.
+    let same = same-failure (lowered p) i c x.0 x.1 x.2 y.0 y.1 y.2 x.3 y.3 in
+    alike a b (refusal (cause.Rejected y.0 y.1 y.2)) (x.4 ∙ (λ j. refusal (cause.Rejected (same.0 j) (same.1 j) (same.2 j)))) y.4)
+    (λ y. absurd (x.3.fails (y.0.holds x.0 x.1 x.2))) k)
+    (λ x. ⊎_elim
+    (λ y. absurd (y.3.fails (x.0.holds y.0 y.1 y.2)))
+    (λ y. pool-case trace policy p i c a b ranges x.1 y.1) k)
+    h
+  where
+    pool-case : (trace : List ℕ) (policy : RunOptions) (p : ProgramTree) (i : Image) (c : Certificate) (a b : Outcome) → IsRunPolicy policy →
+        ((67108864 < policy.chunks * c.chunk) × (a ≡ refusal (cause.Pool (policy.chunks * c.chunk)))) ⊎ (IsWithinPool policy c.chunk × RunsOn (Some trace) (setup_of p i c policy) a) →
+        ((67108864 < policy.chunks * c.chunk) × (b ≡ refusal (cause.Pool (policy.chunks * c.chunk)))) ⊎ (IsWithinPool policy c.chunk × RunsOn (Some trace) (setup_of p i c policy) b) → a ≡ b
+    pool-case trace policy p i c a b ranges h k =
+        ⊎_elim
+        (λ x. ⊎_elim (λ y. alike a b (refusal (cause.Pool (policy.chunks * c.chunk))) x.1 y.1) (λ y. let much = x.0 in let few = y.0 in absurd (omega arith)) k)
+        (λ x. ⊎_elim (λ y. let much = y.0 in let few = x.0 in absurd (omega arith)) (λ y. runs-case trace policy p i c a b ranges x.0 x.1 y.1) k)
+        h
+
+run-bytes-case : (trace : List ℕ) (policy : RunOptions) (source image certificate : List ℕ) (a b : Outcome) → IsRunPolicy policy → RunsBytes (Some trace) policy source image certificate a → RunsBytes (Some trace) policy source image certificate b → a ≡ b
+run-bytes-case trace policy source image certificate a b ranges h k =
+    source-case source (λ p. AfterImage image (λ i. AfterCertificate certificate (λ c. RunsPair (Some trace) policy p i c))) a b
+    (λ p scoped x y. image-case image (λ i. AfterCertificate certificate (λ c. RunsPair (Some trace) policy p i c)) a b
+    (λ i z w. certificate-case certificate (λ c. RunsPair (Some trace) policy p i c) a b (λ c u v. run-case trace policy p i c a b ranges u v) z w) x y) h k
+
+request-case : (request : Request) (words : List (List ℕ)) (f : Files) (trace : List ℕ) (before : Outside) (a b : Outcome) → IsWordList words request → before.files ≡ Some f → before.left ≡ Some trace → Does request before a → Does request before b → a ≡ b
+request-case (Graph source placement) words f trace before a b asked told left h k =
+    let P : Option Files → Outcome → Type 0 = λ files o. Graphs files source placement.max_path o in
+    load-case document.Source f source (λ bytes. AfterSource bytes (GraphsProgram placement.max_path)) a b
+    (λ bytes x y. source-case bytes (GraphsProgram placement.max_path) a b (λ p scoped z w. program-case placement.max_path p a b scoped z w) x y)
+    (subst (λ files. P files a) told h) (subst (λ files. P files b) told k)
+request-case (Check source i c) words f trace before a b asked told left h k =
+    let P : Option Files → Outcome → Type 0 = λ files o. Checks files source i c o in
+    three-case f source i c ChecksBytes a b (λ s x y u v. bytes-case s x y a b u v) (subst (λ files. P files a) told h) (subst (λ files. P files b) told k)
+request-case (Build source i c placement) words f trace before a b asked told left h k =
+    let P : Option Files → Outcome → Type 0 = λ files o. Builds files source i c (sizes_of placement) o in
+    load-case document.Source f source (λ bytes. AfterSource bytes (BuildsProgram (sizes_of placement) i c)) a b
+    (λ bytes x y. source-case bytes (BuildsProgram (sizes_of placement) i c) a b (λ p scoped z w. built-case (sizes_of placement) i c p a b scoped z w) x y)
+    (subst (λ files. P files a) told h) (subst (λ files. P files b) told k)
+request-case (Serve source placement policy) words f trace before a b asked told left h k =
+    let P : Option Files → Option (List ℕ) → Outcome → Type 0 = λ files bytes o. Serves files bytes source (sizes_of placement) policy o in
+    load-case document.Source f source (λ bytes. AfterSource bytes (ServesProgram (Some trace) (sizes_of placement) policy)) a b
+    (λ bytes x y. source-case bytes (ServesProgram (Some trace) (sizes_of placement) policy) a b
+    (λ p scoped z w. served-case trace (sizes_of placement) policy p a b (serve-policy words source placement policy asked) (serve-pool words source placement policy asked) scoped z w) x y)
+    (subst (λ bytes. P (Some f) bytes a) left (subst (λ files. P files before.left a) told h)) (subst (λ bytes. P (Some f) bytes b) left (subst (λ files. P files before.left b) told k))
+request-case (Run source i c policy) words f trace before a b asked told left h k =
+    let P : Option Files → Option (List ℕ) → Outcome → Type 0 = λ files bytes o. Runs files bytes source i c policy o in
+    three-case f source i c (RunsBytes (Some trace) policy) a b (λ s x y u v. run-bytes-case trace policy s x y a b (run-policy words source i c policy asked) u v)
+    (subst (λ bytes. P (Some f) bytes a) left (subst (λ files. P files before.left a) told h)) (subst (λ bytes. P (Some f) bytes b) left (subst (λ files. P files before.left b) told k))
+request-case (Demo number) words f trace before a b asked told left h k = alike a b (refusal cause.NotBuilt) h k
+
+unlisted-one : (words : List (List ℕ)) (a b : Cause) → IsUnlisted words a → IsUnlisted words b → a ≡ b
+unlisted-one words a b h k =
+    ⊎_elim
+    (λ x. ⊎_elim (λ y. x.1 ∙ sym y.1) (λ y. absurd (y.0 x.0)) k)
+    (λ x. ⊎_elim (λ y. absurd (x.0 y.0)) (λ y. x.1 ∙ sym y.1) k)
+    h
+
+pub due-case : (words : List (List ℕ)) (f : Files) (trace : List ℕ) (before : Outside) (a b : Outcome) → before.files ≡ Some f → before.left ≡ Some trace → IsDue words before a → IsDue words before b → a ≡ b
+due-case words f trace before a b told left h k =
+    ⊎_elim
+    (λ x. ⊎_elim
+    (λ y. request-case y.0 words f trace before a b y.1 told left (subst (λ (r : Request). Does r before a) (one_request words x.0 y.0 x.1 y.1) x.2) y.2)
+    (λ y. absurd (y.0 x.0 x.1)) k)
+    (λ x. ⊎_elim (λ y. absurd (x.0 y.0 y.1)) (λ y. alike a b (refusal y.1) (x.3 ∙ ap (λ (why : Cause). refusal why) (unlisted-one words x.1 y.1 x.2 y.2)) y.3) k)
+    h
+
+-- Exactly there.
+
+not-risen : {P : Type 0} (old new : ℕ) → IsRisen old new → Stayed old new → P
+not-risen old new risen stayed = let less = risen.rose stayed.1 in let same = stayed.0 in absurd (omega arith)
+
+pub exact : (words : List (List ℕ)) (before after : Outside) (given : Result Outcome Fault) → IsDone (IsDue words before) before after given → IsExact (IsDue words) before after given
+exact words before after (Ok o) h = λ none files trace outcome told left due. due-case words files trace before o outcome told left h.0 due
+exact words before after (Err Read) h = λ none files trace outcome told left due.
+    ⊎_elim (λ x. let counted = x.1 in not-risen before.loads after.loads counted.loads none.loads) (λ x. let counted = x.5 in not-risen before.reads after.reads counted.reads none.reads) h
+exact words before after (Err Write) h = λ none files trace outcome told left due.
+    ⊎_elim (λ x. let counted = x.1 in not-risen before.stores after.stores counted.stores none.stores) (λ x. let counted = x.1 in not-risen before.writes after.writes counted.writes none.writes) h.2
+exact words before after (Err Memory) h = λ none files trace outcome told left due. tt

@@ -1,0 +1,60 @@
+-- What is told of how a command ended.
+use Rattle.std.proofs.Common.{◌≡◌, ℕ, List, [], Option, Some, None, Result, Ok, Err, refl, sym, ◌∙◌, subst, inl, inr, ⊎_elim}
+use Rattle.std.proofs.lemmas.List.{append-nil}
+use Rattle.std.specs.Io.KnownBytes.{Keeps, Appends}
+use Rattle.cap_io.specs.Files.{Files, KeepsFiles}
+use Rattle.command_outcomes.specs.declared.stops.Cause.{Cause}
+use Rattle.command_outcomes.specs.declared.stops.Stop.{Stop}
+use Rattle.command_outcomes.specs.declared.stops.Stop.TheVariants.{Refused, Failed}
+use Rattle.command_outcomes.specs.declared.faults.Fault.{Fault}
+use Rattle.command_outcomes.specs.declared.faults.Fault.TheVariants.{Memory}
+use Rattle.command_outcomes.specs.declared.ended.Ended.{Ended}
+use Rattle.command_outcomes.specs.Outcome.{Outcome}
+use Rattle.command_outcomes.specs.CauseLines.{refusal}
+use Rattle.thread_core.specs.Worlds.{Held}
+use Rattle.command_outcomes.specs.Done.{Outside, WhereTold, AreStored, IsDone, IsExact, IsTold, IsLast}
+use Rattle.command_outcomes.specs.Steps.{EndsAs, IsFinished}
+use Rattle.command_outcomes.proofs.Ending.{append-nothing}
+use Rattle.capriccio_call.specs.Headline.{IsAnswerOf}
+
+stored-none : (old new : Option Files) → WhereTold (AreStored []) old new → KeepsFiles old new
+stored-none None new h = tt
+stored-none (Some old) None h = absurd h
+stored-none (Some old) (Some new) h = h
+
+appended-none : (old new : Option (List ℕ)) → Appends old new [] → Keeps old new
+appended-none None new h = tt
+appended-none (Some old) None h = absurd h
+appended-none (Some old) (Some new) h = h ∙ append-nil old
+
+refused-without : (due : Outcome → Type 0) (before after : Outside) (cause : Cause) → IsDone due before after (Ok (refusal cause)) → IsDone due before after (Err Memory)
+refused-without due before after cause h =
+    let whole = h.1 in
+    (inl (record { files = stored-none before.files after.files whole.files; trace = whole.trace; out = appended-none before.taken after.taken whole.out }), h.2)
+
+told-again : (status : ℕ) (o : Outcome) (old new : Option (List ℕ)) (faults faults' answer : ℕ) → o.status ≡ status → o.line ≡ [] → IsTold status [] old new faults faults' answer → IsTold o.status o.line old new faults faults' answer
+told-again status o old new faults faults' answer same none h =
+    let first = subst (λ n. IsTold n [] old new faults faults' answer) (sym same) h in
+    subst (λ line. IsTold o.status line old new faults faults' answer) (sym none) first
+
+-- what is done is exactly what is due
+abbrev pub AreExact : (Outside → Outcome → Type 0) → (before after : Outside) → Type 0
+AreExact due before after = (given : Result Outcome Fault) → IsDone (due before) before after given → IsExact due before after given
+
+-- the command did what its words ask
+pub told-done : (due : Outside → Outcome → Type 0) (before after : Outside) (given : Ended) (last : Option Held) (old new : Option (List ℕ)) (faults faults' : ℕ) → AreExact due before after → EndsAs (due before) before after (Ok given) → last ≡ given.last → Keeps old new → faults' ≡ faults →
+    IsAnswerOf due before after old new faults faults' last given.status
+told-done due before after given last old new faults faults' exact h handed kept same =
+    let told = inl (refl, append-nothing old new kept, same) in
+    (Ok h.0, h.1, exact (Ok h.0) h.1, told-again given.status h.0 old new faults faults' given.status h.2 h.3 told, subst (λ (world : Option Held). IsLast h.0.last world) (sym handed) h.4)
+
+nothing-handed : (last : Option Held) → last ≡ None → IsLast None last
+nothing-handed last none = subst (λ (world : Option Held). IsLast None world) (sym none) tt
+
+-- the command stopped before that
+pub told-stop : (due : Outside → Outcome → Type 0) (before after : Outside) (stop : Stop) (last : Option Held) (old new : Option (List ℕ)) (faults faults' answer : ℕ) → AreExact due before after → EndsAs (due before) before after (Err stop) → last ≡ None → IsFinished stop old new faults faults' answer →
+    IsAnswerOf due before after old new faults faults' last answer
+told-stop due before after (Refused cause) last old new faults faults' answer exact h none k =
+    ⊎_elim (λ t. (Ok (refusal cause), h, exact (Ok (refusal cause)) h, t, nothing-handed last none))
+    (λ t. let nothing = refused-without (due before) before after cause h in (Err Memory, nothing, exact (Err Memory) nothing, t, nothing-handed last none)) k
+told-stop due before after (Failed fault) last old new faults faults' answer exact h none k = (Err fault, h, exact (Err fault) h, k, nothing-handed last none)

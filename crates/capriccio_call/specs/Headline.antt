@@ -1,0 +1,50 @@
+-- The headline: what a call of the program does, from what its objects tell before it to what they tell after it.
+--
+-- `IsAnswer` says what the command does: `IsDue` (specs/Due of `capriccio_commands`) has for the words, the files and the trace one outcome. `WasGood` says
+-- that the run was good whose world is handed out. docs/HEADLINE.md reads both part by part.
+use Rattle.std.specs.Prelude.{ℕ, ◌≡◌, List, Option, IfSome, Some, None, Result}
+use Rattle.std.specs.Io.KnownBytes.{Appends}
+use Rattle.lawful_log.specs.Setup.{Setup}
+use Rattle.machine_world.specs.Threads.{World}
+use Rattle.schedule_log.specs.EntryText.{log_text}
+use Rattle.schedule_log.specs.declared.entries.Entry.{Entry}
+use Rattle.schedule_log.specs.declared.entries.StopLine.{StopLine}
+use Rattle.thread_core.specs.Worlds.{Held}
+use Rattle.command_outcomes.specs.declared.faults.Fault.{Fault}
+use Rattle.command_outcomes.specs.Outcome.{Outcome}
+use Rattle.command_outcomes.specs.Done.{Outside, IsDone, IsExact, IsTold, IsLast, IsWorldOf, status_of, line_of, last_of}
+use Rattle.capriccio_commands.specs.Due.{IsDue}
+use Rattle.capriccio_commands.specs.Runs.{IsAccepted, IsRun, stop_status}
+
+-- What is due is done as a whole, or after a fault or a want of memory in part; where nothing failed it is just what is due. Standard
+-- error takes the line, the status is that of the outcome or of the fault, and the world that was run is handed out exactly where
+-- a run came to its stop.
+abbrev pub IsAnswerOf : (due : Outside → Outcome → Type 0) → (before after : Outside) → (err err' : Option (List ℕ)) → (faults faults' : ℕ) → (last : Option Held) → (status : ℕ) → Type 0
+IsAnswerOf due before after err err' faults faults' last status =
+    (given : Result Outcome Fault)
+    × IsDone (due before) before after given
+    × IsExact due before after given
+    × IsTold (status_of given) (line_of given) err err' faults faults' status
+    × IsLast (last_of given) last
+
+-- the answer to these words
+abbrev pub IsAnswer : (words : List (List ℕ)) → (before after : Outside) → (err err' : Option (List ℕ)) → (faults faults' : ℕ) → (last : Option Held) → (status : ℕ) → Type 0
+IsAnswer words = IsAnswerOf (IsDue words)
+
+-- A run came to its stop in this world, and was good: the checker accepts its program, image and certificate; the lines that the
+-- output took are the lawful log on the trace up to the stop, and that log is good; the status is that of the stop.
+pub record RanWell (before after : Outside) (world : Held) (status : ℕ) : Type 0 where
+  pub setup : Setup
+  pub entries : List Entry
+  pub stop : StopLine
+  pub end : World
+  pub accepted : IsAccepted setup
+  pub run : IfSome before.left (λ trace. IsRun setup trace entries stop end)
+  pub printed : Appends before.taken after.taken (log_text entries)
+  pub stopped : status ≡ stop_status stop
+  pub handed_out : IsWorldOf (record { setup = setup; end = end }) world
+
+-- where a world is handed out, its run was good
+abbrev pub WasGood : (before after : Outside) → (last : Option Held) → (status : ℕ) → Type 0
+WasGood before after None status = Unit {0}
+WasGood before after (Some world) status = RanWell before after world status

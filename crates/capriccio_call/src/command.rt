@@ -1,0 +1,51 @@
+// The program as a whole, over the objects that it is handed.
+ghost use Rattle.std.specs.Prelude.{◌≡◌, map};
+ghost use Rattle.std.specs.String.{string_bytes};
+ghost use Rattle.command_outcomes.specs.Done.{outside_by};
+ghost use Rattle.capriccio_call.specs.Headline.{IsAnswer, WasGood};
+
+use cap_io::{Shelf, Sink, Source};
+use capriccio_commands::do_words;
+use command_outcomes::{Ended, finish};
+use std::alloc::Global;
+use thread_core::World;
+
+/// Does what the words say, and answers the status; where the command refuses, or something fails, `err` takes the line that
+/// says so. `last` is the world that was run, as it is at the stop, where a run came to its stop, and else nothing.
+pub fn capriccio<F: Shelf, S: Source, K: Sink, E: Sink>(
+    alloc: Global,
+    words: &Vec<String>,
+    shelf: &mut F,
+    trace: &mut S,
+    out: &mut K,
+    err: &mut E,
+    last: &mut Option<World>,
+) -> u8
+    ensures answer { let outside = outside_by F.files F.load_faults F.store_faults S.left S.faults K.taken K.faults in
+        IsAnswer (map (λ word. string_bytes word) words.now.items) (outside shelf.old trace.old out.old) (outside shelf.new trace.new out.new) (E.taken err.old) (E.taken err.new) (E.faults err.old) (E.faults err.new) last.new result }
+    ensures good { let outside = outside_by F.files F.load_faults F.store_faults S.left S.faults K.taken K.faults in
+        WasGood (outside shelf.old trace.old out.old) (outside shelf.new trace.new out.new) last.new result }
+{
+    match do_words(alloc, words, shelf, trace, out) {
+        Ok(
+            Ended {
+                status,
+                last: world,
+            },
+        ) => {
+            put(last, world);
+            status
+        }
+        Err(stop) => {
+            put(last, None);
+            finish(alloc, err, stop)
+        }
+    }
+}
+
+/// Puts a value in the place of the one before.
+fn put<T: Drop>(place: &mut T, value: T)
+    ensures { place.new ≡ value }
+{
+    *place = value;
+}

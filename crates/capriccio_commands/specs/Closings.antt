@@ -1,0 +1,30 @@
+-- Why a run doesn't begin, and how a command ends by the end of its run.
+use Rattle.std.specs.Prelude.{◌≡◌, Option, Some, Result, Ok, Err}
+use Rattle.certificate_check.specs.declared.checking.CheckError.{CheckError}
+use Rattle.certificate_check.specs.declared.checking.CheckError.TheVariants as checking
+use Rattle.runner.specs.declared.ends.RunEnd.{RunEnd}
+use Rattle.runner.specs.declared.ends.RunEnd.TheVariants as end
+use Rattle.thread_core.specs.Worlds.{Held}
+use Rattle.command_outcomes.specs.declared.stops.Cause.TheVariants as cause
+use Rattle.command_outcomes.specs.declared.stops.Stop.{Stop}
+use Rattle.command_outcomes.specs.declared.stops.Stop.TheVariants.{Refused, Failed}
+use Rattle.command_outcomes.specs.declared.ended.Ended.{Ended}
+use Rattle.command_outcomes.specs.declared.faults.Fault.TheVariants.{Read, Write, Memory}
+
+-- why a pair isn't accepted
+abbrev pub IsUnaccepted : CheckError → Stop → Type 0
+IsUnaccepted (checking.Rejected rule function index program i c) stop = stop ≡ Refused (cause.Rejected rule function index)
+IsUnaccepted (checking.Memory program i c) stop = stop ≡ Failed Memory
+
+-- how a command ends by the end of its run: with the status of the stop and the world, or with a fault
+abbrev pub IsClosed : Held → RunEnd → Result Ended Stop → Type 0
+IsClosed world end.Done answer = answer ≡ Ok (record { status = 0; last = Some world })
+IsClosed world (end.BadTrace line) answer = answer ≡ Ok (record { status = 4; last = Some world })
+IsClosed world end.Idle answer = answer ≡ Ok (record { status = 10; last = Some world })
+IsClosed world (end.Trap thread kind) answer = answer ≡ Ok (record { status = 11; last = Some world })
+IsClosed world (end.NoChunk thread) answer = answer ≡ Ok (record { status = 12; last = Some world })
+IsClosed world (end.Fuel thread) answer = answer ≡ Ok (record { status = 13; last = Some world })
+IsClosed world (end.Threads thread) answer = answer ≡ Ok (record { status = 14; last = Some world })
+IsClosed world end.ReadFault answer = answer ≡ Err (Failed Read)
+IsClosed world end.WriteFault answer = answer ≡ Err (Failed Write)
+IsClosed world end.Memory answer = answer ≡ Err (Failed Memory)

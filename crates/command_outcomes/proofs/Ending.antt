@@ -1,0 +1,142 @@
+-- How a command ends, from what its last step did.
+use Rattle.std.proofs.Common.{◌≡◌, ◌≢◌, ℕ, List, [], ◌∷◌, Option, Some, None, Result, Ok, Err, refl, sym, ap, ◌∙◌, subst, inl, inr, ⊎_elim}
+use Rattle.std.proofs.lemmas.List.{append-nil}
+use Rattle.std.specs.Io.KnownBytes.{Keeps, Appends}
+use Rattle.cap_io.specs.Files.{Files, KeepsFiles, KeepsOthers}
+use Rattle.command_outcomes.specs.declared.stops.Cause.{Cause}
+use Rattle.command_outcomes.specs.declared.stops.Stop.{Stop}
+use Rattle.command_outcomes.specs.declared.stops.Stop.TheVariants.{Refused, Failed}
+use Rattle.command_outcomes.specs.declared.faults.Fault.{Fault}
+use Rattle.command_outcomes.specs.declared.faults.Fault.TheVariants.{Read, Write, Memory}
+use Rattle.thread_core.specs.Worlds.{Held}
+use Rattle.command_outcomes.specs.declared.ended.Ended.{Ended}
+use Rattle.command_outcomes.specs.Outcome.{Outcome, Ran, printed}
+use Rattle.command_outcomes.specs.CauseLines.{refusal}
+use Rattle.command_outcomes.specs.Done.{Outside, WhereTold, AreStored, AreCutShort, IsRisen, IsDone, IsExact, IsTold, IsTraceLeft, IsLast}
+use Rattle.command_outcomes.specs.Steps.{IsShelfStop, IsPrinted, AreStores, EndsAs, RunEnds, IsFinished}
+
+pub keeps-itself : (bytes : Option (List ℕ)) → Keeps bytes bytes
+keeps-itself None = tt
+keeps-itself (Some xs) = refl
+
+pub append-nothing : (old new : Option (List ℕ)) → Keeps old new → Appends old new []
+append-nothing None new h = tt
+append-nothing (Some old) None h = absurd h
+append-nothing (Some old) (Some new) h = h ∙ sym (append-nil old)
+
+pub kept-are-stored : (old new : Option Files) → KeepsFiles old new → WhereTold (AreStored []) old new
+kept-are-stored None new h = tt
+kept-are-stored (Some old) None h = absurd h
+kept-are-stored (Some old) (Some new) h = h
+
+others-from : (old old2 new : Files) (name : List ℕ) → ((other : List ℕ) → old2 other ≡ old other) → KeepsOthers old2 new name → KeepsOthers old new name
+others-from old old2 new name same h = λ other differs. h other differs ∙ same other
+
+stored-from : (files : List (List ℕ × List ℕ)) (old old2 new : Files) → ((name : List ℕ) → old2 name ≡ old name) → AreStored files old2 new → AreStored files old new
+stored-from [] old old2 new same h = λ name. h name ∙ same name
+stored-from (file ∷ files) old old2 new same h =
+    let first = h.1 in
+    (h.0, record { holds = first.holds; others = others-from old old2 h.0 file.0 same first.others }, h.2)
+
+cut-from : (files : List (List ℕ × List ℕ)) (old old2 new : Files) → ((name : List ℕ) → old2 name ≡ old name) → AreCutShort files old2 new → AreCutShort files old new
+cut-from [] old old2 new same h = absurd h
+cut-from (file ∷ files) old old2 new same h =
+    ⊎_elim
+    (λ x. inl (record { holds = ⊎_elim (λ p. inl p) (λ e. inr (e ∙ same file.0)) x.holds; others = others-from old old2 new file.0 same x.others }))
+    (λ x. let first = x.1 in inr (x.0, record { holds = first.holds; others = others-from old old2 x.0 file.0 same first.others }, x.2))
+    h
+
+-- stores after steps that changed no file
+pub stored-after : (files : List (List ℕ × List ℕ)) (a b c : Option Files) → KeepsFiles a b → WhereTold (AreStored files) b c → WhereTold (AreStored files) a c
+stored-after files None b c h k = tt
+stored-after files (Some a) None c h k = absurd h
+stored-after files (Some a) (Some b) None h k = absurd k
+stored-after files (Some a) (Some b) (Some c) h k = stored-from files a b c h k
+
+pub cut-after : (files : List (List ℕ × List ℕ)) (a b c : Option Files) → KeepsFiles a b → WhereTold (AreCutShort files) b c → WhereTold (AreCutShort files) a c
+cut-after files None b c h k = tt
+cut-after files (Some a) None c h k = absurd h
+cut-after files (Some a) (Some b) None h k = absurd k
+cut-after files (Some a) (Some b) (Some c) h k = cut-from files a b c h k
+
+-- the same, however the stores end
+pub stores-after : (files : List (List ℕ × List ℕ)) (a b c : Option Files) (l m n : ℕ) (r : Result (Unit {0}) Stop) → KeepsFiles a b → m ≡ l → AreStores files b c m n r → AreStores files a c l n r
+stores-after files a b c l m n (Ok u) keeps same h = (stored-after files a b c keeps h.0, h.1 ∙ same)
+stores-after files a b c l m n (Err (Refused cause)) keeps same h = h
+stores-after files a b c l m n (Err (Failed Read)) keeps same h = h
+stores-after files a b c l m n (Err (Failed Write)) keeps same h = (cut-after files a b c keeps h.0, subst (λ k. IsRisen k n) same h.1)
+stores-after files a b c l m n (Err (Failed Memory)) keeps same h = (cut-after files a b c keeps h.0, h.1 ∙ same)
+
+-- a step that stops before anything is stored or printed
+pub stopped : (due : Outcome → Type 0) (before after : Outside) (stop : Stop) → KeepsFiles before.files after.files → after.stores ≡ before.stores → Keeps before.left after.left → after.reads ≡ before.reads → Keeps before.taken after.taken → after.writes ≡ before.writes →
+    IsShelfStop due before.loads after.loads stop → EndsAs due before after (Err stop)
+stopped due before after (Refused cause) files stores left reads taken writes h =
+    (h.0, record { files = kept-are-stored before.files after.files files; trace = left; out = append-nothing before.taken after.taken taken }, record { loads = h.1; stores = stores; reads = reads; writes = writes })
+stopped due before after (Failed Read) files stores left reads taken writes h =
+    inl (record { files = files; trace = left; out = taken }, record { loads = h; stores = stores; reads = reads; writes = writes })
+stopped due before after (Failed Write) files stores left reads taken writes h = absurd h
+stopped due before after (Failed Memory) files stores left reads taken writes h =
+    (inl (record { files = files; trace = left; out = taken }), record { loads = h; stores = stores; reads = reads; writes = writes })
+
+-- the stores of an outcome are made, and its text is printed
+pub printed-ends : (due : Outcome → Type 0) (before after : Outside) (o : Outcome) (r : Result Ended Stop) → due o → o.line ≡ [] → o.last ≡ None → WhereTold (AreStored o.stores) before.files after.files → Keeps before.left after.left → after.loads ≡ before.loads → after.stores ≡ before.stores → after.reads ≡ before.reads →
+    IsPrinted o.status o.out before.taken after.taken before.writes after.writes r → EndsAs due before after r
+printed-ends due before after o (Ok given) is line none files left loads stores reads h =
+    let trace = subst (λ (ran : Option Ran). IsTraceLeft ran before.left after.left) (sym none) left in
+    let here = subst (λ (ran : Option Ran). IsLast ran None) (sym none) tt in
+    let last = subst (λ (held : Option Held). IsLast o.last held) (sym (ap (λ (e : Ended). e.last) h.0)) here in
+    (o, (is, record { files = files; trace = trace; out = h.1 }, record { loads = loads; stores = stores; reads = reads; writes = h.2 }), sym (ap (λ (e : Ended). e.status) h.0), line, last)
+printed-ends due before after o (Err (Refused cause)) is line none files left loads stores reads h = absurd h
+printed-ends due before after o (Err (Failed Read)) is line none files left loads stores reads h = absurd h
+printed-ends due before after o (Err (Failed Write)) is line none files left loads stores reads h =
+    let trace = subst (λ (ran : Option Ran). IsTraceLeft ran before.left after.left) (sym none) left in
+    (o, is, inr (record { files = files; trace = trace; out = h.0 }, record { loads = loads; stores = stores; reads = reads; writes = h.1 }))
+printed-ends due before after o (Err (Failed Memory)) is line none files left loads stores reads h =
+    let trace = subst (λ (ran : Option Ran). IsTraceLeft ran before.left after.left) (sym none) left in
+    (inr (o, is, inr (record { files = files; trace = trace; out = h.0 })), record { loads = loads; stores = stores; reads = reads; writes = h.1 })
+
+-- a store of an outcome was cut short
+pub stores-cut : (due : Outcome → Type 0) (before after : Outside) (o : Outcome) (stop : Stop) → due o → o.stores ≢ [] → Keeps before.left after.left → Keeps before.taken after.taken → after.loads ≡ before.loads → after.reads ≡ before.reads → after.writes ≡ before.writes →
+    AreStores o.stores before.files after.files before.stores after.stores (Err stop) → EndsAs due before after (Err stop)
+stores-cut due before after o (Refused cause) is some left taken loads reads writes h = absurd h
+stores-cut due before after o (Failed Read) is some left taken loads reads writes h = absurd h
+stores-cut due before after o (Failed Write) is some left taken loads reads writes h =
+    (o, is, inl (record { some = some; files = h.0; trace = left; out = taken }, record { loads = loads; stores = h.1; reads = reads; writes = writes }))
+stores-cut due before after o (Failed Memory) is some left taken loads reads writes h =
+    (inr (o, is, inl (record { some = some; files = h.0; trace = left; out = taken })), record { loads = loads; stores = h.1; reads = reads; writes = writes })
+
+pub printed-now : (due : Outcome → Type 0) (before after : Outside) (status : ℕ) (text : List ℕ) (r : Result Ended Stop) → due (printed status text) → KeepsFiles before.files after.files → Keeps before.left after.left → after.loads ≡ before.loads → after.stores ≡ before.stores → after.reads ≡ before.reads →
+    IsPrinted status text before.taken after.taken before.writes after.writes r → EndsAs due before after r
+printed-now due before after status text r is files left loads stores reads h =
+    printed-ends due before after (printed status text) r is refl refl (kept-are-stored before.files after.files files) left loads stores reads h
+
+-- Nothing is done at all.
+
+files-keep : (files : Option Files) → KeepsFiles files files
+files-keep None = tt
+files-keep (Some f) = λ name. refl
+
+pub refused-at-once : (due : Outcome → Type 0) (o : Outside) (cause : Cause) → due (refusal cause) → EndsAs due o o (Err (Refused cause))
+refused-at-once due o cause h = stopped due o o (Refused cause) (files-keep o.files) refl (keeps-itself o.left) refl (keeps-itself o.taken) refl (h, refl)
+
+pub memory-at-once : (due : Outcome → Type 0) (o : Outside) → EndsAs due o o (Err (Failed Memory))
+memory-at-once due o = stopped due o o (Failed Memory) (files-keep o.files) refl (keeps-itself o.left) refl (keeps-itself o.taken) refl refl
+
+-- memory is wanting before the trace is read
+pub memory-before : (due : Outcome → Type 0) (left : Option (List ℕ)) (reads : ℕ) (taken : Option (List ℕ)) (writes : ℕ) → RunEnds due left left reads reads taken taken writes writes (Err (Failed Memory))
+memory-before due left reads taken writes = λ files files' loads loads' stores stores' keeps same again.
+    stopped due (record { files = files; loads = loads; stores = stores; left = left; reads = reads; taken = taken; writes = writes })
+    (record { files = files'; loads = loads'; stores = stores'; left = left; reads = reads; taken = taken; writes = writes }) (Failed Memory) keeps again (keeps-itself left) refl (keeps-itself taken) refl same
+
+-- What is due may be put in the place of what implies it.
+
+done-follows : (P Q : Outcome → Type 0) (before after : Outside) (given : Result Outcome Fault) → ((o : Outcome) → P o → Q o) → IsDone P before after given → IsDone Q before after given
+done-follows P Q before after (Ok o) step h = (step o h.0, h.1, h.2)
+done-follows P Q before after (Err Read) step h = ⊎_elim (λ x. inl x) (λ x. inr (x.0, x.1, x.2, step x.0 x.3, x.4, x.5)) h
+done-follows P Q before after (Err Write) step h = (h.0, step h.0 h.1, h.2)
+done-follows P Q before after (Err Memory) step h = (⊎_elim (λ x. inl x) (λ x. inr (x.0, step x.0 x.1, x.2)) h.0, h.1)
+
+pub ends-follow : (P Q : Outcome → Type 0) (before after : Outside) (r : Result Ended Stop) → ((o : Outcome) → P o → Q o) → EndsAs P before after r → EndsAs Q before after r
+ends-follow P Q before after (Ok given) step h = (h.0, done-follows P Q before after (Ok h.0) step h.1, h.2, h.3, h.4)
+ends-follow P Q before after (Err (Refused cause)) step h = done-follows P Q before after (Ok (refusal cause)) step h
+ends-follow P Q before after (Err (Failed fault)) step h = done-follows P Q before after (Err fault) step h

@@ -1,0 +1,205 @@
+-- What a call leaves outside: of an outcome that is due all, or after a fault or where memory is wanting a part.
+use Rattle.std.specs.Prelude.{ℕ, ◌≡◌, ◌≢◌, ◌≤◌, ◌⊎◌, List, [], ◌∷◌, Option, Some, None, Result, Ok, Err}
+use Rattle.std.specs.Io.KnownBytes.{Keeps, Appends}
+use Rattle.cap_io.specs.Faults.{Rose, Stayed}
+use Rattle.cap_io.specs.Files.{Files, KeepsFiles, KeepsOthers}
+use Rattle.cap_io.specs.Shelves.{HoldsPrefix}
+use Rattle.command_outcomes.specs.declared.faults.Fault.{Fault}
+use Rattle.command_outcomes.specs.declared.faults.Fault.TheVariants.{Read, Write, Memory}
+use Rattle.command_outcomes.specs.FaultLines.{fault_status, fault_line}
+use Rattle.command_outcomes.specs.Outcome.{Outcome, Ran}
+use Rattle.certificate_check.specs.Accepting.{accepted_tree}
+use Rattle.lawful_log.specs.Setup.{setting_of}
+use Rattle.thread_core.specs.Worlds.{Held}
+use Rattle.command_outcomes.specs.Prefixes.{TakesPrefix}
+
+-- what a shelf, a trace and the output tell at a moment: the files and the counts of faults of loads and of stores, the bytes
+-- left of the trace and its count, and the bytes that the output took and its count
+pub record Outside : Type 0 where
+  pub files : Option Files
+  pub loads : ℕ
+  pub stores : ℕ
+  pub left : Option (List ℕ)
+  pub reads : ℕ
+  pub taken : Option (List ℕ)
+  pub writes : ℕ
+
+-- what these objects tell of themselves, each by what it tells
+abbrev pub outside_by : {F S K : Type 0} → (files : F → Option Files) → (loads stores : F → ℕ) → (left : S → Option (List ℕ)) → (reads : S → ℕ) → (taken : K → Option (List ℕ)) → (writes : K → ℕ) → F → S → K → Outside
+outside_by files loads stores left reads taken writes shelf trace out =
+    record { files = files shelf; loads = loads shelf; stores = stores shelf; left = left trace; reads = reads trace; taken = taken out; writes = writes out }
+
+-- Files.
+
+-- a file was stored: it holds the bytes, and the others are as they were
+pub record IsStored (old new : Files) (name bytes : List ℕ) : Type 0 where
+  pub holds : new name ≡ Some bytes
+  pub others : KeepsOthers old new name
+
+-- files were stored, one after another
+abbrev pub AreStored : List (List ℕ × List ℕ) → Files → Files → Type 0
+AreStored [] old new = (name : List ℕ) → new name ≡ old name
+AreStored (file ∷ files) old new = (next : Files) × IsStored old next file.0 file.1 × AreStored files next new
+
+-- a store was cut short: the file holds what it held or a prefix of the bytes, and the others are as they were
+pub record IsCutShort (old new : Files) (name bytes : List ℕ) : Type 0 where
+  pub holds : HoldsPrefix (new name) bytes ⊎ (new name ≡ old name)
+  pub others : KeepsOthers old new name
+
+-- the first of the files were stored, and the next store was cut short
+abbrev pub AreCutShort : List (List ℕ × List ℕ) → Files → Files → Type 0
+AreCutShort [] old new = ⊥
+AreCutShort (file ∷ files) old new =
+    IsCutShort old new file.0 file.1 ⊎ ((next : Files) × IsStored old next file.0 file.1 × AreCutShort files next new)
+
+-- that is so of the files of a shelf that tells them
+abbrev pub WhereTold : (Files → Files → Type 0) → Option Files → Option Files → Type 0
+WhereTold P None new = Unit {0}
+WhereTold P (Some old) None = ⊥
+WhereTold P (Some old) (Some new) = P old new
+
+-- Counts of faults.
+
+-- a count rose, or stands at its end
+pub record IsRisen (old new : ℕ) : Type 0 where
+  pub rose : Rose old new
+  pub never_falls : old ≤ new
+
+pub record NoneCounted (before after : Outside) : Type 0 where
+  pub loads : after.loads ≡ before.loads
+  pub stores : after.stores ≡ before.stores
+  pub reads : after.reads ≡ before.reads
+  pub writes : after.writes ≡ before.writes
+
+-- a load failed
+pub record LoadCounted (before after : Outside) : Type 0 where
+  pub loads : IsRisen before.loads after.loads
+  pub stores : after.stores ≡ before.stores
+  pub reads : after.reads ≡ before.reads
+  pub writes : after.writes ≡ before.writes
+
+-- a store failed
+pub record StoreCounted (before after : Outside) : Type 0 where
+  pub loads : after.loads ≡ before.loads
+  pub stores : IsRisen before.stores after.stores
+  pub reads : after.reads ≡ before.reads
+  pub writes : after.writes ≡ before.writes
+
+-- a write to the output failed
+pub record WriteCounted (before after : Outside) : Type 0 where
+  pub loads : after.loads ≡ before.loads
+  pub stores : after.stores ≡ before.stores
+  pub reads : after.reads ≡ before.reads
+  pub writes : IsRisen before.writes after.writes
+
+-- a read of the trace failed
+pub record TraceCounted (before after : Outside) : Type 0 where
+  pub loads : after.loads ≡ before.loads
+  pub stores : after.stores ≡ before.stores
+  pub reads : IsRisen before.reads after.reads
+  pub writes : after.writes ≡ before.writes
+
+-- no count rose or stands at its end
+pub record NoFault (before after : Outside) : Type 0 where
+  pub loads : Stayed before.loads after.loads
+  pub stores : Stayed before.stores after.stores
+  pub reads : Stayed before.reads after.reads
+  pub writes : Stayed before.writes after.writes
+
+-- What was done.
+
+-- the trace is read by a run alone
+abbrev pub IsTraceLeft : Option Ran → Option (List ℕ) → Option (List ℕ) → Type 0
+IsTraceLeft None left left' = Keeps left left'
+IsTraceLeft (Some ran) left left' = Unit {0}
+
+-- nothing: no file has changed, the trace wasn't read, and the output took nothing
+pub record IsNothing (before after : Outside) : Type 0 where
+  pub files : KeepsFiles before.files after.files
+  pub trace : Keeps before.left after.left
+  pub out : Keeps before.taken after.taken
+
+-- all of an outcome
+pub record IsWhole (outcome : Outcome) (before after : Outside) : Type 0 where
+  pub files : WhereTold (AreStored outcome.stores) before.files after.files
+  pub trace : IsTraceLeft outcome.last before.left after.left
+  pub out : Appends before.taken after.taken outcome.out
+
+-- a store was cut short, before the output took anything
+pub record IsCutInStores (outcome : Outcome) (before after : Outside) : Type 0 where
+  pub some : outcome.stores ≢ []
+  pub files : WhereTold (AreCutShort outcome.stores) before.files after.files
+  pub trace : Keeps before.left after.left
+  pub out : Keeps before.taken after.taken
+
+-- all is stored, and the output took a prefix
+pub record IsCutInOut (outcome : Outcome) (before after : Outside) : Type 0 where
+  pub files : WhereTold (AreStored outcome.stores) before.files after.files
+  pub trace : IsTraceLeft outcome.last before.left after.left
+  pub out : TakesPrefix before.taken after.taken outcome.out
+
+-- what was done where that is due: `Ok` is the whole outcome
+abbrev pub IsDone : (Outcome → Type 0) → (before after : Outside) → Result Outcome Fault → Type 0
+IsDone due before after (Ok outcome) = due outcome × IsWhole outcome before after × NoneCounted before after
+IsDone due before after (Err Read) =
+    (IsNothing before after × LoadCounted before after)
+    ⊎ ((outcome : Outcome) × (ran : Ran) × (outcome.last ≡ Some ran) × due outcome × IsCutInOut outcome before after × TraceCounted before after)
+IsDone due before after (Err Write) =
+    (outcome : Outcome) × due outcome
+    × ((IsCutInStores outcome before after × StoreCounted before after) ⊎ (IsCutInOut outcome before after × WriteCounted before after))
+IsDone due before after (Err Memory) =
+    (IsNothing before after ⊎ ((outcome : Outcome) × due outcome × (IsCutInStores outcome before after ⊎ IsCutInOut outcome before after)))
+    × NoneCounted before after
+
+-- The status and standard error.
+
+abbrev pub status_of : Result Outcome Fault → ℕ
+status_of (Ok outcome) = outcome.status
+status_of (Err fault) = fault_status fault
+
+abbrev pub line_of : Result Outcome Fault → List ℕ
+line_of (Ok outcome) = outcome.line
+line_of (Err fault) = fault_line fault
+
+-- The status that is answered, and what standard error took: the line; or a prefix, where a write to it failed, which changes
+-- nothing else, or found no memory, which makes the status that of a want of memory.
+abbrev pub IsTold : ℕ → List ℕ → (old new : Option (List ℕ)) → (faults faults' : ℕ) → ℕ → Type 0
+IsTold status line old new faults faults' answer =
+    ((answer ≡ status) × Appends old new line × (faults' ≡ faults))
+    ⊎ ((line ≢ []) × TakesPrefix old new line
+    × (((answer ≡ status) × IsRisen faults faults') ⊎ ((answer ≡ fault_status Memory) × (faults' ≡ faults))))
+
+-- The world that is handed out.
+
+-- the world that was run: it was made from this program, image, certificate and policy, and is the machine world at the stop
+pub record IsWorldOf (ran : Ran) (world : Held) : Type 0 where
+  pub program : accepted_tree world.accepted ≡ ran.setup.program
+  pub image : world.accepted.image ≡ ran.setup.image
+  pub certificate : world.accepted.certificate ≡ ran.setup.certificate
+  pub setting : world.setting ≡ setting_of ran.setup
+  pub chunks : world.machine.areas.pool.count ≡ ran.setup.policy.chunks
+  pub machine : world.machine ≡ ran.end
+
+-- it is there exactly where a run came to its stop
+abbrev pub IsLast : Option Ran → Option Held → Type 0
+IsLast None None = Unit {0}
+IsLast (Some ran) (Some world) = IsWorldOf ran world
+IsLast _ _ = ⊥
+
+abbrev pub last_of : Result Outcome Fault → Option Ran
+last_of (Ok outcome) = outcome.last
+last_of (Err fault) = None
+
+-- What is exact.
+
+-- this outcome was done, or memory was wanting
+abbrev pub IsThisCase : Outcome → Result Outcome Fault → Type 0
+IsThisCase outcome (Ok given) = given ≡ outcome
+IsThisCase outcome (Err Memory) = Unit {0}
+IsThisCase outcome (Err Read) = ⊥
+IsThisCase outcome (Err Write) = ⊥
+
+-- where the files and the trace are told and no fault was counted, what is due is done
+abbrev pub IsExact : (Outside → Outcome → Type 0) → (before after : Outside) → Result Outcome Fault → Type 0
+IsExact due before after given =
+    NoFault before after → (files : Files) (trace : List ℕ) (outcome : Outcome) → before.files ≡ Some files → before.left ≡ Some trace → due before outcome → IsThisCase outcome given

@@ -1,0 +1,89 @@
+-- What the steps of a command answer, by what is due.
+use Rattle.std.specs.Prelude.{ℕ, ◌≡◌, ◌≤◌, ◌⊎◌, List, [], length, Option, IfSome, Some, None, Result, Ok, Err}
+use Rattle.std.specs.Global.{Vec}
+use Rattle.std.specs.Io.KnownBytes.{Appends}
+use Rattle.cap_io.specs.Files.{Files, KeepsFiles}
+use Rattle.command_outcomes.specs.declared.documents.Document.{Document}
+use Rattle.command_outcomes.specs.declared.documents.Document.TheVariants as document
+use Rattle.command_outcomes.specs.declared.loading.LoadedFiles.{LoadedFiles}
+use Rattle.command_outcomes.specs.declared.stops.Stop.{Stop}
+use Rattle.command_outcomes.specs.declared.stops.Stop.TheVariants.{Refused, Failed}
+use Rattle.command_outcomes.specs.declared.ended.Ended.{Ended}
+use Rattle.command_outcomes.specs.declared.faults.Fault.TheVariants.{Read, Write, Memory}
+use Rattle.command_outcomes.specs.Outcome.{Outcome, NoMore}
+use Rattle.command_outcomes.specs.CauseLines.{most_bytes, refusal}
+use Rattle.command_outcomes.specs.Done.{Outside, WhereTold, AreStored, AreCutShort, IsRisen, IsDone, IsTold, IsLast}
+use Rattle.command_outcomes.specs.Prefixes.{TakesPrefix}
+use Rattle.command_outcomes.specs.FaultLines.{fault_status, fault_line}
+use Rattle.command_outcomes.specs.Loads.{AfterLoad, AfterThree}
+
+-- a step over values stops: it refuses, where that is due, or finds no memory
+abbrev pub IsStop : (Outcome → Type 0) → Stop → Type 0
+IsStop due (Refused cause) = due (refusal cause)
+IsStop due (Failed Memory) = Unit {0}
+IsStop due (Failed Read) = ⊥
+IsStop due (Failed Write) = ⊥
+
+-- a step over a shelf stops, with its count of faults of loads before and after
+abbrev pub IsShelfStop : (Outcome → Type 0) → (loads loads' : ℕ) → Stop → Type 0
+IsShelfStop due loads loads' (Refused cause) = due (refusal cause) × (loads' ≡ loads)
+IsShelfStop due loads loads' (Failed Memory) = loads' ≡ loads
+IsShelfStop due loads loads' (Failed Read) = IsRisen loads loads'
+IsShelfStop due loads loads' (Failed Write) = ⊥
+
+-- a loaded file of this name
+pub record IsLoaded (which : Document) (files : Option Files) (name bytes : List ℕ) : Type 0 where
+  pub file : IfSome files (λ f. f name ≡ Some bytes)
+  pub fits : length bytes ≤ most_bytes which
+
+-- a file was loaded, or its load is the last step
+abbrev pub IsLoadAnswer : Document → Option Files → List ℕ → (loads loads' : ℕ) → Result (Vec ℕ) Stop → Type 0
+IsLoadAnswer which files name loads loads' (Ok bytes) =
+    IsLoaded which files name bytes.items × (loads' ≡ loads)
+IsLoadAnswer which files name loads loads' (Err stop) = IsShelfStop (AfterLoad which files name NoMore) loads loads' stop
+
+-- three files were loaded, or the load of one of them is the last step
+abbrev pub AreLoaded : Option Files → (source image certificate : List ℕ) → (loads loads' : ℕ) → Result LoadedFiles Stop → Type 0
+AreLoaded files source image certificate loads loads' (Ok loaded) =
+    IsLoaded document.Source files source loaded.source.items × IsLoaded document.Image files image loaded.image.items
+    × IsLoaded document.Certificate files certificate loaded.certificate.items × (loads' ≡ loads)
+AreLoaded files source image certificate loads loads' (Err stop) =
+    IsShelfStop (AfterThree files source image certificate (λ _ _ bytes. NoMore bytes)) loads loads' stop
+
+-- a text was printed, and a status goes with it; or the text is cut short
+abbrev pub IsPrinted : ℕ → List ℕ → (old new : Option (List ℕ)) → (writes writes' : ℕ) → Result Ended Stop → Type 0
+IsPrinted status text old new writes writes' (Ok given) =
+    (given ≡ record { status = status; last = None }) × Appends old new text × (writes' ≡ writes)
+IsPrinted status text old new writes writes' (Err (Failed Write)) = TakesPrefix old new text × IsRisen writes writes'
+IsPrinted status text old new writes writes' (Err (Failed Memory)) = TakesPrefix old new text × (writes' ≡ writes)
+IsPrinted status text old new writes writes' (Err (Failed Read)) = ⊥
+IsPrinted status text old new writes writes' (Err (Refused cause)) = ⊥
+
+-- files were stored, or a store is cut short
+abbrev pub AreStores : List (List ℕ × List ℕ) → (old new : Option Files) → (stores stores' : ℕ) → Result (Unit {0}) Stop → Type 0
+AreStores files old new stores stores' (Ok _) = WhereTold (AreStored files) old new × (stores' ≡ stores)
+AreStores files old new stores stores' (Err (Failed Write)) = WhereTold (AreCutShort files) old new × IsRisen stores stores'
+AreStores files old new stores stores' (Err (Failed Memory)) = WhereTold (AreCutShort files) old new × (stores' ≡ stores)
+AreStores files old new stores stores' (Err (Failed Read)) = ⊥
+AreStores files old new stores stores' (Err (Refused cause)) = ⊥
+
+-- how a command ended, before standard error takes anything: with its status and the world that it ran, or with its last step
+abbrev pub EndsAs : (Outcome → Type 0) → (before after : Outside) → Result Ended Stop → Type 0
+EndsAs due before after (Ok given) =
+    (outcome : Outcome) × IsDone due before after (Ok outcome) × (outcome.status ≡ given.status) × (outcome.line ≡ []) × IsLast outcome.last given.last
+EndsAs due before after (Err (Refused cause)) = IsDone due before after (Ok (refusal cause))
+EndsAs due before after (Err (Failed fault)) = IsDone due before after (Err fault)
+
+-- how a run ended, whatever was loaded before it
+abbrev pub RunEnds : (Outcome → Type 0) → (left left' : Option (List ℕ)) → (reads reads' : ℕ) → (taken taken' : Option (List ℕ)) → (writes writes' : ℕ) → Result Ended Stop → Type 0
+RunEnds due left left' reads reads' taken taken' writes writes' answer =
+    (files files' : Option Files) (loads loads' stores stores' : ℕ) → KeepsFiles files files' → loads' ≡ loads → stores' ≡ stores →
+    EndsAs due (record { files = files; loads = loads; stores = stores; left = left; reads = reads; taken = taken; writes = writes })
+    (record { files = files'; loads = loads'; stores = stores'; left = left'; reads = reads'; taken = taken'; writes = writes' }) answer
+
+-- what is told of a last step: the line of a refusal needs memory
+abbrev pub IsFinished : Stop → (old new : Option (List ℕ)) → (faults faults' : ℕ) → ℕ → Type 0
+IsFinished (Failed fault) old new faults faults' answer = IsTold (fault_status fault) (fault_line fault) old new faults faults' answer
+IsFinished (Refused cause) old new faults faults' answer =
+    IsTold (refusal cause).status (refusal cause).line old new faults faults' answer
+    ⊎ IsTold (fault_status Memory) (fault_line Memory) old new faults faults' answer

@@ -1,0 +1,122 @@
+// The command `check`.
+use crate::calls::{Given, NO_FAULT, NONE, Wanted, is_so};
+use crate::images::{CUT_IMAGE, IMAGE_OF_LINKED, IMAGE_OF_SEVEN, IMAGE_OF_TWO, LONG_IMAGE};
+use std::alloc::{AllocError, Global};
+use std::test::Fail;
+
+pub(crate) const PUT_SEVEN: &[u8] = b"int main() { put(7); return 0; }";
+
+pub(crate) const CERTIFICATE_OF_SEVEN: &[u8] =
+    b"capriccio certificate 1\nchunk 4096\nmax-path 2032\nfunctions 1\nfunction 4104 22 16 12 16 0\nsites 0\n";
+
+/// A program of two functions.
+pub(crate) const TWO: &[u8] =
+    b"int g(int x) { return x; } int main() { int a; int b; a = g(1); return a; }";
+
+/// Source, image, certificate, the status, and what the output and standard error take.
+type CheckRow<'a> = (&'a [u8], &'a [u8], &'a [u8], u8, &'a [u8], &'a [u8]);
+
+const CHECKS: [CheckRow<'static>; 9] = [
+    (
+        PUT_SEVEN,
+        IMAGE_OF_SEVEN,
+        CERTIFICATE_OF_SEVEN,
+        0,
+        b"accepted\n",
+        NONE,
+    ),
+    (
+        TWO,
+        IMAGE_OF_LINKED,
+        b"capriccio certificate 1\nchunk 64\nmax-path 32\nfunctions 2\nfunction 4104 16 16 12 16 0 4\nfunction 4168 37 16 12 16 0 4 8\nsites 1\nsite 0 linked 16\n",
+        0,
+        b"accepted\n",
+        NONE,
+    ),
+    (
+        TWO,
+        IMAGE_OF_LINKED,
+        b"capriccio certificate 1\nchunk 64\nmax-path 32\nmax-path 32\nfunctions 2\nfunction 4104 16 16 12 16 0 4\nfunction 4168 37 16 12 16 0 4 8\nsites 1\nsite 0 linked 16\n",
+        4,
+        NONE,
+        b"certificate: Line 4\n",
+    ),
+    (
+        TWO,
+        IMAGE_OF_TWO,
+        b"capriccio certificate 1\nchunk 64\nmax-path 32\nfunctions 2\nfunction 4104 16 16 12 16 0 4\nfunction 4168 27 16 12 16 0 4 8\nsites 1\nsite 0 plain\n",
+        3,
+        b"rejected V10 function 1 index 0\n",
+        NONE,
+    ),
+    (
+        TWO,
+        IMAGE_OF_TWO,
+        b"capriccio certificate 1\nchunk 64\nmax-path 32\nfunctions 2\nfunction 4104 16 16 12 0 0 4\nfunction 4168 27 16 12 32 0 4 8\nsites 1\nsite 0 plain\n",
+        3,
+        b"rejected V11 function 0 index 1\n",
+        NONE,
+    ),
+    (
+        PUT_SEVEN,
+        CUT_IMAGE,
+        CERTIFICATE_OF_SEVEN,
+        4,
+        NONE,
+        b"image: Short at 10\n",
+    ),
+    (
+        PUT_SEVEN,
+        LONG_IMAGE,
+        CERTIFICATE_OF_SEVEN,
+        4,
+        NONE,
+        b"image: Long at 120\n",
+    ),
+    (
+        PUT_SEVEN,
+        IMAGE_OF_SEVEN,
+        b"capriccio certificate 1\nchunk 4096\nmax-path 2032\nmax-path 2032\nfunctions 1\nfunction 4104 22 16 12 16 0\nsites 0\n",
+        4,
+        NONE,
+        b"certificate: Line 4\n",
+    ),
+    (
+        b"int main() { return; }",
+        CUT_IMAGE,
+        NONE,
+        2,
+        NONE,
+        b"source: Kind at 13\n",
+    ),
+];
+
+/// Whether `check` says this of a source, an image and a certificate.
+fn is_checked(alloc: Global, row: &CheckRow) -> Result<bool, AllocError> {
+    let (source, image, certificate, status, out, err) = *row;
+    let given = Given {
+        words: &["check", "P", "I", "C"],
+        files: &[("P", source), ("I", image), ("C", certificate)],
+        trace: NONE,
+        fails: NO_FAULT,
+        stored: 0,
+        taken: 10_000,
+    };
+    let wanted = Wanted {
+        status,
+        out,
+        most: None,
+        err,
+        files: &[],
+    };
+    is_so(alloc, &given, &wanted)
+}
+
+#[test]
+fn checks(rt: HostRuntime) -> Result<(), Fail> {
+    for row in &CHECKS {
+        let err = row.5;
+        assert!(rt; is_checked(rt.alloc(), row)?, "{err:?}");
+    }
+    Ok(())
+}

@@ -1,0 +1,63 @@
+// The words of a command line.
+ghost use Rattle.std.specs.Io.{WritesAtMost};
+
+use capriccio_call::words_of;
+use std::alloc::{AllocError, Global};
+use std::env::FillError;
+use std::rt::Env;
+use std::test::Fail;
+
+/// A command line of three words: the program's name, `serve` and a last word.
+#[derive(Drop)]
+struct CommandLine {
+    last: &'static [u8],
+}
+
+impl Env for CommandLine {
+    fn arg(&self, i: usize, buf: &mut [u8]) -> Result<usize, FillError> {
+        match i {
+            0 => fill(buf, b"capriccio"),
+            1 => fill(buf, b"serve"),
+            2 => fill(buf, self.last),
+            _ => Err(FillError::NotPresent),
+        }
+    }
+
+    fn var(&self, _name: &str, _buf: &mut [u8]) -> Result<usize, FillError> {
+        Err(FillError::NotPresent)
+    }
+
+    fn var_at(&self, _i: usize, _buf: &mut [u8]) -> Result<usize, FillError> {
+        Err(FillError::NotPresent)
+    }
+}
+
+/// Copies a word to the front of a buffer.
+fn fill(buf: &mut [u8], word: &[u8]) -> Result<usize, FillError>
+    ensures { WritesAtMost result buf.new }
+{
+    if buf.len() < word.len() {
+        return Err(FillError::TooLong);
+    }
+    buf[..word.len()].copy_from_slice(word);
+    Ok(word.len())
+}
+
+/// How many words a command line has.
+fn count(alloc: Global, last: &'static [u8]) -> Result<usize, AllocError> {
+    let words = words_of(&CommandLine { last }, alloc)?;
+    let count = words.len();
+    drop(words);
+    Ok(count)
+}
+
+// Where a word is not UTF-8, there is none.
+const COUNTS: [(&[u8], usize); 2] = [(b"put.c", 2), (b"put\xff.c", 0)];
+
+#[test]
+fn words_of_the_command_line(rt: HostRuntime) -> Result<(), Fail> {
+    for (last, words) in COUNTS {
+        assert!(rt; count(rt.alloc(), last)? == words, "{words}");
+    }
+    Ok(())
+}

@@ -1,0 +1,113 @@
+// The servers of examples/ at the top of the repository: what each writes on its trace is the log that lies beside it.
+// tools/check_examples compares these texts with those files.
+use crate::calls::{NONE, Row, hold};
+use std::test::Fail;
+
+/// Two workers that share the arrivals.
+const POOL: &[u8] =
+    b"// Two workers share the arrivals: a free one takes the oldest, and answers with its square.\nvoid worker(int n) {\n  int request;\n  while (1) {\n    request = accept();\n    put(request * request);\n  }\n}\n\nint main() {\n  spawn(worker, 1);\n  spawn(worker, 2);\n  return 0;\n}\n";
+
+const TRACE_OF_POOL: &[u8] = b"arrive 100 3\narrive 100 4\narrive 500 5\n";
+
+const LOG_OF_POOL: &[u8] =
+    b"run 0 0 0\nend 0 31 1022\nrun 31 1 0\nblock 1 2 0 13 1022\nrun 44 2 0\nblock 2 2 0 13 1022\nevent 100 arrive 3\nevent 100 arrive 4\nrun 100 1 2\nout 1 9\nblock 1 2 0 20 1022\nrun 120 2 2\nout 2 16\nblock 2 2 0 20 1022\nevent 500 arrive 5\nrun 500 1 2\nout 1 25\nblock 1 2 0 20 1022\nedge 0 1 1 7936 256\nedge 0 2 2 3328 0\nedge 2 2 3 5120 0\nstop idle\n";
+
+/// A request that comes in several messages.
+const PIECES: &[u8] =
+    b"// An arrival is the number of a channel. On it come the length of a list and then its numbers; the answer is their sum.\nint sum_of_list(int channel) {\n  int left;\n  int part;\n  int sum;\n  sum = 0;\n  left = wait(channel);\n  while (left > 0) {\n    part = wait(channel);\n    sum = sum + part;\n    left = left - 1;\n  }\n  return sum;\n}\n\nvoid worker(int n) {\n  int channel;\n  int sum;\n  while (1) {\n    channel = accept();\n    sum = sum_of_list(channel);\n    put(sum);\n  }\n}\n\nint main() {\n  spawn(worker, 1);\n  spawn(worker, 2);\n  return 0;\n}\n";
+
+const TRACE_OF_PIECES: &[u8] =
+    b"arrive 100 5\ndata 100 5 2\narrive 150 6\ndata 300 6 1\ndata 400 5 10\ndata 500 6 7\ndata 600 5 20\n";
+
+const LOG_OF_PIECES: &[u8] =
+    b"run 0 0 0\nend 0 31 1022\nrun 31 1 0\nblock 1 2 2 16 1022\nrun 47 2 0\nblock 2 2 2 16 1022\nevent 100 arrive 5\nevent 100 data 5 2\nrun 100 1 2\nblock 1 3 0<3 27 1022\nrun 127 1 3\nblock 1 4 1<3 17 1022\nevent 150 arrive 6\nrun 150 2 2\nblock 2 3 0<3 27 1022\nevent 300 data 6 1\nrun 300 2 3\nblock 2 4 1<3 17 1022\nevent 400 data 5 10\nrun 400 1 4\nblock 1 4 1<3 39 1022\nevent 500 data 6 7\nrun 500 2 4\nout 2 7\nblock 2 2 2 55 1022\nevent 600 data 5 20\nrun 600 1 4\nout 1 30\nblock 1 2 2 55 1022\nedge 0 1 1 7936 256\nedge 0 2 2 4096 0\nedge 2 3 2 6912 0\nedge 3 4 2 4352 0\nedge 4 2 2 14080 0\nedge 4 4 1 9984 0\nstop idle\n";
+
+/// A bounded resource, and the gate.
+const BOUNDED: &[u8] =
+    b"// Requests share ten units of memory. A request says how many units it needs. Its worker takes them, works in three\n// pieces with the turns of others between, answers, and gives them back.\nvoid worker(int n) {\n  int units;\n  int piece;\n  while (1) {\n    units = accept();\n    take(1, units);\n    for (piece = 0; piece < 3; piece = piece + 1) yield();\n    put(units);\n    give(1, units);\n  }\n}\n\nint main() {\n  spawn(worker, 1);\n  spawn(worker, 2);\n  return 0;\n}\n";
+
+const TRACE_OF_BOUNDED: &[u8] = b"arrive 100 9\narrive 120 2\n";
+
+const LOG_OF_BOUNDED: &[u8] =
+    b"run 0 0 0\nend 0 31 1022\nrun 31 1 0\nblock 1 2 0 16 1022\nrun 47 2 0\nblock 2 2 0 16 1022\nevent 100 arrive 9\nrun 100 1 2\nblock 1 3 1 10 1022\nrun 110 1 3\nblock 1 4 2 18 1022\nevent 128 arrive 2\nrun 128 1 4\nblock 1 4 2 25 1022\nrun 153 1 4\nblock 1 4 2 25 1022\nrun 178 1 4\nout 1 9\nblock 1 2 0 46 1022\nrun 224 2 2\nblock 2 3 1 10 1022\nrun 234 2 3\nblock 2 4 2 18 1022\nrun 252 2 4\nblock 2 4 2 25 1022\nrun 277 2 4\nblock 2 4 2 25 1022\nrun 302 2 4\nout 2 2\nblock 2 2 0 46 1022\nedge 0 1 1 7936 256 0\nedge 0 2 2 4096 0 0\nedge 2 3 2 2560 0 0\nedge 3 4 2 4608 0 2080\nedge 4 2 2 11776 0 -2080\nedge 4 4 4 6400 0 0\nstop idle\n";
+
+/// A recursion over linked chunks.
+const RECURSION: &[u8] =
+    b"// The answer to a request n is 1 + 2 + .. + n, by a recursion n calls deep. At its end the thread yields once, so that\n// the log tells how many chunks it holds there.\nint sum_to(int n) {\n  int rest;\n  if (n < 1) {\n    yield();\n    return 0;\n  }\n  rest = sum_to(n - 1);\n  return n + rest;\n}\n\nint main() {\n  int request;\n  int answer;\n  while (1) {\n    request = accept();\n    answer = sum_to(request);\n    put(answer);\n  }\n}\n";
+
+const TRACE_OF_RECURSION: &[u8] = b"arrive 100 1\narrive 1000 10\narrive 10000 100\n";
+
+const LOG_OF_RECURSION: &[u8] =
+    b"run 0 0 0\nblock 0 2 2 15 255\nevent 100 arrive 1\nrun 100 0 2\nblock 0 3 0<1<3 59 254\nrun 159 0 3\nout 0 1\nblock 0 2 2 36 255\nevent 1000 arrive 10\nrun 1000 0 2\nblock 0 4 0<1<1<1<1<1<1<1 374 245\nrun 1374 0 4\nout 0 55\nblock 0 2 2 171 255\nevent 10000 arrive 100\nrun 10000 0 2\nblock 0 4 0<1<1<1<1<1<1<1 3524 155\nrun 13524 0 4\nout 0 5050\nblock 0 2 2 1521 255\nedge 0 2 1 3840 0\nedge 2 3 1 15104 256\nedge 2 4 2 196544 5440\nedge 3 2 1 9216 -256\nedge 4 2 2 86976 -5440\nstop idle\n";
+
+const LOG_OF_RECURSION_LARGE: &[u8] =
+    b"run 0 0 0\nblock 0 2 2 15 1023\nevent 100 arrive 1\nrun 100 0 2\nblock 0 3 0<1<3 57 1023\nrun 157 0 3\nout 0 1\nblock 0 2 2 35 1023\nevent 1000 arrive 10\nrun 1000 0 2\nblock 0 4 0<1<1<1<1<1<1<1 354 1023\nrun 1354 0 4\nout 0 55\nblock 0 2 2 161 1023\nevent 10000 arrive 100\nrun 10000 0 2\nblock 0 4 0<1<1<1<1<1<1<1 3324 1023\nrun 13324 0 4\nout 0 5050\nblock 0 2 2 1421 1023\nedge 0 2 1 3840 0\nedge 2 3 1 14592 0\nedge 2 4 2 185664 0\nedge 3 2 1 8960 0\nedge 4 2 2 81536 0\nstop idle\n";
+
+/// Threads that sleep.
+const TIMERS: &[u8] =
+    b"// Each arrival starts a thread that sleeps as many ticks as the arrival says, and then puts the number.\nvoid remind(int ticks) {\n  sleep(ticks);\n  put(ticks);\n}\n\nint main() {\n  int ticks;\n  while (1) {\n    ticks = accept();\n    spawn(remind, ticks);\n  }\n}\n";
+
+const TRACE_OF_TIMERS: &[u8] = b"arrive 0 900\narrive 0 300\narrive 100 500\n";
+
+const LOG_OF_TIMERS: &[u8] =
+    b"event 0 arrive 900\nevent 0 arrive 300\nrun 0 0 0\nblock 0 2 2 12 1023\nrun 12 0 2\nblock 0 2 2 18 1022\nrun 30 1 0\nblock 1 3 0 8 1022\nrun 38 0 2\nblock 0 2 2 18 1021\nrun 56 2 0\nblock 2 3 0 8 1021\nevent 100 arrive 500\nrun 100 0 2\nblock 0 2 2 18 1020\nrun 118 3 0\nblock 3 3 0 8 1020\nrun 364 2 3\nout 2 300\nend 2 10 1021\nrun 626 3 3\nout 3 500\nend 3 10 1022\nrun 938 1 3\nout 1 900\nend 1 10 1023\nedge 0 2 1 3072 0\nedge 0 3 3 2048 0\nedge 2 2 3 4608 256\nedge 3 1 3 2560 -256\nstop idle\n";
+
+// Each server idles at its end: the status is 10.
+const EXAMPLES: [Row<'static>; 6] = [
+    (&["serve", "P"], POOL, TRACE_OF_POOL, 10, LOG_OF_POOL, NONE),
+    (
+        &["serve", "P"],
+        PIECES,
+        TRACE_OF_PIECES,
+        10,
+        LOG_OF_PIECES,
+        NONE,
+    ),
+    (
+        &["serve", "P", "--caps", "1=10"],
+        BOUNDED,
+        TRACE_OF_BOUNDED,
+        10,
+        LOG_OF_BOUNDED,
+        NONE,
+    ),
+    (
+        &[
+            "serve",
+            "P",
+            "--chunk",
+            "64",
+            "--max-path",
+            "48",
+            "--chunks",
+            "256",
+        ],
+        RECURSION,
+        TRACE_OF_RECURSION,
+        10,
+        LOG_OF_RECURSION,
+        NONE,
+    ),
+    (
+        &["serve", "P"],
+        RECURSION,
+        TRACE_OF_RECURSION,
+        10,
+        LOG_OF_RECURSION_LARGE,
+        NONE,
+    ),
+    (
+        &["serve", "P"],
+        TIMERS,
+        TRACE_OF_TIMERS,
+        10,
+        LOG_OF_TIMERS,
+        NONE,
+    ),
+];
+
+// What each server writes on its trace is its log.
+#[test]
+fn examples_have_their_logs(rt: HostRuntime) -> Result<(), Fail> {
+    hold(&rt, rt.alloc(), &EXAMPLES)
+}

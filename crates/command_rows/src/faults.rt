@@ -1,0 +1,178 @@
+// Objects that fail: what `serve`, `check` and `build` of `put(7)` leave then.
+use crate::builds::OLD;
+use crate::calls::{Fails, Given, NONE, Wanted, is_so};
+use crate::checks::{CERTIFICATE_OF_SEVEN, PUT_SEVEN};
+use crate::images::{IMAGE_OF_SEVEN, PART_OF_IMAGE};
+use crate::serving::LOG_OF_SEVEN;
+use std::alloc::{AllocError, Global};
+use std::test::Fail;
+
+const READ: &[u8] = b"fault: read\n";
+
+const WRITE: &[u8] = b"fault: write\n";
+
+/// The calls that fail, the status, the most bytes that the output takes, and the line then.
+type ServingRow = (Fails, u8, usize, &'static [u8]);
+
+// What the output took is a prefix of the log, and all of it only where nothing failed.
+const SERVING: [ServingRow; 8] = [
+    ([0, 0, 0, 0], 0, 63, NONE),
+    ([1, 0, 0, 0], 6, 0, READ),
+    ([0, 1, 0, 0], 6, 0, READ),
+    ([0, 0, 1, 0], 7, 0, WRITE),
+    ([0, 0, 2, 0], 7, 62, WRITE),
+    ([0, 0, 3, 0], 7, 62, WRITE),
+    ([0, 0, 6, 0], 7, 62, WRITE),
+    ([0, 0, 1, 1], 7, 0, NONE),
+];
+
+/// Whether `serve` answers and writes so where these calls fail. The output takes 10 bytes a call.
+fn is_served(alloc: Global, row: &ServingRow) -> Result<bool, AllocError> {
+    let (fails, status, most, err) = *row;
+    let given = Given {
+        words: &["serve", "P"],
+        files: &[("P", PUT_SEVEN)],
+        trace: NONE,
+        fails,
+        stored: 0,
+        taken: 10,
+    };
+    let wanted = Wanted {
+        status,
+        out: LOG_OF_SEVEN,
+        most: Some(most),
+        err,
+        files: &[],
+    };
+    is_so(alloc, &given, &wanted)
+}
+
+#[test]
+fn failing_objects(rt: HostRuntime) -> Result<(), Fail> {
+    for row in &SERVING {
+        let fails = row.0;
+        assert!(rt; is_served(rt.alloc(), row)?, "{fails:?}");
+    }
+    Ok(())
+}
+
+/// The load and the write to the output that fail, the status, what the output takes, and the line.
+type CheckRow = (u64, u64, u8, &'static [u8], &'static [u8]);
+
+const CHECKS: [CheckRow; 6] = [
+    (1, 0, 6, NONE, READ),
+    (2, 0, 6, NONE, READ),
+    (3, 0, 6, NONE, READ),
+    (0, 1, 7, NONE, WRITE),
+    (0, 2, 7, b"acce", WRITE),
+    (4, 0, 0, b"accepted\n", NONE),
+];
+
+/// Whether `check` answers and writes so where that load or that write fails. The output takes 4 bytes a call.
+fn is_checked(alloc: Global, row: &CheckRow) -> Result<bool, AllocError> {
+    let (load, write, status, out, err) = *row;
+    let given = Given {
+        words: &["check", "P", "I", "C"],
+        files: &[
+            ("P", PUT_SEVEN),
+            ("I", IMAGE_OF_SEVEN),
+            ("C", CERTIFICATE_OF_SEVEN),
+        ],
+        trace: NONE,
+        fails: [load, 0, write, 0],
+        stored: 0,
+        taken: 4,
+    };
+    let wanted = Wanted {
+        status,
+        out,
+        most: None,
+        err,
+        files: &[],
+    };
+    is_so(alloc, &given, &wanted)
+}
+
+#[test]
+fn failing_checks(rt: HostRuntime) -> Result<(), Fail> {
+    for row in &CHECKS {
+        let load = row.0;
+        let write = row.1;
+        assert!(rt; is_checked(rt.alloc(), row)?, "{load} {write}");
+    }
+    Ok(())
+}
+
+/// The call of the shelf that fails and the bytes that it leaves, the write that fails, and the status, output, line, image and
+/// certificate then.
+type BuildRow<'a> = (u64, u32, u64, u8, &'a [u8], &'a [u8], &'a [u8], &'a [u8]);
+
+const BUILDS: [BuildRow<'static>; 6] = [
+    (1, 0, 0, 6, NONE, READ, OLD, OLD),
+    (2, 0, 0, 7, NONE, WRITE, NONE, OLD),
+    (2, 50, 0, 7, NONE, WRITE, PART_OF_IMAGE, OLD),
+    (2, 120, 0, 7, NONE, WRITE, IMAGE_OF_SEVEN, OLD),
+    (
+        0,
+        0,
+        1,
+        7,
+        NONE,
+        WRITE,
+        IMAGE_OF_SEVEN,
+        CERTIFICATE_OF_SEVEN,
+    ),
+    (
+        0,
+        0,
+        2,
+        7,
+        b"buil",
+        WRITE,
+        IMAGE_OF_SEVEN,
+        CERTIFICATE_OF_SEVEN,
+    ),
+];
+
+/// Whether `build` leaves this where that call of the shelf or that write fails. The output takes 4 bytes a call.
+fn is_built(alloc: Global, row: &BuildRow) -> Result<bool, AllocError> {
+    let (call, stored, write, status, out, err, image, certificate) = *row;
+    let given = Given {
+        words: &["build", "P", "I", "C"],
+        files: &[("P", PUT_SEVEN), ("I", OLD), ("C", OLD)],
+        trace: NONE,
+        fails: [call, 0, write, 0],
+        stored,
+        taken: 4,
+    };
+    let wanted = Wanted {
+        status,
+        out,
+        most: None,
+        err,
+        files: &[("I", image), ("C", certificate)],
+    };
+    is_so(alloc, &given, &wanted)
+}
+
+#[test]
+fn failing_builds(rt: HostRuntime) -> Result<(), Fail> {
+    for row in &BUILDS {
+        let call = row.0;
+        let stored = row.1;
+        let write = row.2;
+        assert!(rt; is_built(rt.alloc(), row)?, "{call} {stored} {write}");
+    }
+    Ok(())
+}
+
+// The store of the certificate fails after each of its bytes.
+#[test]
+fn cut_certificates(rt: HostRuntime) -> Result<(), Fail> {
+    for stored in 0..CERTIFICATE_OF_SEVEN.len() + 1 {
+        let part = CERTIFICATE_OF_SEVEN.get(..stored).ok_or("so many bytes")?;
+        let row = (3, stored as u32, 0, 7, NONE, WRITE, IMAGE_OF_SEVEN, part);
+        assert!(rt; is_built(rt.alloc(), &row)?, "{stored}");
+    }
+    Ok(())
+}

@@ -1,0 +1,27 @@
+-- What a world is given, in its ranges, and a world that was made of it.
+use Rattle.std.specs.Prelude.{ℕ, ◌*◌, ◌≤◌, List, [], ◌∷◌}
+use Rattle.thread_core.specs.Making.{IsPolicy, IsStart}
+use Rattle.thread_core.specs.Worlds.{Held}
+use Rattle.thread_core.specs.declared.policy.WorldPolicy.{WorldPolicy}
+
+-- one resource is given
+abbrev pub caps_of : ℕ → List ℕ
+caps_of units = 0 ∷ units ∷ 0 ∷ 0 ∷ 0 ∷ 0 ∷ 0 ∷ 0 ∷ []
+
+abbrev pub policy_of : ℕ → ℕ → ℕ → WorldPolicy
+policy_of chunks backlog units = record { chunks = chunks; backlog = backlog; caps = caps_of units }
+
+-- so many chunks of so many bytes, instructions, places in each queue and units of the one resource may be given
+pub record IsGiven (chunk chunks fuel backlog units : ℕ) : Type 0 where
+  pub some_chunks : 1 ≤ chunks
+  pub chunks_most : chunks ≤ 65536
+  pub some_backlog : 1 ≤ backlog
+  pub backlog_most : backlog ≤ 4096
+  pub units_most : units ≤ 1000000
+  pub fuel_most : fuel ≤ 1000000000
+  pub pool : chunks * chunk ≤ 67108864
+
+-- a world in which a run starts, of so many chunks, instructions, places in each queue and units
+pub record IsMade (chunks fuel backlog units : ℕ) (held : Held) : Type 0 where
+  pub ranges : IsPolicy held.accepted (policy_of chunks backlog units) fuel
+  pub made : IsStart held.accepted (policy_of chunks backlog units) fuel held

@@ -1,0 +1,45 @@
+// The server's run with each read of the trace and each write of the log failing in turn.
+
+use crate::logs::SERVER_LOG;
+use crate::run_rows::ONE_UNIT;
+use crate::run_sources::{SERVER, SERVER_TRACE};
+use crate::runs::{Given, Share, ends};
+use runner::RunEnd;
+use std::alloc::{AllocError, Global};
+use std::test::Fail;
+
+// Whether the server's run ends so and writes so much of its log, where this read and this write fail: 0 stands for none.
+fn serves(
+    alloc: Global,
+    read: u64,
+    write: u64,
+    end: RunEnd,
+    share: Share,
+) -> Result<bool, AllocError> {
+    let given = Given {
+        source: SERVER,
+        setup: ONE_UNIT,
+        trace: SERVER_TRACE,
+        read,
+        write,
+        bytes: 64,
+    };
+    ends(alloc, &given, end, share, SERVER_LOG)
+}
+
+// A run ends with the failure, and what was written is a beginning of the log; where there is no such read or write, the run is
+// as ever.
+#[test]
+fn each_read_and_each_write_fails(rt: HostRuntime) -> Result<(), Fail> {
+    // The trace has 78 bytes, which are read one by one, and then its end once.
+    for call in 1..=79u64 {
+        assert!(rt; serves(rt.alloc(), call, 0, RunEnd::ReadFault, Share::Beginning)?);
+    }
+    assert!(rt; serves(rt.alloc(), 80, 0, RunEnd::Idle, Share::Whole)?);
+    // Each of the 39 lines is written by one call.
+    for call in 1..=39u64 {
+        assert!(rt; serves(rt.alloc(), 0, call, RunEnd::WriteFault, Share::Beginning)?);
+    }
+    assert!(rt; serves(rt.alloc(), 0, 40, RunEnd::Idle, Share::Whole)?);
+    Ok(())
+}
