@@ -67,7 +67,7 @@ fn check_image(alloc: Global, pair: &Pair, changes: &[Change], image: Image) -> 
 
 fn check_pair(alloc: Global, pair: &Pair, image: Image, certificate: Certificate) -> Answer {
     match program_of(alloc, pair.source) {
-        Some(program) => answer(check(alloc, program, image, certificate), pair),
+        Some(program) => answer_of(check(alloc, program, image, certificate), pair),
         None => {
             drop(image);
             drop(certificate);
@@ -76,7 +76,7 @@ fn check_pair(alloc: Global, pair: &Pair, image: Image, certificate: Certificate
     }
 }
 
-fn answer(found: Result<Accepted, CheckError>, pair: &Pair) -> Answer {
+fn answer_of(found: Result<Accepted, CheckError>, pair: &Pair) -> Answer {
     let answer = answer_told(&found, pair);
     drop(found);
     answer

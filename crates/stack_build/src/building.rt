@@ -64,28 +64,10 @@ pub fn build(alloc: Global, program: Program, options: Options) -> Result<Accept
     ensures program { IfOk result (λ accepted. accepted_tree accepted ≡ program_tree program) }
     ensures laid_out { IfOk result (λ accepted. IsLaidOut (lowered (program_tree program)) options accepted.image accepted.certificate) }
 {
-    let built = match lay_out(alloc, &program, options) {
-        Ok(built) => built,
-        Err(error) => {
-            drop(program);
-            return Err(error);
-        }
-    };
-    drop(built.flat);
+    let built = lay_out(alloc, &program, options)?;
     match check(alloc, program, built.image, built.certificate) {
         Ok(accepted) => Ok(accepted),
-        Err(
-            CheckError::Memory {
-                program,
-                image,
-                certificate,
-            },
-        ) => {
-            drop(program);
-            drop(image);
-            drop(certificate);
-            Err(BuildError::Memory)
-        }
+        Err(CheckError::Memory { .. }) => Err(BuildError::Memory),
         Err(CheckError::Rejected { .. }) => unreachable!(),
     }
 }
