@@ -22,11 +22,7 @@ pub(crate) fn parse<'a>(alloc: Global, words: &'a Vec<String>) -> Result<ArgMatc
     };
     match parser.try_get_matches_from(words.as_slice()) {
         Ok(matches) => Ok(matches),
-        Err(error) => {
-            let why = refusal(error.kind());
-            drop(error);
-            Err(why)
-        }
+        Err(error) => Err(refusal(error.kind())),
     }
 }
 

@@ -19,14 +19,8 @@ pub fn read_words<'a>(alloc: Global, words: &'a Vec<String>) -> Result<Command<'
     }
     match parse(alloc, words) {
         Ok(matches) => match command_of(&matches) {
-            Some(command) => {
-                drop(matches);
-                Ok(command)
-            }
-            None => {
-                drop(matches);
-                Err(WordsError::NotWords)
-            }
+            Some(command) => Ok(command),
+            None => Err(WordsError::NotWords),
         },
         Err(error) => Err(error),
     }

@@ -59,7 +59,8 @@ fn push_line(line: &mut Vec<u8>, entry: &Entry) -> Result<(), AllocError>
     ensures { OnOk result (line.new.items ≡ line.old.items ++ entry_text entry.now ++ 10 ∷ []) }
 {
     push_entry(line, entry)?;
-    line.push(b'\n')
+    line.push(b'\n')?;
+    Ok(())
 }
 
 #[tactic(auto, unfolding(crate::specs::EntryText::entry_text))]

@@ -63,13 +63,7 @@ fn is_written(alloc: Global, image: &Image, want: &[u8]) -> bool
 }
 
 // Whether the bytes are an image of these words without a table word, and are written again.
-fn comes_back(
-    alloc: Global,
-    bytes: &[u8],
-    code: &[u32],
-    globals: &[u32],
-    entries: &[u32],
-) -> bool {
+fn comes_back(alloc: Global, bytes: &[u8], code: &[u32], globals: &[u32], entries: &[u32]) -> bool {
     match read_image(alloc, bytes) {
         Ok(image) => {
             let read = image.code.as_slice() == code
@@ -93,8 +87,11 @@ fn images_are_read_and_written(rt: HostRuntime) {
 }
 
 const MAGIC: u32 = 1;
+
 const SHORT: u32 = 2;
+
 const LATE: u32 = 3;
+
 const LIMIT: u32 = 4;
 
 // Why the bytes are refused, and the place or the limit's number: 0 of the code, 1 of the globals, 2 of the tables and

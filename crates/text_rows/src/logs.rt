@@ -120,10 +120,7 @@ fn entries_have_the_lines_of_the_table(rt: HostRuntime) {
         to: 2,
         count: 3,
         cost: 768,
-        changes: Averages::new(&[
-            -256,
-            170_141_183_460_469_231_731_687_303_715_884_105_727,
-        ]),
+        changes: Averages::new(&[-256, 170_141_183_460_469_231_731_687_303_715_884_105_727]),
     };
     let alloc = rt.alloc();
     let right = is_put(alloc, &DROPPED, b"drop 18446744073709551615 data 3 -1\n")

@@ -3,7 +3,9 @@ use cap_text::{Fields, Lines, NumberError, put_dec, read_dec, read_signed, read_
 use std::alloc::Global;
 
 const READ: u32 = 0;
+
 const NOT_A_NUMBER: u32 = 1;
+
 const TOO_LARGE: u32 = 2;
 
 fn refused(error: NumberError) -> u32 {
@@ -84,17 +86,9 @@ const SIGNED: &[(&[u8], u32, i32)] = &[
 const WIDE: &[(&[u8], u32, i128)] = &[
     (b"0", READ, 0),
     (b"-256", READ, -256),
-    (
-        b"170141183460469231731687303715884105727",
-        READ,
-        i128::MAX,
-    ),
+    (b"170141183460469231731687303715884105727", READ, i128::MAX),
     (b"170141183460469231731687303715884105728", TOO_LARGE, 0),
-    (
-        b"-170141183460469231731687303715884105728",
-        READ,
-        i128::MIN,
-    ),
+    (b"-170141183460469231731687303715884105728", READ, i128::MIN),
     (b"-170141183460469231731687303715884105729", TOO_LARGE, 0),
     (b"-0", NOT_A_NUMBER, 0),
     (b"1.5", NOT_A_NUMBER, 0),

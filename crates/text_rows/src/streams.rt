@@ -12,13 +12,7 @@ use std::io::{ErrorKind, Read, Write};
 use std::test::Fail;
 
 /// Whether a source gives these bytes, in reads of at most `room` up to the end, with so many failures, each tried again.
-fn gives<S: Source>(
-    alloc: Global,
-    source: &mut S,
-    room: usize,
-    want: &[u8],
-    failures: u32,
-) -> bool
+fn gives<S: Source>(alloc: Global, source: &mut S, room: usize, want: &[u8], failures: u32) -> bool
     requires { room ≤ 16 }
 {
     let mut bytes = Vec::new(alloc);
@@ -40,13 +34,7 @@ fn gives<S: Source>(
 const LETTERS: &[u8] = b"abcdefgh";
 
 /// Whether a source in memory that gives so many bytes a call and fails at these two calls gives its bytes so.
-fn memory_gives(
-    alloc: Global,
-    per_call: u32,
-    fails: [u64; 2],
-    room: usize,
-    failures: u32,
-) -> bool
+fn memory_gives(alloc: Global, per_call: u32, fails: [u64; 2], room: usize, failures: u32) -> bool
     requires call { 1 ≤ per_call }
     requires room { room ≤ 16 }
 {
@@ -88,6 +76,7 @@ fn sources_give_their_bytes(rt: HostRuntime) {
 }
 
 const DONE: u32 = 0;
+
 const FAILED: u32 = 1;
 
 fn number_of(answer: Result<(), SinkError>) -> u32 {
@@ -237,7 +226,9 @@ fn fails_where_it_is_told(alloc: Global) -> bool {
 #[test]
 fn shelves_keep_files(rt: HostRuntime) {
     let alloc = rt.alloc();
-    assert!(rt; memory_keeps_files(alloc) & clean_keeps_files(alloc) & fails_where_it_is_told(alloc));
+    assert!(rt;
+        memory_keeps_files(alloc) & clean_keeps_files(alloc) & fails_where_it_is_told(alloc)
+    );
 }
 
 /// A stream whose second call fails, and which takes at most three bytes, and none at its fourth call.

@@ -17,8 +17,11 @@ fn numbers_of(event: Event) -> (u64, u32, u32) {
 }
 
 const NONE: (u64, u64, u64) = (0, 0, 0);
+
 const READ_FAULT: (u64, u64, u64) = (0, 1, 0);
+
 const LINE_2: (u64, u64, u64) = (2, 0, 0);
+
 const FALLING: (u64, u64, u64) = (2, 6, 7);
 
 // A refusal as numbers: the line, its time and the earlier one.

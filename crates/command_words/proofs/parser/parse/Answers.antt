@@ -11,4 +11,4 @@ returns-in-Ok-try_get_matches_from-clause-read c =
 pub returns-in-Err-clause-refused : goal.returns-in-Err-clause-refused
 returns-in-Err-clause-refused c e said is =
     refused c.in-Ok.parser _ _ c.in-Err.error c.in-Ok.ensures (ap (map (λ word. string_bytes word)) c.as_slice.ensures.value) c.in-Err.ensures.kinds
-    (λ memory. let is_memory = c.refusal-why.ensures.1 (c.kind.ensures ∙ memory) in cc) said is
+    (λ memory. let is_memory = c.refusal.ensures.1 (c.kind.ensures ∙ memory) in cc) said is
