@@ -1,5 +1,4 @@
 pub mod Certificates
-pub mod Comparisons
 pub mod Fits
 pub mod InstructionWords
 pub mod Parts

@@ -1,9 +1,8 @@
 // The parts of templates, each appended to a list of instructions.
 
-ghost use Rattle.std.specs.Prelude.{◌≡◌, ◌+◌, ◌<◌, ◌≤◌, ◌^◌, All, [], ◌∷◌, ◌++◌, length, map, pos, slice_index};
+ghost use Rattle.std.specs.Prelude.{◌≡◌, ◌+◌, ◌<◌, ◌≤◌, ◌^◌, All, [], ◌∷◌, ◌++◌, length, map, option_to_list, pos, slice_index};
 ghost use Rattle.rv_code.specs.declared.instructions.Instr.{Instr};
 ghost use Rattle.stack_certificate.specs.Fits.{checked};
-ghost use Rattle.stack_certificate.specs.Comparisons.{IsComparison};
 ghost use Rattle.stack_certificate.specs.Parts as parts;
 ghost use Rattle.stack_certificate.specs.Places.{HasPlace, IsNear};
 ghost use Rattle.stack_certificate.specs.declared.sites.LinkKind.{LinkKind};
@@ -122,76 +121,63 @@ pub(crate) fn guard(list: &mut InstructionList, fact: &FunctionFact, i: u32, n: 
     system_call(list, 31);
 }
 
+// The instruction that makes in t0 what an operator makes of t0 and t1, and a second one where one doesn't do.
+fn middle_instructions(op: BinOp) -> (Instr, Option<Instr>)
+    ensures { parts.middle op ≡ result.0 ∷ option_to_list result.1 }
+{
+    let (rd, rs1, rs2) = (Register::T0, Register::T0, Register::T1);
+    let (zero, one) = (Register::ZERO, Immediate::new(1));
+    let turned = Instr::Slt {
+        rd,
+        rs1: rs2,
+        rs2: rs1,
+    };
+    match op {
+        BinOp::Add => (Instr::Add { rd, rs1, rs2 }, None),
+        BinOp::Subtract => (Instr::Sub { rd, rs1, rs2 }, None),
+        BinOp::Multiply => (Instr::Mul { rd, rs1, rs2 }, None),
+        BinOp::Divide => (Instr::Div { rd, rs1, rs2 }, None),
+        BinOp::Remainder => (Instr::Rem { rd, rs1, rs2 }, None),
+        BinOp::BitAnd => (Instr::And { rd, rs1, rs2 }, None),
+        BinOp::BitOr => (Instr::Or { rd, rs1, rs2 }, None),
+        BinOp::BitXor => (Instr::Xor { rd, rs1, rs2 }, None),
+        BinOp::ShiftLeft => (Instr::Sll { rd, rs1, rs2 }, None),
+        BinOp::ShiftRight => (Instr::Sra { rd, rs1, rs2 }, None),
+        BinOp::Less => (Instr::Slt { rd, rs1, rs2 }, None),
+        BinOp::Greater => (turned, None),
+        BinOp::LessOrEqual => (turned, Some(Instr::Xori { rd, rs1, imm: one })),
+        BinOp::GreaterOrEqual => {
+            let first = Instr::Slt { rd, rs1, rs2 };
+            (first, Some(Instr::Xori { rd, rs1, imm: one }))
+        }
+        BinOp::Equal => {
+            let first = Instr::Sub { rd, rs1, rs2 };
+            (first, Some(Instr::Sltiu { rd, rs1, imm: one }))
+        }
+        BinOp::NotEqual => {
+            let first = Instr::Sub { rd, rs1, rs2 };
+            (
+                first,
+                Some(Instr::Sltu {
+                    rd,
+                    rs1: zero,
+                    rs2: rd,
+                }),
+            )
+        }
+    }
+}
+
 // What an operator makes of t0 and t1, in t0.
 pub(crate) fn middle(list: &mut InstructionList, op: BinOp)
     requires { length list.old + 2 ≤ 32 }
     ensures { list.new ≡ list.old ++ map checked (parts.middle op) }
 {
-    let (rd, rs1, rs2) = (Register::T0, Register::T0, Register::T1);
-    match op {
-        BinOp::Add => list.push(whole(&Instr::Add { rd, rs1, rs2 })),
-        BinOp::Subtract => list.push(whole(&Instr::Sub { rd, rs1, rs2 })),
-        BinOp::Multiply => list.push(whole(&Instr::Mul { rd, rs1, rs2 })),
-        BinOp::Divide => list.push(whole(&Instr::Div { rd, rs1, rs2 })),
-        BinOp::Remainder => list.push(whole(&Instr::Rem { rd, rs1, rs2 })),
-        BinOp::BitAnd => list.push(whole(&Instr::And { rd, rs1, rs2 })),
-        BinOp::BitOr => list.push(whole(&Instr::Or { rd, rs1, rs2 })),
-        BinOp::BitXor => list.push(whole(&Instr::Xor { rd, rs1, rs2 })),
-        BinOp::ShiftLeft => list.push(whole(&Instr::Sll { rd, rs1, rs2 })),
-        BinOp::ShiftRight => list.push(whole(&Instr::Sra { rd, rs1, rs2 })),
-        BinOp::Less
-        | BinOp::Greater
-        | BinOp::LessOrEqual
-        | BinOp::GreaterOrEqual
-        | BinOp::Equal
-        | BinOp::NotEqual => comparison(list, op),
+    let (first, second) = middle_instructions(op);
+    list.push(whole(&first));
+    if let Some(second) = second {
+        list.push(whole(&second));
     }
-}
-
-// The operators that compare.
-fn comparison(list: &mut InstructionList, op: BinOp)
-    requires room { length list.old + 2 ≤ 32 }
-    requires compares { IsComparison op }
-    ensures { list.new ≡ list.old ++ map checked (parts.middle op) }
-{
-    let (rd, rs1, rs2) = (Register::T0, Register::T0, Register::T1);
-    let one = Immediate::new(1);
-    match op {
-        BinOp::Less => list.push(whole(&Instr::Slt { rd, rs1, rs2 })),
-        BinOp::Greater => list.push(greater()),
-        BinOp::LessOrEqual => {
-            list.push(greater());
-            list.push(whole(&Instr::Xori { rd, rs1, imm: one }));
-        }
-        BinOp::GreaterOrEqual => {
-            list.push(whole(&Instr::Slt { rd, rs1, rs2 }));
-            list.push(whole(&Instr::Xori { rd, rs1, imm: one }));
-        }
-        BinOp::Equal => {
-            list.push(whole(&Instr::Sub { rd, rs1, rs2 }));
-            list.push(whole(&Instr::Sltiu { rd, rs1, imm: one }));
-        }
-        BinOp::NotEqual => {
-            list.push(whole(&Instr::Sub { rd, rs1, rs2 }));
-            list.push(whole(&Instr::Sltu {
-                rd,
-                rs1: Register::ZERO,
-                rs2: Register::T0,
-            }));
-        }
-        _ => unreachable!(),
-    }
-}
-
-// slt t0, t1, t0
-fn greater() -> Option<Instr>
-    ensures { result ≡ checked (Instr.Slt 5 6 5) }
-{
-    whole(&Instr::Slt {
-        rd: Register::T0,
-        rs1: Register::T1,
-        rs2: Register::T0,
-    })
 }
 
 // lw a0, [..]; .. for each argument
