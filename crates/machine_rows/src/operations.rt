@@ -261,7 +261,7 @@ fn has_value(
     is_so
 }
 
-fn expressions(alloc: Global, rows: &[(&[u8], u32, u64)]) -> Result<bool, AllocError> {
+fn all_have_values(alloc: Global, rows: &[(&[u8], u32, u64)]) -> Result<bool, AllocError> {
     for (expression, value, retired) in rows {
         if !has_value(alloc, *expression, *value, *retired)? {
             return Ok(false);
@@ -270,7 +270,7 @@ fn expressions(alloc: Global, rows: &[(&[u8], u32, u64)]) -> Result<bool, AllocE
     Ok(true)
 }
 
-fn statements(alloc: Global, rows: &[(&[u8], u32, u64)]) -> Result<bool, AllocError> {
+fn all_put(alloc: Global, rows: &[(&[u8], u32, u64)]) -> Result<bool, AllocError> {
     for (source, value, retired) in rows {
         let want = asked(Ask::Put { value: *value }, *value, *retired, 4);
         if !comes_to(alloc, *source, WIDE, 4, want)? {
@@ -290,7 +290,7 @@ fn linked_calls(alloc: Global) -> Result<bool, AllocError> {
     Ok(true)
 }
 
-fn answered_calls(alloc: Global, rows: &[(&[u8], Ask, u32, u64)]) -> Result<bool, AllocError> {
+fn all_ask(alloc: Global, rows: &[(&[u8], Ask, u32, u64)]) -> Result<bool, AllocError> {
     for (source, ask, sum, retired) in rows {
         let want = asked(*ask, *sum, *retired, 4);
         if !comes_to(alloc, *source, WIDE, 4, want)? {
@@ -300,7 +300,7 @@ fn answered_calls(alloc: Global, rows: &[(&[u8], Ask, u32, u64)]) -> Result<bool
     Ok(true)
 }
 
-fn blocking_calls(alloc: Global, rows: &[(&[u8], Block, u64)]) -> Result<bool, AllocError> {
+fn all_block(alloc: Global, rows: &[(&[u8], Block, u64)]) -> Result<bool, AllocError> {
     for (source, block, retired) in rows {
         let want = stopped(
             Segment::Blocks { block: *block },
@@ -314,7 +314,7 @@ fn blocking_calls(alloc: Global, rows: &[(&[u8], Block, u64)]) -> Result<bool, A
     Ok(true)
 }
 
-fn traps(alloc: Global, rows: &[(&[u8], TrapKind, u64)]) -> Result<bool, AllocError> {
+fn all_trap(alloc: Global, rows: &[(&[u8], TrapKind, u64)]) -> Result<bool, AllocError> {
     for (source, kind, retired) in rows {
         let want = stopped(Segment::Traps { kind: *kind }, None, *retired);
         if !comes_to(alloc, *source, WIDE, 4, want)? {
@@ -324,14 +324,30 @@ fn traps(alloc: Global, rows: &[(&[u8], TrapKind, u64)]) -> Result<bool, AllocEr
     Ok(true)
 }
 
+fn expressions(alloc: Global) -> Result<bool, AllocError> {
+    all_have_values(alloc, &EXPRESSIONS)
+}
+
+fn statements(alloc: Global) -> Result<bool, AllocError> {
+    all_put(alloc, &PUTS)
+}
+
+fn answered_calls(alloc: Global) -> Result<bool, AllocError> {
+    all_ask(alloc, &ASKS)
+}
+
+fn blocking_calls(alloc: Global) -> Result<bool, AllocError> {
+    all_block(alloc, &BLOCKS)
+}
+
+fn traps(alloc: Global) -> Result<bool, AllocError> {
+    all_trap(alloc, &TRAPS)
+}
+
 #[test]
 fn operations(rt: HostRuntime) -> Result<(), Fail> {
     let alloc = rt.alloc();
-    assert!(rt;
-        expressions(alloc, &EXPRESSIONS)? && statements(alloc, &PUTS)? && linked_calls(alloc)?
-    );
-    assert!(rt;
-        answered_calls(alloc, &ASKS)? && blocking_calls(alloc, &BLOCKS)? && traps(alloc, &TRAPS)?
-    );
+    assert!(rt; expressions(alloc)? && statements(alloc)? && linked_calls(alloc)?);
+    assert!(rt; answered_calls(alloc)? && blocking_calls(alloc)? && traps(alloc)?);
     Ok(())
 }

@@ -79,11 +79,7 @@ fn copied(alloc: Global, words: &[u32]) -> Result<Vec<u32>, AllocError>
     ensures items { IfOk result (λ copy. copy.items ≡ words.now) }
     ensures words { IfOk result (λ copy. AreWords copy.items) }
 {
-    let mut copy = Vec::with_capacity(alloc, words.len())?;
-    for word in words {
-        copy.push(*word)?;
-    }
-    Ok(copy)
+    Vec::from_slice(alloc, words)
 }
 
 // Where a byte of the map lies: so many bytes from the start of the globals, of the tables, or of a chunk.

@@ -11,14 +11,14 @@ ghost use Rattle.segment_run.specs.Contexts.{checked_of, code_of, local_of};
 ghost use Rattle.segment_run.specs.Passing.{RestsBefore, RestsBehind, WaitsBefore, WaitsBehind};
 
 /// How many instructions may still be retired.
-#[derive(Clone, Copy, Debug, PartialEq, Eq)]
+#[derive(Clone, Copy)]
 pub struct Fuel {
     pub left: u64,
 }
 
 /// A thread between two segments: the place of its next instruction, its registers by number, the innermost of its chunks
 /// and how many it holds. The headers of its chunks name the others.
-#[derive(Clone, Copy, PartialEq, Eq)]
+#[derive(Clone, Copy)]
 pub struct Context {
     pub pc: u32,
     pub x: [u32; 32],

@@ -19,7 +19,7 @@ use certificate_check::Accepted;
 use rv_machine::Regs;
 
 /// How far a segment came.
-#[derive(Clone, Copy, Debug, PartialEq, Eq)]
+#[derive(Clone, Copy, PartialEq, Eq)]
 pub enum Segment {
     /// The thread stands at the ECALL of a call that blocks.
     Blocks { block: Block },
