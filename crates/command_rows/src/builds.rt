@@ -11,93 +11,92 @@ const CERTIFICATE_OF_TWO: &[u8] =
 /// What I and C hold before.
 pub(crate) const OLD: &[u8] = b"old";
 
-/// Words, source, the status, what the output and standard error take, image and certificate.
-type BuildRow = (
-    &'static [&'static str],
-    &'static [u8],
+/// A file with what it holds.
+type Held<'a> = (&'a str, &'a [u8]);
+
+/// Words, the files before, the status, what the output and standard error take, and what files hold then.
+type BuildRow<'a> = (
+    &'a [&'a str],
+    &'a [Held<'a>],
     u8,
-    &'static [u8],
-    &'static [u8],
-    &'static [u8],
-    &'static [u8],
+    &'a [u8],
+    &'a [u8],
+    &'a [Held<'a>],
 );
 
 const SMALL: &[&str] = &["build", "P", "I", "C", "--chunk", "64", "--max-path", "32"];
 
 // A build that is refused leaves the files as they were.
-const BUILDS: [BuildRow; 7] = [
+const BUILDS: [BuildRow<'static>; 7] = [
     (
         &["build", "P", "I", "C"],
-        PUT_SEVEN,
+        &[("P", PUT_SEVEN), ("I", OLD), ("C", OLD)],
         0,
         b"built code 24 globals 0 tables 0\n",
         NONE,
-        IMAGE_OF_SEVEN,
-        CERTIFICATE_OF_SEVEN,
+        &[("I", IMAGE_OF_SEVEN), ("C", CERTIFICATE_OF_SEVEN)],
     ),
     (
         &["build", "--chunk", "64", "P", "I", "--max-path", "32", "C"],
-        TWO,
+        &[("P", TWO), ("I", OLD), ("C", OLD)],
         0,
         b"built code 45 globals 0 tables 0\n",
         NONE,
-        IMAGE_OF_TWO,
-        CERTIFICATE_OF_TWO,
+        &[("I", IMAGE_OF_TWO), ("C", CERTIFICATE_OF_TWO)],
     ),
     // Two equal names leave the certificate.
     (
         &["build", "P", "C", "C"],
-        PUT_SEVEN,
+        &[("P", PUT_SEVEN), ("I", OLD), ("C", OLD)],
         0,
         b"built code 24 globals 0 tables 0\n",
         NONE,
-        OLD,
-        CERTIFICATE_OF_SEVEN,
+        &[("I", OLD), ("C", CERTIFICATE_OF_SEVEN)],
     ),
     (
         SMALL,
-        b"int main() { int a[10]; return 0; }",
+        &[
+            ("P", b"int main() { int a[10]; return 0; }"),
+            ("I", OLD),
+            ("C", OLD),
+        ],
         5,
         NONE,
         b"limit: frame of main is 48 bytes\n",
-        OLD,
-        OLD,
+        &[("I", OLD), ("C", OLD)],
     ),
     (
         SMALL,
-        b"int main() { return; }",
+        &[("P", b"int main() { return; }"), ("I", OLD), ("C", OLD)],
         2,
         NONE,
         b"source: Kind at 13\n",
-        OLD,
-        OLD,
+        &[("I", OLD), ("C", OLD)],
     ),
     (
         &["build", "Q", "I", "C"],
-        TWO,
+        &[("P", TWO), ("I", OLD), ("C", OLD)],
         9,
         NONE,
         b"absent: source\n",
-        OLD,
-        OLD,
+        &[("I", OLD), ("C", OLD)],
     ),
     (
         &["build", "P", "I"],
-        TWO,
+        &[("P", TWO), ("I", OLD), ("C", OLD)],
         1,
         NONE,
         b"usage: capriccio serve SRC, run SRC IMG CRT, build SRC IMG CRT, check SRC IMG CRT, graph SRC, demo N\n",
-        OLD,
-        OLD,
+        &[("I", OLD), ("C", OLD)],
     ),
 ];
 
-/// Whether the words leave this, where P is the source.
+/// Whether the words leave this.
 fn is_built(alloc: Global, row: &BuildRow) -> Result<bool, AllocError> {
-    let (words, source, status, out, err, image, certificate) = *row;
+    let (words, files, status, out, err, left) = *row;
     let given = Given {
         words,
-        files: &[("P", source), ("I", OLD), ("C", OLD)],
+        files,
         trace: NONE,
         fails: NO_FAULT,
         stored: 0,
@@ -108,7 +107,7 @@ fn is_built(alloc: Global, row: &BuildRow) -> Result<bool, AllocError> {
         out,
         most: None,
         err,
-        files: &[("I", image), ("C", certificate)],
+        files: left,
     };
     is_so(alloc, &given, &wanted)
 }
