@@ -1,6 +1,6 @@
 /// What a thread did from one blocking point to the next: the nodes, the cost in instructions, and the
 /// change of each resource's use.
-#[derive(Clone, Copy, PartialEq, Eq)]
+#[derive(Clone, Copy)]
 pub struct SegmentRecord {
     /// The node that the segment began at.
     pub from: u32,
