@@ -3,5 +3,4 @@ pub mod NeedLaws
 pub mod FreeLaws
 pub mod AddressLaws
 pub mod PoolStart
-mod Kept
-mod Starts
+mod Blocks

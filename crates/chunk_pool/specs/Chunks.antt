@@ -1,17 +1,32 @@
--- How this body keeps a pool: a vector a chunk, and the free numbers as a stack with the next one on top.
-use Rattle.std.specs.Prelude.{◌≤◌, length, map, reverse, vec_capacity}
+-- How a pool lies in its region: the chunks side by side, and the free list through the first words of the free chunks.
+use Rattle.std.specs.Prelude.{◌≡◌, ℕ, zero, suc, ◌*◌, List, [], ◌∷◌, length, map, take, drop, slice_index}
+use Rattle.std.specs.List.{range_with_len}
 use Rattle.chunk_pool.specs.declared.pool.ChunkPool.TheInside.{Inside}
-use Rattle.chunk_pool.specs.Pool.{Pool, IsPool}
+use Rattle.chunk_pool.specs.Pool.{Pool, first_or, IsPool}
+
+-- the words of a chunk in a region
+abbrev pub chunk_in : ℕ → List ℕ → ℕ → List ℕ
+chunk_in words region id = take words (drop (id * words) region)
+
+-- the chunks of a region
+abbrev pub chunks_in : ℕ → ℕ → List ℕ → List (List ℕ)
+chunks_in count words region = map (chunk_in words region) (range_with_len 0 count)
+
+-- so many numbers, from the first on, each the first word of the chunk before it
+abbrev pub followed : ℕ → List ℕ → ℕ → ℕ → List ℕ
+followed words region first zero = []
+followed words region first (suc more) = first ∷ followed words region (slice_index region (first * words)) more
 
 abbrev pub pool_of : Inside → Pool
 pool_of a = record {
-  count = length a.chunks.items;
+  count = a.count;
   words = a.words;
-  contents = map (λ chunk. chunk.items) a.chunks.items;
-  free = reverse a.free.items;
+  contents = chunks_in a.count a.words a.region;
+  free = followed a.words a.region a.first a.free;
 }
 
--- the pool is sound, and the stack has room for every number
+-- the pool is sound, the region has its words and no more, and the first number is that of its free list
 pub record IsKept (a : Inside) : Type 0 where
   pub pool : IsPool (pool_of a)
-  pub room : length a.chunks.items ≤ vec_capacity a.free
+  pub size : length a.region ≡ a.count * a.words
+  pub first : a.first ≡ first_or (followed a.words a.region a.first a.free) a.count

@@ -1,2 +1,4 @@
 pub mod Pool
 pub mod Chunks
+pub mod Block
+pub mod Region

@@ -9,9 +9,10 @@
 // and where a chunk ends, and the clauses of `ChunkPool`'s calls and of `need_laws`.
 #![tactic(auto)]
 
+mod block;
 mod laws;
 mod pool;
-mod start;
+mod region;
 
 pub use laws::need_laws;
 pub use pool::ChunkPool;

@@ -1,7 +1,9 @@
-ghost use Rattle.std.specs.Prelude.{◌≡◌, ℕ, ◌+◌, ◌-◌, ◌*◌, ◌/◌, ◌%◌, ◌<◌, ◌≤◌, ◌⊎◌, ◌↔◌, [], ◌∷◌, length, All, IsTrue, IsNone, IfSome, IfNone, IfOk};
-ghost use Rattle.chunk_pool.specs.Pool.{Pool, word_of, payload_of, with_word, KeepsOthers, KeepsOtherWords, KeepsPayloads, first_or, first_free, after_take, after_give, IsFree, IsHeld, IsPool, start_pool, bytes_of, place_of, end_of, fits, taken_for, IsTaken, HasAddress, chunk_at};
+ghost use Rattle.std.specs.Prelude.{◌≡◌, ℕ, ◌+◌, ◌-◌, ◌*◌, ◌/◌, ◌%◌, ◌<◌, ◌≤◌, ◌⊎◌, ◌↔◌, [], ◌∷◌, length, map, replicate, All, IsTrue, IsNone, IfSome, IfNone, IfOk};
+ghost use Rattle.chunk_pool.specs.Pool.{Pool, word_of, payload_of, with_word, KeepsOthers, KeepsOtherWords, KeepsPayloads, first_or, first_free, after_take, after_give, IsFree, IsHeld, IsPool, start_pool, bytes_of, place_of, end_of, fits, taken_for, IsTaken, HasAddress, chunk_at, start_chunk};
+ghost use Rattle.std.specs.List.{range_with_len};
+ghost use Rattle.chunk_pool.specs.Chunks.{chunks_in};
 
-use crate::start::{first_chunks, free_numbers};
+use crate::region::Region;
 use std::alloc::{AllocError, Global};
 use std::marker::Model;
 
@@ -11,9 +13,11 @@ use std::marker::Model;
 /// holds the number of the next free chunk, or the count of chunks where there is none. No call but `new` takes memory.
 #[derive(Drop)]
 pub struct ChunkPool {
+    count: u32,
     words: u32,
-    chunks: Vec<Vec<u32>>,
-    free: Vec<u32>,
+    first: u32,
+    free: u32,
+    region: Region,
 }
 
 impl Model for ChunkPool {
@@ -46,12 +50,14 @@ impl ChunkPool {
         ensures sound { IfOk result (λ pool. IsPool pool) }
     {
         let words = bytes / 4;
-        let chunks = first_chunks(alloc, count, words)?;
-        let free = free_numbers(alloc, count)?;
+        let mut region = Region::new(alloc, count as usize * words as usize)?;
+        link_all(&mut region, count, words);
         Ok(ChunkPool {
+            count,
             words,
-            chunks,
-            free,
+            first: 0,
+            free: count,
+            region,
         })
     }
 
@@ -65,7 +71,13 @@ impl ChunkPool {
         ensures needed { (need : ℕ) → All (λ id. IsTrue (fits self.old need id)) self.old.free → IsTaken (taken_for self.old need) result self.old self.new }
         ensures sound { IsPool self.new }
     {
-        self.free.pop()
+        if self.free == 0 {
+            return None;
+        }
+        let id = self.first;
+        self.first = self.region.read(id as usize * self.words as usize);
+        self.free -= 1;
+        Some(id)
     }
 
     /// Gives chunk `id` back: its first word is the first free number, or the count where there is none, and its
@@ -79,15 +91,10 @@ impl ChunkPool {
         ensures others { KeepsOthers self.old self.new id }
         ensures sound { IsPool self.new }
     {
-        let next = self
-            .free
-            .last()
-            .copied()
-            .unwrap_or(self.chunks.len() as u32);
-        let chunk = &mut self.chunks[id as usize];
-        chunk[0] = next;
-        // `new` reserved room for every number, so this takes no memory and does not fail.
-        let _ = self.free.push(id);
+        self.region
+            .write(id as usize * self.words as usize, self.first);
+        self.first = id;
+        self.free += 1;
     }
 
     /// The word `word`, from 0, of chunk `id`.
@@ -97,7 +104,8 @@ impl ChunkPool {
         ensures value { result ≡ word_of self.now id word }
         ensures sound { IsPool self.now }
     {
-        self.chunks[id as usize][word as usize]
+        self.region
+            .read(id as usize * self.words as usize + word as usize)
     }
 
     /// Writes the word `word`, from 0, of chunk `id`. The header of a free chunk is not written.
@@ -112,8 +120,8 @@ impl ChunkPool {
         ensures others { KeepsOthers self.old self.new id }
         ensures sound { IsPool self.new }
     {
-        let chunk = &mut self.chunks[id as usize];
-        chunk[word as usize] = value;
+        self.region
+            .write(id as usize * self.words as usize + word as usize, value);
     }
 
     /// The words of chunk `id` behind its header, from word 4 on.
@@ -122,7 +130,10 @@ impl ChunkPool {
         ensures value { result.now ≡ payload_of self.now id }
         ensures sound { IsPool self.now }
     {
-        &self.chunks[id as usize][4..]
+        self.region.slice(
+            id as usize * self.words as usize + 4,
+            self.words as usize - 4,
+        )
     }
 
     /// How many chunks are free.
@@ -131,7 +142,7 @@ impl ChunkPool {
         ensures bounded { result ≤ self.now.count }
         ensures sound { IsPool self.now }
     {
-        self.free.len() as u32
+        self.free
     }
 
     /// The address of the first byte of chunk `id`.
@@ -165,10 +176,22 @@ impl ChunkPool {
         let bytes = 4 * self.words;
         let offset = address.checked_sub(ChunkPool::FIRST_PLACE)?;
         let id = offset / bytes;
-        if (id as usize) < self.chunks.len() {
+        if id < self.count {
             Some(id)
         } else {
             None
         }
+    }
+}
+
+/// Links the chunks of a region of zeros: the first word of each is the number after its own.
+fn link_all(region: &mut Region, count: u32, words: u32)
+    requires some_words { 1 ≤ words }
+    requires zeros { region.old ≡ replicate (count * words) 0 }
+    ensures size { length region.new ≡ count * words }
+    ensures linked { chunks_in count words region.new ≡ map (start_chunk words) (range_with_len 0 count) }
+{
+    for id in 0..count {
+        region.write(id as usize * words as usize, id + 1);
     }
 }
