@@ -3,20 +3,23 @@ use Rattle.std.proofs.Common.{◌≡◌, ℕ, zero, suc, ◌+◌, ◌*◌, ◌<�
 use seplogic.Ra.Ura.{Ura}
 use base.Fraction.{full_share}
 use base.Fml.{Fml, Lft, ftrue, fat, froom}
-use base.Logic.{ent, id⊢, via, snd∗, mono_r}
+use base.Logic.{ent, sep, emp, id⊢, via, snd∗, mono_r}
 use mir.Syntax.{Ty, ty_int, ty_ptr, ty_struct, tcons, tnil, Sym, w32}
 use mir.Val.{Val, vint, vstruct, vcons, vnil, of_list}
 use types.Logic.{Logic, sem}
-use types.Kit.{‵, ⋆, ◌⊛◌, ◌$◌, ◌∵◌, !, qed, by, move, keep, use1, use2, split, fsplit, fjoin, rewrite, done}
+use types.Kit.{‵, ⋆, ◌⊛◌, ◌$◌, ◌∵◌, !, qed, by, move, keep, use1, use2, split, fsplit, fjoin, fpack, feq_i, rewrite, done}
 use denote.Builtin.{u32}
 use denote.Index.{row, others, takes, puts, place_is, place as nth}
 use denote.Memory.{part_at, shares, shared_of}
 use denote.Plain.{uint_in, uint_out}
 use denote.RawPtr.{Ptr, RawPtr, block_ptr, null_ptr, ptr_val}
-use denote.RattleType.{RattleType}
+use denote.RattleType.{RattleType, Valss}
 use denote.Shadow.{shadow, makes_shadow}
 use denote.Slice.{elements_shared}
-use denote.Struct.Struct.{Struct}
+use denote.Steps.{nothing}
+use denote.Struct.Declared as Declared
+use denote.Struct.Struct.{Struct, within}
+use denote.Struct.Tuple.{Tuple, tuple_type}
 use Rattle.core.proofs.cell.Inside.{Good}
 use Rattle.chunk_pool.specs.Block.{words_type}
 
@@ -25,18 +28,57 @@ use Rattle.chunk_pool.specs.Block.{words_type}
 abbrev pub start_val : Ptr → Val
 start_val p = vstruct (vcons (ptr_val p) vnil)
 
-abbrev start_own : Ptr → List Val → Fml
+abbrev pub start_own : Ptr → List Val → Fml
 start_own p = (Struct (record { name = []; args = []; types = []; fields = RawPtr ∷ [] })).own_val (p, tt)
 
 pub start_told : (p : Ptr) (vs : List Val) → shadow (start_own p vs) → vs ≡ start_val p ∷ []
 start_told p vs s = s.1.0 ∙ (λ i. vstruct (of_list (s.1.1.0 i ++ [])) ∷ [])
 
-pub start_made : {M : Type 1} {𝓤 : Ura M} (𝓛 : Logic 𝓤) (p : Ptr) → ent 𝓤 (base.Logic.emp 𝓤) (sem 𝓛 (start_own p (start_val p ∷ [])))
+pub start_made : {M : Type 1} {𝓤 : Ura M} (𝓛 : Logic 𝓤) (p : Ptr) → ent 𝓤 (emp 𝓤) (sem 𝓛 (start_own p (start_val p ∷ [])))
 start_made 𝓛 p = makes_shadow 𝓛 (start_own p (start_val p ∷ [])) (λ _. (tt, (tt, tt))) ((ptr_val p ∷ [], tt), (refl, (refl, tt)))
 
 pub start_typed : (ν : Sym) (p : Ptr) → Good (ty_struct ν (tcons ty_ptr tnil)) (start_val p)
 start_typed ν (block_ptr b o) = (tt, (tt, tt))
 start_typed ν null_ptr = (tt, (record { fits = lit< tt }, tt))
+
+-- ---- its owner and its deed, which take no space
+
+abbrev pub words_val : Val
+words_val = vstruct vnil
+
+abbrev pub words_data : List Val → Fml
+words_data = (Struct (record { name = []; args = []; types = []; fields = [] })).own_val tt
+
+pub words_told : (vs : List Val) → shadow (words_data vs) → vs ≡ words_val ∷ []
+words_told vs s = s.1.0
+
+pub words_made : {M : Type 1} {𝓤 : Ura M} (𝓛 : Logic 𝓤) → ent 𝓤 (emp 𝓤) (sem 𝓛 (words_data (words_val ∷ [])))
+words_made 𝓛 = makes_shadow 𝓛 (words_data (words_val ∷ [])) (λ _. (tt, tt)) (tt, (refl, tt))
+
+abbrev pub deed_val : Val
+deed_val = vstruct (vcons words_val vnil)
+
+abbrev pub deed_data : List Val → Fml
+deed_data = (Struct (record { name = []; args = []; types = []; fields = Struct (record { name = []; args = []; types = []; fields = [] }) ∷ [] })).own_val (tt, tt)
+
+pub deed_told : (vs : List Val) → shadow (deed_data vs) → vs ≡ deed_val ∷ []
+deed_told vs s = s.1.0 ∙ (λ i. vstruct (of_list (s.1.1.0.1.0 i ++ [])) ∷ [])
+
+pub deed_made : {M : Type 1} {𝓤 : Ura M} (𝓛 : Logic 𝓤) → ent 𝓤 (emp 𝓤) (sem 𝓛 (deed_data (deed_val ∷ [])))
+deed_made 𝓛 = makes_shadow 𝓛 (deed_data (deed_val ∷ [])) (λ _. (tt, ((λ _. (tt, tt)), tt))) ((words_val ∷ [], tt), (refl, ((tt, (refl, tt)), tt)))
+
+-- the three together
+abbrev pub made_val : Ptr → Val
+made_val p = vstruct (vcons (start_val p) (vcons words_val (vcons deed_val vnil)))
+
+pub made_of : {M : Type 1} {𝓤 : Ura M} (𝓛 : Logic 𝓤) (R S T : RattleType) (x : R.Denot) (y : S.Denot) (z : T.Denot) (p : Ptr)
+    → ent 𝓤 (sep 𝓤 (sem 𝓛 (R.own_val x (start_val p ∷ []))) (sep 𝓤 (sem 𝓛 (S.own_val y (words_val ∷ []))) (sem 𝓛 (T.own_val z (deed_val ∷ [])))))
+    (sem 𝓛 ((Tuple (R ∷ S ∷ T ∷ [])).own_val (x, y, z) (made_val p ∷ [])))
+made_of 𝓛 R S T x y z p =
+    qed 𝓛 (‵ (R.own_val x (start_val p ∷ [])) ∷ ‵ (S.own_val y (words_val ∷ [])) ∷ ‵ (T.own_val z (deed_val ∷ [])) ∷ []) ∵
+    nothing ! $ move ! (3 ∷ 0 ∷ []) $ fjoin ! $ move ! (2 ∷ 0 ∷ []) $ fjoin ! $ move ! (1 ∷ 0 ∷ []) $ fjoin ! $
+    feq_i ! (List Val) (made_val p ∷ []) (made_val p ∷ []) refl $ fjoin ! $
+    fpack ! (Valss (R ∷ S ∷ T ∷ [])) (within (Declared.shape (tuple_type (R ∷ S ∷ T ∷ []))) (x, (y, (z, tt))) (made_val p ∷ [])) (start_val p ∷ [], (words_val ∷ [], (deed_val ∷ [], tt))) $ done !
 
 -- ---- words
 
