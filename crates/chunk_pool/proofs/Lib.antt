@@ -4,3 +4,5 @@ pub mod FreeLaws
 pub mod AddressLaws
 pub mod PoolStart
 mod Blocks
+mod RegionLaws
+mod Kept

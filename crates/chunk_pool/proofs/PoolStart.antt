@@ -18,7 +18,7 @@ unfolding IsDistinct
 IsDistinct-range a zero = tt
 IsDistinct-range a (suc n) = (apart_in_range a (a + 1) n (omega arith), IsDistinct-range (a + 1) n)
 
-first_or-range : (a n end : ℕ) → a + n ≡ end → first_or (range_with_len a n) end ≡ a
+pub first_or-range : (a n end : ℕ) → a + n ≡ end → first_or (range_with_len a n) end ≡ a
 first_or-range a zero end ends = omega arith
 first_or-range a (suc n) end ends = refl
 
@@ -39,7 +39,7 @@ IsChunk-start_chunk words id some fits = record {
   fits = All-cons (λ word. word < 2 ^ 32) (id + 1) (replicate (words - 1) 0) fits (All-replicate (λ word. word < 2 ^ 32) (words - 1) 0 (omega arith));
 }
 
-first_word-start_pool : (count words id : ℕ) → id < count → get_or (get_or (map (start_chunk words) (range_with_len 0 count)) id []) 0 0 ≡ id + 1
+pub first_word-start_pool : (count words id : ℕ) → id < count → get_or (get_or (map (start_chunk words) (range_with_len 0 count)) id []) 0 0 ≡ id + 1
 first_word-start_pool count words id within =
     let in' : id < length (range_with_len 0 count) = omega (arith, length-range_with_len 0 count) in
     ap (λ chunk. get_or chunk 0 0) (get_or-map (start_chunk words) (range_with_len 0 count) id 0 [] in')

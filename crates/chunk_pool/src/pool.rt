@@ -75,7 +75,7 @@ impl ChunkPool {
             return None;
         }
         let id = self.first;
-        self.first = self.region.read(id as usize * self.words as usize);
+        self.first = self.read(id, 0);
         self.free -= 1;
         Some(id)
     }
@@ -91,8 +91,7 @@ impl ChunkPool {
         ensures others { KeepsOthers self.old self.new id }
         ensures sound { IsPool self.new }
     {
-        self.region
-            .write(id as usize * self.words as usize, self.first);
+        self.write(id, 0, self.first);
         self.first = id;
         self.free += 1;
     }
@@ -104,8 +103,7 @@ impl ChunkPool {
         ensures value { result ≡ word_of self.now id word }
         ensures sound { IsPool self.now }
     {
-        self.region
-            .read(id as usize * self.words as usize + word as usize)
+        self.region.read(self.position(id, word))
     }
 
     /// Writes the word `word`, from 0, of chunk `id`. The header of a free chunk is not written.
@@ -120,8 +118,8 @@ impl ChunkPool {
         ensures others { KeepsOthers self.old self.new id }
         ensures sound { IsPool self.new }
     {
-        self.region
-            .write(id as usize * self.words as usize + word as usize, value);
+        let position = self.position(id, word);
+        self.region.write(position, value);
     }
 
     /// The words of chunk `id` behind its header, from word 4 on.
@@ -130,10 +128,18 @@ impl ChunkPool {
         ensures value { result.now ≡ payload_of self.now id }
         ensures sound { IsPool self.now }
     {
-        self.region.slice(
-            id as usize * self.words as usize + 4,
-            self.words as usize - 4,
-        )
+        self.region
+            .slice(self.position(id, 4), self.words as usize - 4)
+    }
+
+    /// Where the word `word` of chunk `id` lies in the region.
+    fn position(&self, id: u32, word: u32) -> usize
+        requires id_in_range { id < self.now.count }
+        requires word_in_range { word < self.now.words }
+        ensures place { result ≡ id * self.now.words + word }
+        ensures within { result < self.now.count * self.now.words }
+    {
+        id as usize * self.words as usize + word as usize
     }
 
     /// How many chunks are free.
