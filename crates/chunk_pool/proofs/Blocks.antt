@@ -1,10 +1,10 @@
 -- What the walks of a block share: where it begins as a machine value, and its words taken out and put back. Assumes `Logic`.
-use Rattle.std.proofs.Common.{◌≡◌, ℕ, zero, suc, ◌+◌, ◌*◌, ◌<◌, List, [], ◌∷◌, ◌++◌, length, get_or, set, take, refl, sym, ◌∙◌, ap, subst, arith, lit<}
+use Rattle.std.proofs.Common.{◌≡◌, ℕ, zero, suc, ◌+◌, ◌*◌, ◌<◌, List, [], ◌∷◌, ◌++◌, length, get_or, set, take, refl, sym, ◌∙◌, subst, arith, lit<}
 use seplogic.Ra.Ura.{Ura}
 use base.Fraction.{full_share}
 use base.Fml.{Fml, Lft, ftrue, fat, froom}
 use base.Logic.{ent, sep, emp, id⊢, via, snd∗, mono_r}
-use mir.Syntax.{Ty, ty_int, ty_ptr, ty_struct, tcons, tnil, Sym, w32}
+use mir.Syntax.{ty_int, ty_ptr, ty_struct, tcons, tnil, Sym, w32}
 use mir.Val.{Val, vint, vstruct, vcons, vnil, of_list}
 use types.Logic.{Logic, sem}
 use types.Kit.{‵, ⋆, ◌⊛◌, ◌$◌, ◌∵◌, !, qed, by, move, keep, use1, use2, split, fsplit, fjoin, fpack, feq_i, rewrite, done}

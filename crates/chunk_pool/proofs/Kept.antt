@@ -1,15 +1,15 @@
 -- A pool that lies in one region, as its parts change.
-use Rattle.std.proofs.Common.{◌≡◌, ◌≢◌, ℕ, ◌+◌, ◌-◌, ◌*◌, ◌^◌, ◌<◌, ◌≤◌, ◌⊎◌, inl, inr, List, [], ◌∷◌, length, map, take, drop, get_or, set, refl, sym, ◌∙◌, ap, subst, arith, All, Some, slice_get}
+use Rattle.std.proofs.Common.{◌≡◌, ◌≢◌, ℕ, ◌+◌, ◌-◌, ◌*◌, ◌^◌, ◌<◌, ◌≤◌, ◌⊎◌, inl, inr, List, [], ◌∷◌, length, map, take, drop, get_or, set, refl, sym, ◌∙◌, ap, subst, arith, All}
 use Rattle.std.specs.List.{range_with_len}
 use Rattle.std.proofs.lemmas.Bool.{cases_eq, cases_lt}
 use Rattle.std.proofs.lemmas.List.{length-set}
 use Rattle.std.proofs.lemmas.List.Elements.{All-head}
 use Rattle.std.proofs.lemmas.Nat.{row_fits}
 use Rattle.chunk_pool.specs.declared.pool.ChunkPool.TheInside.{Inside}
-use Rattle.chunk_pool.specs.Pool.{Pool, word_of, payload_of, contents_with, with_word, after_take, after_give, first_or, IsFree, IsHeld, IsLinked, IsPool, start_chunk, start_pool}
+use Rattle.chunk_pool.specs.Pool.{Pool, word_of, payload_of, contents_with, with_word, after_take, after_give, first_or, IsHeld, IsLinked, IsPool, start_chunk, start_pool}
 use Rattle.chunk_pool.specs.Chunks.{chunks_in, followed, pool_of, IsKept}
 use Rattle.chunk_pool.proofs.PoolLaws.{same_pool, apart_from, word_of-with_word_same, IsPool-with_word, IsPool-after_take, IsPool-after_give}
-use Rattle.chunk_pool.proofs.FreeLaws.{free_bounded_by_held, taken_is_held}
+use Rattle.chunk_pool.proofs.FreeLaws.{free_bounded_by_held}
 use Rattle.chunk_pool.proofs.PoolStart.{first_or-range, first_word-start_pool}
 use Rattle.chunk_pool.proofs.RegionLaws.{word_in_region, payload_in_region, chunks_in-set, length-followed, followed-step, followed-set, followed-range}
 

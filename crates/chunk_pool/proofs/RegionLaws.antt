@@ -5,7 +5,7 @@ use Rattle.std.proofs.lemmas.Bool.{cases_eq, cases_lt}
 use Rattle.std.proofs.lemmas.List.{length-take, length-drop, length-set, length-replicate, get_or-take, get_or-drop, get_or-set_same, get_or-set_other, take-set-le, take-replicate, drop-replicate, drop-set-lt, drop-set-add, drop-take, same_lists}
 use Rattle.std.proofs.lemmas.List.Elements.{All-head, All-tail}
 use Rattle.std.proofs.lemmas.List.FromFn.{length-map-range_with_len, get_or-map-range_with_len}
-use Rattle.std.proofs.lemmas.Nat.{mul-add-lt, row_fits}
+use Rattle.std.proofs.lemmas.Nat.{row_fits}
 use Rattle.chunk_pool.specs.Pool.{contents_with, start_chunk}
 use Rattle.chunk_pool.specs.Chunks.{chunk_in, chunks_in, followed}
 

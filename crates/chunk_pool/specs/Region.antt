@@ -1,5 +1,5 @@
 -- How a region holds its block.
-use Rattle.std.specs.Prelude.{◌≡◌, ℕ, ◌^◌, ◌<◌, List, length}
+use Rattle.std.specs.Prelude.{◌≡◌, ℕ, List, length}
 use Rattle.chunk_pool.specs.declared.region.Region.TheInside.{Inside}
 
 -- the words of a region

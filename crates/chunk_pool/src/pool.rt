@@ -182,11 +182,7 @@ impl ChunkPool {
         let bytes = 4 * self.words;
         let offset = address.checked_sub(ChunkPool::FIRST_PLACE)?;
         let id = offset / bytes;
-        if id < self.count {
-            Some(id)
-        } else {
-            None
-        }
+        if id < self.count { Some(id) } else { None }
     }
 }
 

@@ -33,14 +33,13 @@ use Rattle.core.proofs.alloc.Calls.{Al, seen, Answer-typed, Takes, at_takes, Ans
 use Rattle.core.proofs.alloc.Shapes.{after, head, arm_body}
 use Rattle.core.proofs.atomic.Steps.{fm}
 use Rattle.core.proofs.cell.Inside.{Good}
-use Rattle.core.specs.contracts.result.Result as result
 use Rattle.core.specs.contracts.alloc.AllocError as refusal
 use Rattle.std.proofs.raw_atomic.Walks.{proved_at, leaves}
 use Rattle.std_alloc.proofs.ResultValues.{ok_of, err_of}
 use Rattle.std_alloc.proofs.RcSteps.{first_Good}
 use prog.Wp.{Wp, after_seq, at_return}
 use types.Kit.{Post as After, any_q}
-use Rattle.chunk_pool.specs.Block.{words_type, words_own}
+use Rattle.chunk_pool.specs.Block.{words_type}
 use Rattle.chunk_pool.specs.contracts.block.Start as start
 use Rattle.chunk_pool.specs.contracts.block.Words as words
 use Rattle.chunk_pool.specs.contracts.block.Deed as deed

@@ -6,14 +6,14 @@ use mir.MapTy.{inst_fn}
 use base.Logic.{SProp, never, id⊢}
 use base.Fml.{Lft, Share, ftrue, flft, froom}
 use lib.Dec.{T as Is_true}
-use mir.Syntax.{ty_unit, place}
+use mir.Syntax.{ty_unit}
 use mir.Val.{has_ty, WT}
 use prog.Capped.{capped_is}
 use prog.Wp.{Env, WpFn}
 use contract.BorrowLft.{◌⊑◌, ⊑_trans}
 use contract.Monad.{fact}
 use contract.Running.{tables}
-use types.Kit.{‵, raw, ◌⊛◌, given, later, prop, at_ret, ◌$◌, ◌∵◌, !, qed, by, move, drop, use1, use3, split, join, group, learn, rewrite, regoal, fsplit, fjoin, flt_l, feq_i, await}
+use types.Kit.{‵, raw, ◌⊛◌, given, later, prop, at_ret, ◌$◌, ◌∵◌, !, qed, by, move, drop, use1, split, join, group, learn, rewrite, regoal, fsplit, fjoin, flt_l, feq_i, await}
 use types.Part.{whole, sub}
 use types.Run.{stop, fld, lit, unit_lit, of_opd, bin, no_more, and_then, first, blocks, exec, returns, enter}
 use types.ByLocal.{alloc_all, pass_all, free_all, look_at, get, get_in, sets, lands_last, env}

@@ -1,5 +1,5 @@
 -- A `&` to the words of a block shows each of them. Assumes `Logic`.
-use mathlib.Core.List.{List, []}
+use mathlib.Core.List.{List}
 use Prim.Native.Nat.{ℕ, ◌+◌, ◌*◌}
 use lib.ListN.{length}
 use seplogic.Ra.Ura.{Ura}

@@ -1,14 +1,14 @@
 -- `push` writes the first word of the room, which is then one of the words. Assumes `Logic`.
-use Rattle.std.proofs.Common.{◌≡◌, ℕ, suc, ◌+◌, ◌-◌, ◌*◌, ◌^◌, ◌<◌, List, [], ◌∷◌, ◌++◌, length, refl, sym, ◌∙◌, subst, ap, arith, length-append, w64, w32}
+use Rattle.std.proofs.Common.{◌≡◌, ℕ, suc, ◌+◌, ◌-◌, ◌*◌, ◌^◌, ◌<◌, List, [], ◌∷◌, ◌++◌, length, refl, sym, ◌∙◌, subst, arith, length-append, w64, w32}
 use base.Fraction.{full_share}
 use base.Logic.{SProp, never, id⊢}
-use base.Fml.{ftrue, fat, flft, froom, flt}
+use base.Fml.{ftrue, fat, flft, froom}
 use mir.Syntax.{ty_int}
 use mir.Val.{Val, vptr, vint, vunit}
 use contract.Monad.{fact}
 use contract.Running.{tables}
 use prog.Wp.{Env, WpFn}
-use types.Kit.{‵, raw, ◌⊛◌, prop, at_ret, ◌$◌, ◌∵◌, !, qed, by, move, keep, use1, use2, split, join, rewrite, regoal, fsplit, fsplit3, fjoin, fjoin3, flt_l, flt_i, feq_i, suffices, frame, done}
+use types.Kit.{‵, raw, ◌⊛◌, prop, at_ret, ◌$◌, ◌∵◌, !, qed, move, keep, use1, use2, split, join, rewrite, regoal, fsplit, fsplit3, fjoin, fjoin3, flt_l, flt_i, feq_i, suffices, frame, done}
 use types.Part.{whole, sub}
 use types.Run.{init, stop, fld, lit, unit_lit, of_opd, bin, assigns_last, first, blocks, exec, returns, enter}
 use types.ByLocal.{alloc_all, pass_all, free_all, look_at, get, get_in, take_at, give_at, through, sets, env}

@@ -1,13 +1,13 @@
 -- `write` writes one word of a block. Assumes `Logic`.
-use Rattle.std.proofs.Common.{◌≡◌, ℕ, ◌+◌, ◌*◌, ◌^◌, ◌<◌, List, [], ◌∷◌, ◌++◌, length, set, refl, sym, ◌∙◌, subst, ap, arith, length-set, w64, w32}
+use Rattle.std.proofs.Common.{◌≡◌, ℕ, ◌+◌, ◌*◌, ◌^◌, ◌<◌, List, [], ◌∷◌, ◌++◌, length, set, refl, sym, ◌∙◌, subst, arith, length-set, w64, w32}
 use base.Fraction.{full_share}
 use base.Logic.{SProp, never, id⊢}
-use base.Fml.{ftrue, fat, flft, froom, flt}
+use base.Fml.{ftrue, fat, flft, froom}
 use mir.Val.{Val, vptr, vint, vunit}
 use contract.Monad.{fact}
 use contract.Running.{tables}
 use prog.Wp.{Env, WpFn}
-use types.Kit.{‵, raw, ◌⊛◌, prop, at_ret, ◌$◌, ◌∵◌, !, qed, by, move, keep, use1, use2, split, join, rewrite, regoal, fsplit, fsplit3, fjoin, fjoin3, flt_l, flt_i, feq_i, suffices, frame, done}
+use types.Kit.{‵, raw, ◌⊛◌, prop, at_ret, ◌$◌, ◌∵◌, !, qed, move, keep, use1, use2, split, join, rewrite, regoal, fsplit, fsplit3, fjoin, fjoin3, flt_l, flt_i, feq_i, suffices, frame, done}
 use types.Part.{whole, sub}
 use types.Run.{store, stop, fld, lit, unit_lit, of_opd, bin, assigns_last, first, blocks, exec, returns, enter}
 use types.ByLocal.{alloc_all, pass_all, free_all, look_at, get, get_in, take_at, give_at, through, sets, env}

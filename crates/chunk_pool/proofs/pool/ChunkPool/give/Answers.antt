@@ -1,5 +1,5 @@
 use Rattle.std.proofs.Common.{◌∙◌, arith}
-use Rattle.chunk_pool.proofs.Kept.{given, IsGivenTo}
+use Rattle.chunk_pool.proofs.Kept.{given}
 use Rattle.chunk_pool.proofs.pool.ChunkPool.give.Goals as goal
 
 pub invariant_of-self : goal.invariant_of-self
@@ -12,7 +12,7 @@ overflow_add-self c =
     omega (
       arith,
       (given c.write.inside c.self.inside c.args.self.now c.args.id c.write.view_is c.write.invariant
-              (c.self.view_is ∙ c.write-2.ensures.after) c.self.invariant c.requires).room,
+          (c.self.view_is ∙ c.write-2.ensures.after) c.self.invariant c.requires).room,
       c.self.invariant.pool.chunks_bounded,
     )
 

@@ -1,8 +1,8 @@
-use Rattle.std.proofs.Common.{◌≡◌, ℕ, ◌<◌, List, ◌∙◌, ap, sym, subst, Some, slice_get}
+use Rattle.std.proofs.Common.{ℕ, ◌<◌, List, ◌∙◌, ap, sym, subst, Some, slice_get}
 use Rattle.chunk_pool.specs.Pool.{Pool, word_of, first_free, after_take, IsFree, IsHeld}
 use Rattle.chunk_pool.specs.Chunks.{pool_of}
 use Rattle.chunk_pool.proofs.FreeLaws.{IsTaken-after_take, taken_is_held}
-use Rattle.chunk_pool.proofs.Kept.{first_within, taken_from, taken, IsTakenFrom}
+use Rattle.chunk_pool.proofs.Kept.{first_within, taken_from, taken}
 use Rattle.chunk_pool.proofs.pool.ChunkPool.take.Goals as goal
 
 pub read-self-inside-requires-clause-id_in_range : goal.read-self-inside-requires-clause-id_in_range
