@@ -1,21 +1,20 @@
 -- Where a record's edge stands among the edges.
-use Rattle.std.proofs.Common.{nat_lt, position, Some, None, unwrap_or, ◌≡◌, ℕ, zero, suc, ◌+◌, ◌≤◌, ◌<◌, Bool, true, false, cond, not, List, [], ◌∷◌, length, get_or, set, refl, arith}
+use Rattle.std.proofs.Common.{◌≡◌, ℕ, zero, suc, ◌+◌, ◌≤◌, ◌<◌, Bool, true, false, cond, not, List, [], ◌∷◌, length, get_or, set, refl, arith}
 use Rattle.std.specs.List.{position_or_len, insert, AllByRecursion}
-use Rattle.std.proofs.lemmas.Bool.Decides.{nat_tests}
 use Rattle.blocking_graph.specs.declared.edges.EdgeLine.{EdgeLine}
 use Rattle.blocking_graph.specs.declared.segments.SegmentRecord.{SegmentRecord}
 use Rattle.blocking_graph.specs.Edges.{is_before, is_of, first_edge, next_edge, edges_with}
 
 -- a place of 0: the first edge doesn't come before
-zero_place : (b : Bool) (n : ℕ) → cond (not (not b)) (1 + n) 0 ≡ 0 → b ≡ false
+pub zero_place : (b : Bool) (n : ℕ) → cond (not (not b)) (1 + n) 0 ≡ 0 → b ≡ false
 zero_place true n h = absurd (omega arith)
 zero_place false n h = refl
 
-suc_place : (b : Bool) (n i : ℕ) → cond (not (not b)) (1 + n) 0 ≡ suc i → b ≡ true
+pub suc_place : (b : Bool) (n i : ℕ) → cond (not (not b)) (1 + n) 0 ≡ suc i → b ≡ true
 suc_place true n i h = refl
 suc_place false n i h = absurd (omega arith)
 
-next_place : (b : Bool) (n i : ℕ) → cond (not (not b)) (1 + n) 0 ≡ suc i → n ≡ i
+pub next_place : (b : Bool) (n i : ℕ) → cond (not (not b)) (1 + n) 0 ≡ suc i → n ≡ i
 next_place true n i h = omega arith
 next_place false n i h = absurd (omega arith)
 
@@ -64,23 +63,3 @@ pub at_index : {X : Type 0} (P : X → Type 0) (xs : List X) (i : ℕ) (d : X) �
 at_index P [] i d all h = absurd (omega arith)
 at_index P (x ∷ xs) zero d all h = all.0
 at_index P (x ∷ xs) (suc i) d all h = at_index P xs i d all.1 (omega arith)
-
--- the place that `position` gives, or the end
-place_within : (b : Bool) (place len : ℕ) → place ≤ len → cond (not b) (1 + place) 0 ≤ len + 1
-place_within true place len h = omega arith
-place_within false place len h = omega arith
-
-pub position_or_len-le : {X : Type 0} (p : X → Bool) (xs : List X) → position_or_len p xs ≤ length xs
-position_or_len-le p [] = omega arith
-position_or_len-le p (x ∷ xs) =
-    let step : cond (not (p x)) (1 + position_or_len p xs) 0 ≤ length xs + 1 = place_within (p x) _ _ (position_or_len-le p xs) in
-    omega arith
-
-unwrapped : (b : Bool) (place len : ℕ) → place ≤ len → nat_lt place len ≡ b → unwrap_or (cond b (Some place) None) len ≡ place
-unwrapped true place len h e = refl
-unwrapped false place len h e = grind (arith, nat_tests)
-
-pub unwrap_or-position : {X : Type 0} (p : X → Bool) (xs : List X) → unwrap_or (position p xs) (length xs) ≡ position_or_len p xs
-unwrap_or-position p xs = unwrapped (nat_lt (position_or_len p xs) (length xs)) (position_or_len p xs) (length xs) (position_or_len-le p xs) refl
-
-pub ruleset places = (position_or_len-le, unwrap_or-position)

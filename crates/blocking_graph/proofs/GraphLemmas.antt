@@ -1,7 +1,6 @@
 -- What a graph keeps when it takes in a record.
-use Rattle.std.proofs.Common.{Result, Ok, Err, OnOk, OnErr, ◌≡◌, ℕ, ◌+◌, ◌*◌, ◌^◌, ◌≤◌, ◌<◌, Bool, true, false, cond, IsTrue, ℤ, pos, negsuc, ◌-ℤ◌, ◌*ℤ◌, unsigned_abs, List, [], ◌∷◌, length, get_or, map, refl, arith}
+use Rattle.std.proofs.Common.{◌≡◌, ℕ, ◌+◌, ◌*◌, ◌^◌, ◌≤◌, ◌<◌, Bool, true, false, cond, IsTrue, ℤ, pos, negsuc, ◌-ℤ◌, ◌*ℤ◌, unsigned_abs, List, [], ◌∷◌, length, get_or, map, refl, arith}
 use Rattle.std.specs.List.{AllByRecursion}
-use Rattle.std.specs.declared.alloc.AllocError.{AllocError}
 use Rattle.std.proofs.lemmas.Bool.Decides.{nat_tests}
 use Rattle.std.proofs.lemmas.Int.{ints, unsigned_abs-mul}
 use Rattle.std.proofs.lemmas.List.{length-map}
@@ -50,7 +49,7 @@ length-next_averages (a ∷ averages) (s ∷ samples) h = omega (arith, length-n
 
 -- ---- each edge stays one
 
-IsEdge-first : (segment : SegmentRecord) → IsSegment segment → length segment.change ≡ 8 → IsEdge (first_edge segment)
+pub IsEdge-first : (segment : SegmentRecord) → IsSegment segment → length segment.change ≡ 8 → IsEdge (first_edge segment)
 IsEdge-first segment range eight = record {
   some = omega arith;
   cost = let h : segment.cost < 2 ^ 40 = range.cost in omega arith;
@@ -61,7 +60,7 @@ IsEdge-first segment range eight = record {
       omega arith);
 }
 
-IsEdge-next : (edge : EdgeLine) (segment : SegmentRecord) → IsEdge edge → IsSegment segment → length segment.change ≡ 8 → IsEdge (next_edge edge segment)
+pub IsEdge-next : (edge : EdgeLine) (segment : SegmentRecord) → IsEdge edge → IsSegment segment → length segment.change ≡ 8 → IsEdge (next_edge edge segment)
 IsEdge-next edge segment kept range eight = record {
   some = omega arith;
   cost = next_average-le edge.cost (pos segment.cost) (2 ^ 40) kept.cost (let h : segment.cost < 2 ^ 40 = range.cost in omega arith);
@@ -151,10 +150,3 @@ IsGraph-note graph segment kept range eight room = record {
   counted = omega (arith, count_of-edges_with graph.edges segment);
   numbered = kept.numbered;
 }
-
--- whatever a call answered that adds the record or leaves the edges
-pub IsGraph-tried : (result : Result Unit AllocError) (graph : GraphState) (segment : SegmentRecord) (edges : List EdgeLine) → IsGraph graph → IsSegment segment →
-    length segment.change ≡ 8 → count_of graph.edges < 2 ^ 40 →
-    OnOk result (edges ≡ edges_with graph.edges segment) → OnErr result (edges ≡ graph.edges) → IsGraph (record graph { edges = edges })
-IsGraph-tried (Ok done) graph segment edges kept range eight room ok err = rw ok (IsGraph-note graph segment kept range eight room)
-IsGraph-tried (Err e) graph segment edges kept range eight room ok err = rw err kept

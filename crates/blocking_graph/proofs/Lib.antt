@@ -3,3 +3,6 @@ pub mod EdgeLemmas
 pub mod PredictionLemmas
 pub mod GraphLemmas
 pub mod PairLemmas
+pub mod PlaceLemmas
+pub mod SumLemmas
+pub mod NoteLemmas

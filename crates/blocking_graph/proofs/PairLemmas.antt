@@ -13,7 +13,7 @@ use Rattle.blocking_graph.specs.Pairs.{records_of, edge_between, average_of, Tel
 use Rattle.blocking_graph.proofs.GraphLemmas.{edges_with-rising, length-next_averages}
 
 -- a test is true or false
-by_test : (b : Bool) (P : Type 0) → (b ≡ true → P) → (b ≡ false → P) → P
+pub by_test : (b : Bool) (P : Type 0) → (b ≡ true → P) → (b ≡ false → P) → P
 by_test true P first second = first refl
 by_test false P first second = second refl
 
@@ -85,22 +85,22 @@ one_more records (Some edge) segment told eight = next_tells records edge segmen
 -- ---- the edge of a pair, after one more record of some pair
 
 module _ (from to : ℕ) where
-  abbrev leads : EdgeLine → Bool
+  abbrev pub leads : EdgeLine → Bool
   leads edge = edge.from == from && edge.to == to
 
-  abbrev is_record : SegmentRecord → Bool
+  abbrev pub is_record : SegmentRecord → Bool
   is_record segment = segment.from == from && segment.to == to
 
-  before_leads_not : (edge : EdgeLine) (segment : SegmentRecord) → is_record segment ≡ true → is_before edge segment ≡ true → leads edge ≡ false
+  pub before_leads_not : (edge : EdgeLine) (segment : SegmentRecord) → is_record segment ≡ true → is_before edge segment ≡ true → leads edge ≡ false
   before_leads_not edge segment h before = grind (arith, nat_tests)
 
-  same_leads : (edge : EdgeLine) (segment : SegmentRecord) → is_record segment ≡ true → is_of edge segment ≡ true → leads edge ≡ true
+  pub same_leads : (edge : EdgeLine) (segment : SegmentRecord) → is_record segment ≡ true → is_of edge segment ≡ true → leads edge ≡ true
   same_leads edge segment h same = grind (arith, nat_tests)
 
   same_leads_not : (edge : EdgeLine) (segment : SegmentRecord) → is_record segment ≡ false → is_of edge segment ≡ true → leads edge ≡ false
   same_leads_not edge segment h same = grind (arith, nat_tests)
 
-  after_leads_not : (edge : EdgeLine) (segment : SegmentRecord) → is_record segment ≡ true → is_before edge segment ≡ false → is_of edge segment ≡ false →
+  pub after_leads_not : (edge : EdgeLine) (segment : SegmentRecord) → is_record segment ≡ true → is_before edge segment ≡ false → is_of edge segment ≡ false →
       leads edge ≡ false
   after_leads_not edge segment h later other = grind (arith, nat_tests)
 
@@ -108,7 +108,7 @@ module _ (from to : ℕ) where
       IsTrue (precedes edge next) → leads next ≡ false
   later_leads_not edge next segment h later other p = grind (arith, nat_tests)
 
-  none_later : (edge : EdgeLine) (edges : List EdgeLine) (segment : SegmentRecord) → is_record segment ≡ true → is_before edge segment ≡ false → is_of edge segment ≡ false →
+  pub none_later : (edge : EdgeLine) (edges : List EdgeLine) (segment : SegmentRecord) → is_record segment ≡ true → is_before edge segment ≡ false → is_of edge segment ≡ false →
       AllByRecursion (λ next. IsTrue (precedes edge next)) edges → edge_between edges from to ≡ None
   none_later edge [] segment h later other all = refl
   none_later edge (next ∷ edges) segment h later other all =

@@ -1,7 +1,7 @@
 -- Sums of weighted averages, and their quotients.
-use Rattle.std.proofs.Common.{drop, drop-cons, add-one, to_z, of_z, FitsSigned, ◌≢◌, ◌≡◌, ℕ, suc, ◌+◌, ◌*◌, ◌^◌, ◌≤◌, ◌<◌, Bool, true, false, cond, ◌==◌, ℤ, pos, negsuc, ◌+ℤ◌, ◌*ℤ◌, unsigned_abs, List, [], ◌∷◌, length, get_or, refl, arith, rules}
+use Rattle.std.proofs.Common.{to_z, of_z, FitsSigned, ◌≢◌, ◌≡◌, ℕ, ◌+◌, ◌*◌, ◌^◌, ◌≤◌, ◌<◌, Bool, true, false, cond, ◌==◌, ℤ, pos, negsuc, ◌+ℤ◌, ◌*ℤ◌, unsigned_abs, List, [], ◌∷◌, refl, arith, rules}
 use Rattle.std.proofs.Math.Nat.{div-le_of_le-mul}
-use Rattle.std.proofs.lemmas.Int.{ints, unsigned_abs-mul, fits_signed_from_abs, fits_signed_mul, to_z-of_z}
+use Rattle.std.proofs.lemmas.Int.{ints, unsigned_abs-mul, fits_signed_mul, to_z-of_z}
 use Rattle.std.specs.Int.{w128}
 use Rattle.std.proofs.lemmas.Bool.Decides.{nat_tests}
 use Rattle.std.proofs.lemmas.List.Sums.{sum_by-cons}
@@ -55,22 +55,3 @@ within_more false edge some all h = omega (arith, h, count_of-cons edge all)
 pub count_of-edges_from : (edges : List EdgeLine) (node : ℕ) → count_of (edges_from edges node) ≤ count_of edges
 count_of-edges_from [] node = omega arith
 count_of-edges_from (edge ∷ edges) node = within_more (edge.from == node) edge (edges_from edges node) edges (count_of-edges_from edges node)
-
--- the edges from the node that are left, at an edge from it and at another
-pub edges_from-drop_yes : (edges : List EdgeLine) (i : ℕ) (node : ℕ) (d : EdgeLine) → i < length edges → (get_or edges i d).from ≡ node →
-    edges_from (drop i edges) node ≡ get_or edges i d ∷ edges_from (drop (i + 1) edges) node
-edges_from-drop_yes edges i node d h e = rw (add-one, drop-cons edges i d) (edges_from-yes (get_or edges i d) (drop (suc i) edges) node e)
-
-pub edges_from-drop_no : (edges : List EdgeLine) (i : ℕ) (node : ℕ) (d : EdgeLine) → i < length edges → (get_or edges i d).from ≢ node →
-    edges_from (drop i edges) node ≡ edges_from (drop (i + 1) edges) node
-edges_from-drop_no edges i node d h e = rw (add-one, drop-cons edges i d) (edges_from-no (get_or edges i d) (drop (suc i) edges) node e)
-
--- one more weight, which fits 128 bits
-pub computed_total : (total weight : ℤ) (count more : ℕ) → unsigned_abs total ≤ count * 2 ^ 39 → unsigned_abs weight ≤ more * 2 ^ 39 → count + more ≤ 2 ^ 40 →
-    to_z w128 (of_z w128 (total +ℤ to_z w128 (of_z w128 weight))) ≡ total +ℤ weight
-computed_total total weight count more p q room =
-    let small : unsigned_abs weight < 2 ^ 127 = omega arith in
-    let w : FitsSigned w128 weight = fits_signed_from_abs w128 weight small in
-    let both : unsigned_abs (total +ℤ weight) < 2 ^ 127 = omega (arith, sum-le total weight (count * 2 ^ 39) (more * 2 ^ 39) p q) in
-    let t : FitsSigned w128 (total +ℤ weight) = fits_signed_from_abs w128 (total +ℤ weight) both in
-    rw (to_z-of_z w128 weight w, to_z-of_z w128 (total +ℤ weight) t)

@@ -3,3 +3,4 @@ pub mod Edges
 pub mod Graph
 pub mod Nodes
 pub mod Pairs
+pub mod Sums

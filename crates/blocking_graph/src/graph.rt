@@ -4,29 +4,33 @@ ghost use Rattle.blocking_graph.specs.Nodes.{keys_with, node_number};
 
 use crate::adding::add;
 use crate::edges::EdgeLine;
-use crate::predicting::prediction_of;
 use crate::segments::SegmentRecord;
+use crate::sums::{NodeSums, sums_with};
 use cap_word::SiteKey;
 use indexmap::IndexSet;
 use std::alloc::{AllocError, Global};
+use std::collections::BTreeMap;
 use std::marker::Model;
 
 /// The blocking points of a run with the edges between them. What it means is the keys that have
-/// numbers, in order, and for each pair of nodes with records their count and averages.
+/// numbers, in order, and for each pair of nodes with records their count and averages. Beside these it
+/// keeps, of each node, the sums over the edges that lead from it, so that a prediction costs one search.
 #[derive(Drop)]
 pub struct Graph {
     keys: IndexSet<SiteKey>,
     edges: Vec<EdgeLine>,
+    sums: BTreeMap<u32, NodeSums>,
 }
 
 impl Model for Graph {
     ghost use Rattle.blocking_graph.specs.Graph.{GraphState, IsGraph};
+    ghost use Rattle.blocking_graph.specs.Sums.{AreSumsOf};
 
     ghost Value = { GraphState };
 
     ghost view = { λ graph. record { keys = graph.keys.keys; edges = graph.edges.items } };
 
-    ghost invariant = { λ graph. IsGraph (record { keys = graph.keys.keys; edges = graph.edges.items }) };
+    ghost invariant = { λ graph. IsGraph (record { keys = graph.keys.keys; edges = graph.edges.items }) × AreSumsOf graph.edges.items graph.sums };
 }
 
 impl Graph {
@@ -39,6 +43,7 @@ impl Graph {
         Graph {
             keys: IndexSet::new(alloc),
             edges: Vec::new(alloc),
+            sums: BTreeMap::new(alloc),
         }
     }
 
@@ -63,6 +68,9 @@ impl Graph {
         ensures counted { OnOk result (count_of self.new.edges ≡ count_of self.old.edges + 1) }
         ensures err { OnErr result (self.new ≡ self.old) }
     {
+        self.edges.reserve(1)?;
+        let sums = sums_with(&self.sums, self.edges.as_slice(), &segment);
+        self.sums.insert(segment.from, sums)?;
         add(&mut self.edges, &segment)
     }
 
@@ -73,7 +81,10 @@ impl Graph {
         ensures value { result ≡ prediction self.now.edges node resource }
         ensures small { unsigned_abs result ≤ 2 ^ 39 }
     {
-        prediction_of(self.edges.as_slice(), node, resource as usize)
+        match self.sums.get(&node) {
+            Some(sums) => sums.average(resource as usize),
+            None => 0,
+        }
     }
 
     /// The edges, by the node that they lead from and then by the node that they lead to.

@@ -1,9 +1,12 @@
-use Rattle.std.proofs.Common.{◌<◌, ◌^◌}
+use Rattle.std.proofs.Common.{◌<◌, ◌^◌, arith}
 use Rattle.blocking_graph.specs.Edges.{count_of}
-use Rattle.blocking_graph.proofs.GraphLemmas.{IsGraph-tried}
+use Rattle.blocking_graph.proofs.NoteLemmas.{note_kept}
 use Rattle.blocking_graph.proofs.graph.Graph.note.Goals as goal
 
-pub invariant_of-self : goal.invariant_of-self
-invariant_of-self c =
+pub invariant_of-self-2 : goal.invariant_of-self-2
+invariant_of-self-2 c =
     let room : count_of c.self.inside.edges.items < 2 ^ 40 = rw (← c.self.view_is) at c.requires.room in
-    IsGraph-tried c.add.result _ c.args.segment c.add.new.edges.items c.self.invariant c.requires.range c.add.ensures.eight room c.add.ensures.ok c.add.ensures.err
+    note_kept c.add.result (record { keys = c.self.inside.keys.keys; edges = c.self.inside.edges.items }) c.args.segment
+    c.reserve.new.self.items c.as_slice.result.now c.add.new.edges.items c.self.inside.sums c.insert.new.self c.sums_with-sums.result
+    c.reserve.ensures.items c.as_slice.ensures.value (c.add.ensures.succeeds (omega (arith, c.in_ok-reserve.ensures.ok))) c.add.ensures.ok
+    c.self.invariant.0 c.requires.range c.add.ensures.eight room c.self.invariant.1 c.in_ok-insert.ensures.updates c.sums_with-sums.ensures
