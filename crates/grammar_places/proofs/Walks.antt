@@ -9,7 +9,7 @@ use Rattle.c_grammar.specs.Tokens.{next_at, rest_of, Passes, PassesName, PassesN
 use Rattle.grammar_places.specs.Places.{Standing, placed}
 use Rattle.grammar_places.specs.Rising.{RiseWithin}
 
-from_lower : (low start : ℕ) (places : List ℕ) (high : ℕ) → low ≤ start → RiseWithin start places high → RiseWithin low places high
+pub from_lower : (low start : ℕ) (places : List ℕ) (high : ℕ) → low ≤ start → RiseWithin start places high → RiseWithin low places high
 from_lower low start [] high h r = omega (arith, h, r)
 from_lower low start (p ∷ ps) high h r = ((let above = r.0 in omega (arith, h, above)), r.1)
 
