@@ -92,6 +92,7 @@ module _ (options : RunOptions) (held : Held) (made : IsMade options held) where
     program = refl;
     image = refl;
     certificate = refl;
+    rule = refl;
     ranges = made.ranges;
     made = made.made;
     monitor_is = record { curves = curves; caps = caps; high = high; low = low };

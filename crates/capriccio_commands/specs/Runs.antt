@@ -8,9 +8,10 @@ use Rattle.cap_word.specs.declared.stops.Stop.TheVariants as cut
 use Rattle.certificate_rules.specs.Validity.{IsValid, IsFirstFailure}
 use Rattle.codegen_link.specs.declared.options.Options.{Options}
 use Rattle.command_words.specs.declared.options.Policy.{Policy as RunOptions}
+use Rattle.choice_rules.specs.Policy.{by_graph, Policy}
 use Rattle.lawful_log.specs.Good.{IsGoodLog}
 use Rattle.lawful_log.specs.Lawful.{IsLawfulLog}
-use Rattle.lawful_log.specs.Setup.{Policy, Setup}
+use Rattle.lawful_log.specs.Setup.{Setup}
 use Rattle.machine_world.specs.Threads.{World}
 use Rattle.machine_world.specs.WellFormed.{AreWords}
 use Rattle.resource_monitor.specs.declared.curves.Curve.TheVariants.{Linear}
@@ -40,7 +41,8 @@ stop_status (StopLine.Cut thread cut.NoChunk cost free) = 12
 stop_status (StopLine.Cut thread cut.Fuel cost free) = 13
 stop_status (StopLine.Cut thread cut.Threads cost free) = 14
 
--- the policy of a run, by the options of its words: the pressure of each resource is linear in its use
+-- the policy of a run, by the options of its words: the pressure of each resource is linear in its use, and threads are
+-- chosen by the graph
 abbrev pub policy_of : RunOptions → Policy
 policy_of options = record {
   chunks = options.chunks;
@@ -50,6 +52,7 @@ policy_of options = record {
   curves = replicate 8 Linear;
   high = options.high;
   low = options.low;
+  rule = by_graph;
 }
 
 abbrev pub setup_of : ProgramTree → Image → Certificate → RunOptions → Setup

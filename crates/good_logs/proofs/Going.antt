@@ -1,12 +1,15 @@
 -- From the entries of a lawful log to a good run of the machine.
-use Rattle.std.proofs.Common.{◌≡◌, ℕ, ℤ, Bool, ◌+◌, List, [], ◌∷◌, ◌++◌, map, Option, Some, None, refl, sym, ap, subst, ◌∙◌}
+use Rattle.std.proofs.Common.{◌≡◌, ℕ, ℤ, Bool, true, false, ◌+◌, List, [], ◌∷◌, ◌++◌, map, Option, Some, None, refl, sym, ap, subst, ◌∙◌}
+use Rattle.std.specs.Prelude.{is_some}
 use Rattle.blocking_graph.specs.Edges.{edges_of}
 use Rattle.blocking_graph.specs.declared.edges.EdgeLine.{EdgeLine}
 use Rattle.c_mean.specs.ModelledCalls.{Delivery}
+use Rattle.choice_rules.specs.Deliveries.{delivery_of}
+use Rattle.choice_rules.specs.EdgeLines.{edge_entry}
 use Rattle.lawful_log.specs.Choice.{IsRun}
-use Rattle.lawful_log.specs.Deliveries.{delivery_of, IsComing}
+use Rattle.lawful_log.specs.Deliveries.{IsComing}
 use Rattle.lawful_log.specs.Good.{delivered, stop_turns, machine_entries, checked_of, IsGoodLog}
-use Rattle.lawful_log.specs.Lawful.{IsAllowed, Leads, nowhere, by_entry, edge_entry, ending, IsLawfulLog}
+use Rattle.lawful_log.specs.Lawful.{IsAllowed, Leads, nowhere, by_entry, ending, IsLawfulLog}
 use Rattle.lawful_log.specs.Segments.{IsOut, IsBlock, IsEnd}
 use Rattle.lawful_log.specs.Setup.{Setup, setting_of, start_machine}
 use Rattle.lawful_log.specs.State.{Segment, State, start_of}
@@ -67,11 +70,11 @@ module _ (g : Setup) (B U : World → Type 0) (kept : AreKept (checked_of g) (se
 
   event_goes : (before after : State) (clock : ℕ) (item : Item) (drops : Bool) (rest : List runs.Entry) → IsComing g before clock item drops after → ((w : World) → Position after w → IsGoodRun c s rest w) → (w : World) → Position before w →
       IsGoodRun c s (runs.Waits clock ∷ runs.Comes (delivered item) ∷ rest) w
-  event_goes before after clock item drops rest is later w (Within segment under way) = absurd (let both : no_segment ≡ Some segment = sym is.point.between ∙ under in cc)
+  event_goes before after clock item drops rest is later w (Within segment under way) = absurd (let both : false ≡ true = sym is.delivery.point.between ∙ ap (λ (o : Option Segment). is_some o) under in cc)
   event_goes before after clock item drops rest is later w (Between none here rests) =
-      let fits = is.point.next_is.line.spells.fits.kind in
+      let fits = is.delivery.point.next_is.line.spells.fits.kind in
       let delivery = delivery_of is.event.kind in
-      let named : delivered item ≡ delivery = ap delivered is.item_is ∙ delivered_is is.event.kind fits in
+      let named : delivered item ≡ delivery = ap delivered is.delivery.item_is ∙ delivered_is is.event.kind fits in
       let both = two s (Advance clock) (Deliver delivery) before.machine is.machine is.delivers in
       let advanced = kept.advances before.machine both.between clock rests both.once in
       let received = kept.delivers both.between is.machine delivery (delivers_words is.event.kind fits) advanced both.then in
@@ -83,7 +86,7 @@ module _ (g : Setup) (B U : World → Type 0) (kept : AreKept (checked_of g) (se
   -- ---- a choice
 
   run_goes : (before after : State) (clock thread node : ℕ) (rest : List runs.Entry) → IsRun g before clock thread node after → ((w : World) → Position after w → IsGoodRun c s rest w) → (w : World) → Position before w → IsGoodRun c s (runs.Waits clock ∷ rest) w
-  run_goes before after clock thread node rest is later w (Within segment under way) = absurd (let both : no_segment ≡ Some segment = sym is.point.between ∙ under in cc)
+  run_goes before after clock thread node rest is later w (Within segment under way) = absurd (let both : false ≡ true = sym is.choice.point.between ∙ ap (λ (o : Option Segment). is_some o) under in cc)
   run_goes before after clock thread node rest is later w (Between none here rests) =
       let both = two s (Advance clock) (Pick thread) before.machine is.machine is.begins in
       let advanced = kept.advances before.machine both.between clock rests both.once in
@@ -152,7 +155,7 @@ module _ (g : Setup) (B U : World → Type 0) (kept : AreKept (checked_of g) (se
 
   -- ---- the end
 
-  edges_nothing : (edges : List EdgeLine) (stop : StopLine) → machine_entries (map (edge_entry g) edges ++ Entry.Stop stop ∷ []) ≡ stop_turns stop
+  edges_nothing : (edges : List EdgeLine) (stop : StopLine) → machine_entries (map (edge_entry g.policy.caps) edges ++ Entry.Stop stop ∷ []) ≡ stop_turns stop
   edges_nothing [] stop = refl
   edges_nothing (edge ∷ edges) stop = edges_nothing edges stop
 

@@ -8,7 +8,7 @@ use Rattle.c_mean.specs.ModelledCalls.{Arrival, Message}
 use Rattle.event_trace.specs.declared.events.EventKind.{EventKind}
 use Rattle.event_trace.specs.declared.events.EventKind.TheVariants as events
 use Rattle.event_trace.specs.Lines.{FitsKind}
-use Rattle.lawful_log.specs.Deliveries.{delivery_of, item_of}
+use Rattle.choice_rules.specs.Deliveries.{delivery_of, item_of}
 use Rattle.lawful_log.specs.Good.{delivered}
 use Rattle.machine_world.specs.Runs.{Deliver}
 use Rattle.machine_world.specs.WellFormed.{DeliversWords}

@@ -1,5 +1,6 @@
 -- At most one log is lawful.
 use Rattle.std.proofs.Common.{◌≡◌, ℕ, List, ◌∷◌, ◌++◌, Some, None, refl, sym, ◌∙◌, ap, subst, ◌⊎◌, inl, inr, true, false, append_assoc, append-nil}
+use Rattle.choice_rules.proofs.Points.{not_refused, one_refusal}
 use Rattle.machine_world.specs.Threads.{World}
 use Rattle.schedule_log.specs.declared.entries.Entry.{Entry}
 use Rattle.schedule_log.specs.declared.entries.StopLine.{StopLine}
@@ -7,7 +8,6 @@ use Rattle.lawful_log.specs.Setup.{Setup, start_machine}
 use Rattle.lawful_log.specs.State.{State, start_of}
 use Rattle.lawful_log.specs.Stops.{IsStop}
 use Rattle.lawful_log.specs.Lawful.{IsAllowed, Leads, nowhere, by_entry, ending, IsLawfulLog}
-use Rattle.lawful_log.proofs.Points.{not_refused, one_refusal}
 use Rattle.lawful_log.proofs.Going.{IsGoing, one_going, going_not_cut, one_cut, out_goes, block_goes, end_goes, stop_cuts, going_under_way, cut_under_way}
 use Rattle.lawful_log.proofs.Choosing.{IsAtPoint, one_at_point, coming_point, run_point, point_not_done, point_not_bad, point_not_idle}
 
@@ -33,34 +33,34 @@ module _ (g : Setup) (state : State) where
   one_entry a b s t p q = one_told a b s t (told a s p) (told b t q)
 
   no_stop : (a : Entry) (s : State) (line : StopLine) (machine : World) → IsGoing g state a s ⊎ IsAtPoint g state a s → IsStop g state line machine → ⊥
-  no_stop a s StopLine.Done machine (inl p) q = going_under_way g state a s p q.between
-  no_stop a s StopLine.Idle machine (inl p) q = going_under_way g state a s p q.between
-  no_stop a s (StopLine.Trace line) machine (inl p) q = going_under_way g state a s p q.between
+  no_stop a s StopLine.Done machine (inl p) q = going_under_way g state a s p q.0.between
+  no_stop a s StopLine.Idle machine (inl p) q = going_under_way g state a s p q.0.between
+  no_stop a s (StopLine.Trace line) machine (inl p) q = going_under_way g state a s p q.0.between
   no_stop a s (StopLine.Cut thread stop cost free) machine (inl p) q = going_not_cut g state a s _ machine p (stop_cuts g state thread stop cost free machine q)
-  no_stop a s StopLine.Done machine (inr p) q = point_not_done g state a s machine p q
-  no_stop a s StopLine.Idle machine (inr p) q = point_not_idle g state a s machine p q
-  no_stop a s (StopLine.Trace line) machine (inr p) q = point_not_bad g state a s line machine p q
+  no_stop a s StopLine.Done machine (inr p) q = point_not_done g state a s p q.0
+  no_stop a s StopLine.Idle machine (inr p) q = point_not_idle g state a s p q.0
+  no_stop a s (StopLine.Trace line) machine (inr p) q = point_not_bad g state a s line p q.0
   no_stop a s (StopLine.Cut thread stop cost free) machine (inr p) q = cut_under_way g state _ machine (stop_cuts g state thread stop cost free machine q) p.point.between
 
   pub entry_or_stop : (a : Entry) (s : State) (line : StopLine) (machine : World) → IsAllowed g state a s → IsStop g state line machine → ⊥
   entry_or_stop a s line machine p q = no_stop a s line machine (told a s p) q
 
   pub one_stop : (a b : StopLine) (s t : World) → IsStop g state a s → IsStop g state b t → (a ≡ b) × (s ≡ t)
-  one_stop StopLine.Done StopLine.Done s t p q = (refl, p.machine_is ∙ sym q.machine_is)
-  one_stop StopLine.Done StopLine.Idle s t p q = absurd (q.live p.nobody)
-  one_stop StopLine.Done (StopLine.Trace line) s t p q = absurd (q.live p.nobody)
-  one_stop StopLine.Done (StopLine.Cut thread stop cost free) s t p q = absurd (cut_under_way g state _ t (stop_cuts g state thread stop cost free t q) p.between)
-  one_stop StopLine.Idle StopLine.Done s t p q = absurd (p.live q.nobody)
-  one_stop StopLine.Idle StopLine.Idle s t p q = (refl, p.machine_is ∙ sym q.machine_is)
-  one_stop StopLine.Idle (StopLine.Trace line) s t p q = absurd (not_refused state.trace None line p.over q.refused)
-  one_stop StopLine.Idle (StopLine.Cut thread stop cost free) s t p q = absurd (cut_under_way g state _ t (stop_cuts g state thread stop cost free t q) p.between)
-  one_stop (StopLine.Trace line) StopLine.Done s t p q = absurd (p.live q.nobody)
-  one_stop (StopLine.Trace line) StopLine.Idle s t p q = absurd (not_refused state.trace None line q.over p.refused)
-  one_stop (StopLine.Trace line) (StopLine.Trace line') s t p q = (ap StopLine.Trace (one_refusal state.trace line line' p.refused q.refused), p.machine_is ∙ sym q.machine_is)
-  one_stop (StopLine.Trace line) (StopLine.Cut thread stop cost free) s t p q = absurd (cut_under_way g state _ t (stop_cuts g state thread stop cost free t q) p.between)
-  one_stop (StopLine.Cut thread stop cost free) StopLine.Done s t p q = absurd (cut_under_way g state _ s (stop_cuts g state thread stop cost free s p) q.between)
-  one_stop (StopLine.Cut thread stop cost free) StopLine.Idle s t p q = absurd (cut_under_way g state _ s (stop_cuts g state thread stop cost free s p) q.between)
-  one_stop (StopLine.Cut thread stop cost free) (StopLine.Trace line) s t p q = absurd (cut_under_way g state _ s (stop_cuts g state thread stop cost free s p) q.between)
+  one_stop StopLine.Done StopLine.Done s t p q = (refl, p.1 ∙ sym q.1)
+  one_stop StopLine.Done StopLine.Idle s t p q = absurd (q.0.live p.0.nobody)
+  one_stop StopLine.Done (StopLine.Trace line) s t p q = absurd (q.0.live p.0.nobody)
+  one_stop StopLine.Done (StopLine.Cut thread stop cost free) s t p q = absurd (cut_under_way g state _ t (stop_cuts g state thread stop cost free t q) p.0.between)
+  one_stop StopLine.Idle StopLine.Done s t p q = absurd (p.0.live q.0.nobody)
+  one_stop StopLine.Idle StopLine.Idle s t p q = (refl, p.1 ∙ sym q.1)
+  one_stop StopLine.Idle (StopLine.Trace line) s t p q = absurd (not_refused state.trace None line p.0.over q.0.refused)
+  one_stop StopLine.Idle (StopLine.Cut thread stop cost free) s t p q = absurd (cut_under_way g state _ t (stop_cuts g state thread stop cost free t q) p.0.between)
+  one_stop (StopLine.Trace line) StopLine.Done s t p q = absurd (p.0.live q.0.nobody)
+  one_stop (StopLine.Trace line) StopLine.Idle s t p q = absurd (not_refused state.trace None line q.0.over p.0.refused)
+  one_stop (StopLine.Trace line) (StopLine.Trace line') s t p q = (ap StopLine.Trace (one_refusal state.trace line line' p.0.refused q.0.refused), p.1 ∙ sym q.1)
+  one_stop (StopLine.Trace line) (StopLine.Cut thread stop cost free) s t p q = absurd (cut_under_way g state _ t (stop_cuts g state thread stop cost free t q) p.0.between)
+  one_stop (StopLine.Cut thread stop cost free) StopLine.Done s t p q = absurd (cut_under_way g state _ s (stop_cuts g state thread stop cost free s p) q.0.between)
+  one_stop (StopLine.Cut thread stop cost free) StopLine.Idle s t p q = absurd (cut_under_way g state _ s (stop_cuts g state thread stop cost free s p) q.0.between)
+  one_stop (StopLine.Cut thread stop cost free) (StopLine.Trace line) s t p q = absurd (cut_under_way g state _ s (stop_cuts g state thread stop cost free s p) q.0.between)
   one_stop (StopLine.Cut thread stop cost free) (StopLine.Cut thread' stop' cost' free') s t p q =
       one_cut g state _ _ s t (stop_cuts g state thread stop cost free s p) (stop_cuts g state thread' stop' cost' free' t q)
 

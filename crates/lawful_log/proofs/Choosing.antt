@@ -1,19 +1,22 @@
 -- What the log has at a choice point is one.
 use Rattle.std.proofs.Common.{◌≡◌, ℕ, Bool, true, false, [], ◌∷◌, Option, Some, None, sym, ◌∙◌, ap, subst}
 use Rattle.c_mean.specs.ModelledCalls.{is_dropped}
+use Rattle.choice_rules.specs.Clock.{is_due}
+use Rattle.choice_rules.specs.Deliveries.{delivery_of, item_of, received}
+use Rattle.choice_rules.specs.Seen.{Waiter}
+use Rattle.choice_rules.specs.Stops.{IsDone, IsBadTrace, IsIdle}
+use Rattle.choice_rules.specs.Trace.{behind}
+use Rattle.choice_rules.proofs.Points.{one_clock, one_choice, not_done, not_bad, not_idle}
 use Rattle.event_trace.specs.declared.events.Event.{Event}
 use Rattle.machine_world.specs.Runs.{Advance, Deliver, Pick, after_actions}
 use Rattle.machine_world.specs.Threads.{World}
 use Rattle.schedule_log.specs.declared.entries.Entry.{Entry}
 use Rattle.schedule_log.specs.declared.entries.Item.{Item}
 use Rattle.lawful_log.specs.Setup.{Setup, setting_of}
-use Rattle.lawful_log.specs.Trace.{behind}
-use Rattle.lawful_log.specs.State.{Waiter, State}
-use Rattle.lawful_log.specs.Clock.{is_due, IsChoicePoint}
+use Rattle.lawful_log.specs.State.{State, seen_of}
+use Rattle.lawful_log.specs.Clock.{IsChoicePoint}
 use Rattle.lawful_log.specs.Choice.{IsLawful, IsRun, chosen_from}
-use Rattle.lawful_log.specs.Deliveries.{IsComing, delivery_of, item_of, received}
-use Rattle.lawful_log.specs.Stops.{IsDone, IsBadTrace, IsIdle}
-use Rattle.lawful_log.proofs.Points.{one_clock, one_choice, not_idle, not_refused}
+use Rattle.lawful_log.specs.Deliveries.{IsComing}
 
 -- the entry of what comes, by whether it is dropped
 abbrev pub coming_entry : Bool → ℕ → Item → Entry
@@ -64,7 +67,7 @@ module _ (g : Setup) (state : State) where
 
   one_running : (clock : ℕ) (a b : Entry) (s t : State) → Runs clock a s → Runs clock b t → (a ≡ b) × (s ≡ t)
   one_running clock a b s t p q =
-      let chosen : p.chosen ≡ q.chosen = one_choice g state clock p.chosen q.chosen p.lawful q.lawful in
+      let chosen : p.chosen ≡ q.chosen = one_choice g.policy (seen_of state) clock p.chosen q.chosen p.lawful q.lawful in
       let both : Some p.machine ≡ Some q.machine =
       sym p.begins ∙ ap (λ (w : Waiter). after_actions (setting_of g) (Advance clock ∷ Pick w.thread ∷ []) state.machine) chosen ∙ q.begins in
       let machines : p.machine ≡ q.machine = cc in (
@@ -80,7 +83,7 @@ module _ (g : Setup) (state : State) where
 
   pub one_at_point : (a b : Entry) (s t : State) → IsAtPoint a s → IsAtPoint b t → (a ≡ b) × (s ≡ t)
   one_at_point a b s t p q =
-      let same : (p.next ≡ q.next) × (p.clock ≡ q.clock) = one_clock g state p.next q.next p.clock q.clock p.point q.point in
+      let same : (p.next ≡ q.next) × (p.clock ≡ q.clock) = one_clock g.policy (seen_of state) p.next q.next p.clock q.clock p.point q.point in
       one_point q.next q.clock (is_due q.next q.clock) a b s t
       (subst (λ (c : ℕ). TellsPoint q.next c (is_due q.next c) a s) same.1
       (subst (λ (n : Option Event). TellsPoint n p.clock (is_due n p.clock) a s) same.0 p.tells))
@@ -100,27 +103,27 @@ module _ (g : Setup) (state : State) where
   coming_point clock item drops after p = record {
     next = Some p.event;
     clock = clock;
-    point = p.point;
-    tells = come_at p.event clock (coming_entry drops clock item) after p.due (record {
+    point = p.delivery.point;
+    tells = come_at p.event clock (coming_entry drops clock item) after p.delivery.due (record {
       machine = p.machine;
       delivers = p.delivers;
-      entry_is = ap (λ (b : Bool). coming_entry b clock item) p.drops_is ∙ ap (λ (i : Item). coming_entry (is_dropped g.policy.backlog state.source.exchange (delivery_of p.event.kind)) clock i) p.item_is;
+      entry_is = ap (λ (b : Bool). coming_entry b clock item) p.delivery.drops_is ∙ ap (λ (i : Item). coming_entry (is_dropped g.policy.backlog state.source.exchange (delivery_of p.event.kind)) clock i) p.delivery.item_is;
       after_is = p.after_is ∙ ap (λ (b : Bool). record state {
         machine = p.machine;
         source = received b state.source (delivery_of p.event.kind);
         trace = behind state.trace p.event;
-      }) p.drops_is;
+      }) p.delivery.drops_is;
     });
   }
 
   pub run_point : (clock thread node : ℕ) (after : State) → IsRun g state clock thread node after → IsAtPoint (Entry.Run clock thread node) after
   run_point clock thread node after p = record {
-    next = p.next;
+    next = p.choice.next;
     clock = clock;
-    point = p.point;
-    tells = subst (λ (b : Bool). TellsPoint p.next clock b (Entry.Run clock thread node) after) (sym p.not_due) (run_at p.next clock (Entry.Run clock thread node) after (record {
+    point = p.choice.point;
+    tells = subst (λ (b : Bool). TellsPoint p.choice.next clock b (Entry.Run clock thread node) after) (sym p.choice.not_due) (run_at p.choice.next clock (Entry.Run clock thread node) after (record {
       chosen = p.chosen;
-      lawful = p.lawful;
+      lawful = p.choice.lawful;
       machine = p.machine;
       begins = subst (λ (n : ℕ). after_actions (setting_of g) (Advance clock ∷ Pick n ∷ []) state.machine ≡ Some p.machine) p.thread_is p.begins;
       entry_is = ap (λ (n : ℕ). Entry.Run clock n node) p.thread_is ∙ ap (λ (n : ℕ). Entry.Run clock p.chosen.thread n) p.node_is;
@@ -130,11 +133,11 @@ module _ (g : Setup) (state : State) where
 
   -- ---- stops between segments
 
-  pub point_not_done : (a : Entry) (s : State) (machine : World) → IsAtPoint a s → IsDone state machine → ⊥
-  point_not_done a s machine p q = p.point.live q.nobody
+  pub point_not_done : (a : Entry) (s : State) → IsAtPoint a s → IsDone (seen_of state) → ⊥
+  point_not_done a s p q = not_done g.policy (seen_of state) p.next p.clock p.point q
 
-  pub point_not_bad : (a : Entry) (s : State) (line : ℕ) (machine : World) → IsAtPoint a s → IsBadTrace state line machine → ⊥
-  point_not_bad a s line machine p q = not_refused state.trace p.next line p.point.next_is q.refused
+  pub point_not_bad : (a : Entry) (s : State) (line : ℕ) → IsAtPoint a s → IsBadTrace (seen_of state) line → ⊥
+  point_not_bad a s line p q = not_bad g.policy (seen_of state) p.next p.clock line p.point q
 
-  pub point_not_idle : (a : Entry) (s : State) (machine : World) → IsAtPoint a s → IsIdle g state machine → ⊥
-  point_not_idle a s machine p q = not_idle g state p.next p.clock p.point q.over q.none_ready q.none_sleeps
+  pub point_not_idle : (a : Entry) (s : State) → IsAtPoint a s → IsIdle g.policy (seen_of state) → ⊥
+  point_not_idle a s p q = not_idle g.policy (seen_of state) p.next p.clock p.point q

@@ -1,6 +1,6 @@
 -- What the log has of a step in a segment is one.
-use Rattle.std.proofs.Common.{◌≡◌, ℕ, ◌+◌, List, [], ◌∷◌, ◌++◌, length, Option, Some, None, refl, sym, ◌∙◌, ap, subst}
-use Rattle.std.specs.Prelude.{slice_get, ℤ}
+use Rattle.std.proofs.Common.{◌≡◌, ℕ, ◌+◌, true, false, List, [], ◌∷◌, ◌++◌, length, Option, Some, None, refl, sym, ◌∙◌, ap, subst}
+use Rattle.std.specs.Prelude.{slice_get, is_some, ℤ}
 use Rattle.blocking_graph.specs.Nodes.{keys_with, node_number}
 use Rattle.cap_word.specs.Word.{signed}
 use Rattle.cap_word.specs.declared.calls.Block.{Block}
@@ -9,12 +9,13 @@ use Rattle.cap_word.specs.declared.traps.TrapKind.{TrapKind}
 use Rattle.c_mean.specs.Frames.{Waiting, key_of}
 use Rattle.c_mean.specs.World as source
 use Rattle.c_mean.proofs.WorldLemmas.{one_run}
+use Rattle.choice_rules.specs.Seen.{end_node}
 use Rattle.machine_world.specs.Threads.{World, Move, Goes, Puts, Spawns, Blocks, Ends, Stops, Wrong, step}
 use Rattle.schedule_log.specs.declared.entries.Entry.{Entry}
 use Rattle.schedule_log.specs.declared.entries.StopLine.{StopLine}
 use Rattle.lawful_log.specs.Setup.{Setup, setting_of}
 use Rattle.lawful_log.specs.State.{Segment, State}
-use Rattle.lawful_log.specs.Segments.{quiet_world, IsOnTheWay, HasRun, IsOut, IsBlock, IsEnd, rested, end_node}
+use Rattle.lawful_log.specs.Segments.{quiet_world, IsOnTheWay, HasRun, IsOut, IsBlock, IsEnd, rested}
 use Rattle.lawful_log.specs.Stops.{IsStopped}
 use Rattle.lawful_log.proofs.Quiet.{one_place}
 
@@ -259,8 +260,8 @@ module _ (g : Setup) (state : State) where
   }
 
   -- no segment is under way where none is
-  pub going_under_way : (a : Entry) (s : State) → IsGoing a s → state.segment ≡ None → ⊥
-  going_under_way a s p e = let under : Some p.segment ≡ None = sym p.way.under_way ∙ e in absurd (cc)
+  pub going_under_way : (a : Entry) (s : State) → IsGoing a s → is_some state.segment ≡ false → ⊥
+  going_under_way a s p e = let under : true ≡ false = sym (ap (λ (o : Option Segment). is_some o) p.way.under_way) ∙ e in absurd (cc)
 
-  pub cut_under_way : (line : StopLine) (machine : World) → IsCutHere line machine → state.segment ≡ None → ⊥
-  cut_under_way line machine p e = let under : Some p.segment ≡ None = sym p.way.under_way ∙ e in absurd (cc)
+  pub cut_under_way : (line : StopLine) (machine : World) → IsCutHere line machine → is_some state.segment ≡ false → ⊥
+  cut_under_way line machine p e = let under : true ≡ false = sym (ap (λ (o : Option Segment). is_some o) p.way.under_way) ∙ e in absurd (cc)

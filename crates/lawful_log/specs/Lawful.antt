@@ -1,7 +1,7 @@
 -- The lawful log: its entries are allowed one after another from the start, and then come the edges and one stop.
-use Rattle.std.specs.Prelude.{◌≡◌, ℕ, ℤ, true, false, List, [], ◌∷◌, ◌++◌, map, drop, Some, nat_eq, if◌then◌else◌}
+use Rattle.std.specs.Prelude.{◌≡◌, ℕ, true, false, List, [], ◌∷◌, ◌++◌, map, Some}
 use Rattle.blocking_graph.specs.Edges.{edges_of}
-use Rattle.blocking_graph.specs.declared.edges.EdgeLine.{EdgeLine}
+use Rattle.choice_rules.specs.EdgeLines.{edge_entry}
 use Rattle.machine_world.specs.Threads.{World}
 use Rattle.schedule_log.specs.declared.entries.Entry.{Entry}
 use Rattle.schedule_log.specs.declared.entries.StopLine.{StopLine}
@@ -31,22 +31,9 @@ pub data Leads (g : Setup) : State → List Entry → State → Type 0 where
 
 -- ---- the end
 
--- the averages of the resources that are given, by their caps
-abbrev pub given : List ℕ → List ℤ → List ℤ
-given (cap ∷ caps) (average ∷ averages) = if nat_eq cap 0 then given caps averages else average ∷ given caps averages
-given _ _ = []
-
--- the averages that an edge's line shows: that of resource 0, and those of the resources that are given
-abbrev pub shown : List ℕ → List ℤ → List ℤ
-shown caps [] = []
-shown caps (average ∷ averages) = average ∷ given (drop 1 caps) averages
-
-abbrev pub edge_entry : Setup → EdgeLine → Entry
-edge_entry g edge = Entry.Edge edge.from edge.to edge.count edge.cost (shown g.policy.caps edge.change)
-
 -- the edges of all records, and the stop
 abbrev pub ending : Setup → State → StopLine → List Entry
-ending g state stop = map (edge_entry g) (edges_of state.past.records) ++ Entry.Stop stop ∷ []
+ending g state stop = map (edge_entry g.policy.caps) (edges_of state.past.records) ++ Entry.Stop stop ∷ []
 
 -- ---- the log
 

@@ -1,5 +1,4 @@
 pub mod Setup
-pub mod Trace
 pub mod State
 pub mod Readiness
 pub mod Clock

@@ -1,18 +1,18 @@
 -- The entries of a segment. Each stands for one step of the machine, behind steps of which the log has no entry. What the
 -- whole segment puts and how it ends is what the run of its thread does in the source world.
-use Rattle.std.specs.Prelude.{◌≡◌, ℕ, zero, suc, ◌+◌, ◌-◌, ℤ, pos, ◌-ℤ◌, List, [], ◌∷◌, ◌++◌, length, map, Option, Some, None, slice_get}
-use Rattle.std.specs.List.{range_with_len}
+use Rattle.std.specs.Prelude.{◌≡◌, ℕ, zero, suc, ◌+◌, ℤ, List, [], ◌∷◌, ◌++◌, length, Option, Some, None, slice_get}
 use Rattle.blocking_graph.specs.Nodes.{keys_with, node_number}
 use Rattle.cap_word.specs.Word.{signed}
 use Rattle.cap_word.specs.declared.calls.Block.{Block}
 use Rattle.cap_word.specs.declared.traps.TrapKind.{TrapKind}
 use Rattle.c_mean.specs.Frames.{Waiting, key_of}
 use Rattle.c_mean.specs.World as source
-use Rattle.c_mean.specs.World.{RunsTo, IsCutAt}
+use Rattle.choice_rules.specs.Seen.{Waiter, uses_in, changes, newcomers, end_node, with_segment}
+use Rattle.choice_rules.specs.SourceRuns as rules
 use Rattle.machine_world.specs.Runs.{and_then}
 use Rattle.machine_world.specs.Threads.{World, Setting, Move, Goes, Puts, Spawns, Blocks, Ends, Stops, Wrong, step}
 use Rattle.lawful_log.specs.Setup.{Setup, setting_of}
-use Rattle.lawful_log.specs.State.{Waiter, Segment, State, uses_in}
+use Rattle.lawful_log.specs.State.{Segment, State, held_chunks}
 
 -- ---- the machine's steps
 
@@ -38,20 +38,13 @@ pub record IsOnTheWay (g : Setup) (state : State) (segment : Segment) (steps : �
 
 -- ---- the source's run
 
--- the outputs of a segment, as the source world keeps them
-abbrev pub outputs_of : Segment → List (ℕ × ℕ)
-outputs_of segment = map (λ word. (segment.thread, word)) segment.puts
-
 -- the source's run of the segment's thread comes to this world, with a trap if it is one, and puts what the segment has put
-pub record HasRun (g : Setup) (state : State) (segment : Segment) (trap : Option TrapKind) (world : source.World) : Type 0 where
-  pub runs : RunsTo g.program g.policy.caps state.source segment.thread (record { trap = trap; world = world })
-  pub puts : world.outputs ≡ state.source.outputs ++ outputs_of segment
+abbrev pub HasRun : Setup → State → Segment → Option TrapKind → source.World → Type 0
+HasRun g state segment trap world = rules.HasRun g.program g.policy.caps state.source segment.thread segment.puts trap world
 
 -- the source's run of it, cut where it has put as many words as the segment has, has put what the segment has put
-pub record IsCut (g : Setup) (state : State) (segment : Segment) : Type 0 where
-  pub reached : source.Segment
-  pub cut : IsCutAt g.program g.policy.caps state.source segment.thread (length segment.puts) reached
-  pub puts : reached.world.outputs ≡ state.source.outputs ++ outputs_of segment
+abbrev pub IsCut : Setup → State → Segment → Type 0
+IsCut g state segment = rules.IsCut g.program g.policy.caps state.source segment.thread segment.puts
 
 -- ---- `out`
 
@@ -72,16 +65,6 @@ pub record IsOut (g : Setup) (before : State) (thread : ℕ) (value : ℤ) (afte
 
 -- ---- `block` and `end`
 
--- the change of each use
-abbrev pub changes : List ℕ → List ℕ → List ℤ
-changes (old ∷ olds) (new ∷ news) = (pos new -ℤ pos old) ∷ changes olds news
-changes _ _ = []
-
--- the threads that a segment has started, which wait at node 0
-abbrev pub newcomers : source.World → source.World → List Waiter
-newcomers old new = map (λ thread. record { thread = thread; node = 0; since = 0 })
-    (range_with_len (length old.threads) (length new.threads - length old.threads))
-
 -- the state after a segment that has ended at a node with these worlds, at this cost; those that join a node then, and the
 -- keys that have appeared
 abbrev pub rested : State → Segment → ℕ → ℕ → World → source.World → List Waiter → List (List ℕ) → State
@@ -89,14 +72,10 @@ rested state segment node cost machine world joining keys = record {
   machine = machine;
   source = world;
   trace = state.trace;
-  waiting = state.waiting ++ newcomers state.source world ++ joining;
+  waiting = state.waiting ++ newcomers state.source (length world.threads) ++ joining;
   segment = None;
-  past = record {
-    keys = keys;
-    records = state.past.records ++ record { from = segment.node; to = node; cost = cost; change = changes segment.uses (uses_in machine world) } ∷ [];
-    taken = state.past.taken;
-    uses = state.past.uses ++ uses_in machine world ∷ [];
-  };
+  past = with_segment state.past keys
+      (record { from = segment.node; to = node; cost = cost; change = changes segment.uses (uses_in (held_chunks machine) world.exchange) }) (uses_in (held_chunks machine) world.exchange);
 }
 
 pub record IsBlock (g : Setup) (before : State) (thread node : ℕ) (key : List ℕ) (cost free : ℕ) (after : State) : Type 0 where
@@ -118,10 +97,6 @@ pub record IsBlock (g : Setup) (before : State) (thread node : ℕ) (key : List 
   pub node_is : node ≡ node_number before.past.keys key
   pub after_is : after ≡ rested before segment node cost machine world
       (record { thread = thread; node = node; since = machine.clock } ∷ []) (keys_with before.past.keys key)
-
--- the node at which threads end
-abbrev pub end_node : ℕ
-end_node = 1
 
 pub record IsEnd (g : Setup) (before : State) (thread cost free : ℕ) (after : State) : Type 0 where
   pub segment : Segment

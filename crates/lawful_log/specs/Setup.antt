@@ -1,25 +1,13 @@
 -- What a run is given besides its trace: a program with its image and certificate, and a policy.
-use Rattle.std.specs.Prelude.{ℕ, ◌/◌, List, ◌∷◌, drop, Option}
+use Rattle.std.specs.Prelude.{◌/◌, Option}
 use Rattle.c_tree.specs.Trees.{ProgramTree}
+use Rattle.choice_rules.specs.Policy.{Policy}
 use Rattle.machine_world.specs.Runs.{start_world}
 use Rattle.machine_world.specs.Threads.{World, Setting}
-use Rattle.resource_monitor.specs.declared.curves.Curve.{Curve}
 use Rattle.stack_certificate.specs.declared.certificates.Certificate.{Certificate}
 use Rattle.stack_certificate.specs.declared.functions.FunctionFact.{FunctionFact}
 use Rattle.stack_certificate.specs.Certificates.{fact_at}
 use Rattle.stack_image.specs.declared.images.Image.{Image}
-
-pub record Policy : Type 0 where
-  -- the number of chunks, the most instructions, and how many items may wait in a queue
-  pub chunks : ℕ
-  pub fuel : ℕ
-  pub backlog : ℕ
-  -- the caps of the resources by their numbers, of which 0 isn't read; a cap of 0 says that it isn't given
-  pub caps : List ℕ
-  -- the curve of each resource's pressure, and the pressures from which the gate closes and down to which it opens
-  pub curves : List Curve
-  pub high : ℕ
-  pub low : ℕ
 
 pub record Setup : Type 0 where
   pub program : ProgramTree
@@ -39,7 +27,3 @@ main_fact g = fact_at g.certificate g.program.main
 abbrev pub start_machine : Setup → Option World
 start_machine g =
     start_world g.policy.chunks (g.certificate.chunk / 4) g.image.globals g.image.tables (main_fact g).entry (main_fact g).bound
-
--- the caps of all eight resources: that of resource 0 is the number of chunks
-abbrev pub all_caps : Policy → List ℕ
-all_caps policy = policy.chunks ∷ drop 1 policy.caps

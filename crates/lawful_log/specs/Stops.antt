@@ -1,36 +1,13 @@
 -- Where a run stops, and in which machine world.
-use Rattle.std.specs.Prelude.{◌≡◌, ◌≢◌, ℕ, ◌+◌, false, [], length, Some, None}
+use Rattle.std.specs.Prelude.{◌≡◌, ℕ, ◌+◌, length, Some}
 use Rattle.cap_word.specs.declared.stops.Stop.{Stop}
 use Rattle.c_mean.specs.World as source
+use Rattle.choice_rules.specs.Stops.{IsDone, IsBadTrace, IsIdle}
 use Rattle.machine_world.specs.Threads.{World, Stops, step}
 use Rattle.schedule_log.specs.declared.entries.StopLine.{StopLine}
 use Rattle.lawful_log.specs.Setup.{Setup, setting_of}
-use Rattle.lawful_log.specs.Trace.{IsNext, IsRefused}
-use Rattle.lawful_log.specs.State.{Segment, State}
-use Rattle.lawful_log.specs.Readiness.{any_ready, waking_times}
+use Rattle.lawful_log.specs.State.{Segment, State, seen_of}
 use Rattle.lawful_log.specs.Segments.{IsOnTheWay, HasRun, IsCut}
-
--- every thread has ended
-pub record IsDone (state : State) (machine : World) : Type 0 where
-  pub between : state.segment ≡ None
-  pub nobody : state.machine.threads ≡ []
-  pub machine_is : machine ≡ state.machine
-
--- some thread is live, and the next line of the trace is refused
-pub record IsBadTrace (state : State) (line : ℕ) (machine : World) : Type 0 where
-  pub between : state.segment ≡ None
-  pub live : state.machine.threads ≢ []
-  pub refused : IsRefused state.trace line
-  pub machine_is : machine ≡ state.machine
-
--- some thread is live, the trace is over, no thread is ready and none sleeps
-pub record IsIdle (g : Setup) (state : State) (machine : World) : Type 0 where
-  pub between : state.segment ≡ None
-  pub live : state.machine.threads ≢ []
-  pub over : IsNext state.trace None
-  pub none_ready : any_ready g state state.machine.clock ≡ false
-  pub none_sleeps : waking_times state ≡ []
-  pub machine_is : machine ≡ state.machine
 
 -- what a segment that a stop cuts has put: at a trap all that the source puts up to that trap, and elsewhere so much of it
 abbrev pub IsCutBy : Setup → State → Segment → Stop → Type 0
@@ -50,8 +27,9 @@ pub record IsStopped (g : Setup) (state : State) (thread : ℕ) (stop : Stop) (c
   pub free_is : free ≡ length machine.areas.pool.free
   pub puts : IsCutBy g state segment stop
 
+-- a stop, in the machine world in which it comes: at a choice point that of the state
 abbrev pub IsStop : Setup → State → StopLine → World → Type 0
-IsStop g state StopLine.Done machine = IsDone state machine
-IsStop g state StopLine.Idle machine = IsIdle g state machine
-IsStop g state (StopLine.Trace line) machine = IsBadTrace state line machine
+IsStop g state StopLine.Done machine = IsDone (seen_of state) × (machine ≡ state.machine)
+IsStop g state StopLine.Idle machine = IsIdle g.policy (seen_of state) × (machine ≡ state.machine)
+IsStop g state (StopLine.Trace line) machine = IsBadTrace (seen_of state) line × (machine ≡ state.machine)
 IsStop g state (StopLine.Cut thread stop cost free) machine = IsStopped g state thread stop cost free machine

@@ -1,18 +1,22 @@
 -- How a choice point goes on: what comes, and the choice of a thread.
 use Rattle.std.proofs.Common.{◌≡◌, ◌≢◌, ℕ, ◌-◌, ◌≤◌, ◌&&◌, ◌||◌, Bool, true, false, List, [], ◌∷◌, ◌++◌, length, map, Option, Some, None, refl, sym, ap, ◌∙◌, arith, subst, inl, append-nil}
-use Rattle.std.specs.Prelude.{nat_le, is_none, if◌then◌else◌}
+use Rattle.std.specs.Prelude.{nat_le, is_none, is_some, if◌then◌else◌}
 use Rattle.std.specs.List.{AllByRecursion, range_with_len}
 use Rattle.std.proofs.lemmas.Bool.Decides.{nat_tests}
+use Rattle.std.proofs.lemmas.List.{nil_from_length}
 use Rattle.c_mean.specs.ModelledCalls.{Delivery, is_dropped, with_delivery}
 use Rattle.event_trace.specs.declared.events.Event.{Event}
+use Rattle.choice_rules.specs.Trace.{IsNext, behind}
+use Rattle.choice_rules.specs.Seen.{Waiter}
+use Rattle.choice_rules.specs.Clock.{is_due, event_times, IsLeastOf}
+use Rattle.choice_rules.specs.Deliveries.{delivery_of, item_of, received}
 use Rattle.lawful_log.specs.Choice.{IsLawful, IsRun, chosen_from}
-use Rattle.lawful_log.specs.Clock.{is_due, event_times, IsLeastOf, IsChoicePoint}
-use Rattle.lawful_log.specs.Deliveries.{IsComing, delivery_of, item_of, received}
+use Rattle.lawful_log.specs.Clock.{IsChoicePoint}
+use Rattle.lawful_log.specs.Deliveries.{IsComing}
 use Rattle.lawful_log.specs.Good.{checked_of}
 use Rattle.lawful_log.specs.Readiness.{any_ready, waking_times}
 use Rattle.lawful_log.specs.Setup.{Setup, setting_of}
-use Rattle.lawful_log.specs.State.{Waiter, Segment, State, uses_of}
-use Rattle.lawful_log.specs.Trace.{IsNext, behind}
+use Rattle.lawful_log.specs.State.{Segment, State, uses_of}
 use Rattle.machine_world.specs.Runs.{Action, Deliver, Advance, Pick, delivered, advanced, after_action, after_actions, and_then}
 use Rattle.machine_world.specs.StandsForWorld.{StandsForWorld}
 use Rattle.machine_world.specs.Threads.{World, Setting}
@@ -30,8 +34,8 @@ module _ (g : Setup) (state : State) where
   pub point : (next : Option Event) (machine : World) → IsBetween g state (Some next) machine → machine.threads ≢ [] → IsNext state.trace next → goes_on g state next machine.clock ≡ true →
       IsChoicePoint g state next machine.clock
   point next machine is live next_is goes = record {
-    between = is.between;
-    live = λ e. live (ap (λ (w : World). w.threads) is.machine_is ∙ e);
+    between = ap (λ (o : Option Segment). is_some o) is.between;
+    live = λ e. live (ap (λ (w : World). w.threads) is.machine_is ∙ nil_from_length state.machine.threads e);
     next_is = next_is;
     clock_is = clock_by g state next machine.clock is.clock_is goes;
   }
@@ -88,10 +92,12 @@ module _ (g : Setup) (state : State) where
     pub coming : machine.threads ≢ [] → IsNext state.trace (Some event) → is_due (Some event) machine.clock ≡ true → IsComing g state machine.clock (item_of event.kind) drops come_state
     coming live next_is due = record {
       event = event;
-      point = point (Some event) machine is live next_is (ap (λ (b : Bool). b || any_ready g state machine.clock) due);
-      due = due;
-      item_is = refl;
-      drops_is = refl;
+      delivery = record {
+        point = point (Some event) machine is live next_is (ap (λ (b : Bool). b || any_ready g state machine.clock) due);
+        due = due;
+        item_is = refl;
+        drops_is = refl;
+      };
       machine = came;
       delivers = actions;
       after_is = refl;
@@ -167,11 +173,13 @@ module _ (g : Setup) (state : State) where
     pub run_allowed : machine.threads ≢ [] → IsNext state.trace next → is_due next machine.clock ≡ false → any_ready g state machine.clock ≡ true → IsLawful g state machine.clock chosen →
         IsRun g state machine.clock chosen.thread chosen.node run_state
     run_allowed live next_is due ready lawful = record {
-      next = next;
-      point = point next machine is live next_is (right_true (is_due next machine.clock) (any_ready g state machine.clock) ready);
-      not_due = due;
       chosen = chosen;
-      lawful = lawful;
+      choice = record {
+        next = next;
+        point = point next machine is live next_is (right_true (is_due next machine.clock) (any_ready g state machine.clock) ready);
+        not_due = due;
+        lawful = lawful;
+      };
       thread_is = refl;
       node_is = refl;
       machine = picked_world;

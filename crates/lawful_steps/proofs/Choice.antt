@@ -6,11 +6,13 @@ use Rattle.std.proofs.lemmas.Bool.{cond-true, cond-false, eq-eqb, eqb-true}
 use Rattle.blocking_graph.specs.Edges.{edges_of}
 use Rattle.blocking_graph.specs.declared.edges.EdgeLine.{EdgeLine}
 use Rattle.cap_word.specs.declared.threads.ThreadId.{ThreadId}
+use Rattle.choice_rules.specs.Seen.{Waiter, last_choice}
+use Rattle.choice_rules.specs.Choice.{IsGraphChoice}
 use Rattle.lawful_log.specs.Setup.{Setup}
-use Rattle.lawful_log.specs.State.{Waiter, State}
+use Rattle.lawful_log.specs.State.{State, seen_of}
 use Rattle.lawful_log.specs.Readiness.{is_ready, at_accept, any_ready, any_elsewhere}
 use Rattle.lawful_log.specs.Choice as log
-use Rattle.lawful_log.specs.Choice.{IsLawful, monitor_of, score_of, last_choice, queue_at}
+use Rattle.lawful_log.specs.Choice.{monitor_of, score_of, queue_at}
 use Rattle.resource_monitor.specs.Monitor.{MonitorState}
 use Rattle.scheduler.specs.declared.choices.Choice.{Choice}
 use Rattle.scheduler.specs.LawfulChoice.{is_eligible, IsLeast, IsLawfulChoice}
@@ -140,7 +142,7 @@ module _ (g : Setup) (state : State) (clock : ℕ) (places : List (Option ℕ)) 
   -- the waiter that is chosen
   pub record Chosen (choice : Choice) : Type 0 where
     pub waiter : Waiter
-    pub lawful : IsLawful g state clock waiter
+    pub lawful : IsGraphChoice g.policy (seen_of state) clock waiter
     pub thread_is : choice.thread.number ≡ waiter.thread
     pub node_is : choice.node ≡ waiter.node
     pub holds : P waiter

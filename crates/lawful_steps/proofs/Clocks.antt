@@ -4,17 +4,21 @@ use Rattle.std.specs.Prelude.{All, Contains, filter_map, nat_le, nat_lt, nat_eq,
 use Rattle.std.specs.List.{AllByRecursion, list_any, cons_option}
 use Rattle.std.proofs.lemmas.Bool.Decides.{nat_tests}
 use Rattle.cap_word.specs.declared.calls.Block.{Block}
+use Rattle.c_mean.specs.ModelledCalls as table
 use Rattle.c_mean.specs.ModelledCalls.{Exchange, wakes_at, ticks_of}
 use Rattle.c_mean.specs.World.{Rest, Fresh, Blocked as Blocks, Ended}
 use Rattle.event_trace.specs.declared.events.Event.{Event}
-use Rattle.lawful_log.specs.Clock.{event_times, IsLeastOf, IsClockBy}
+use Rattle.choice_rules.specs.Readiness as rules
+use Rattle.choice_rules.specs.Clock.{event_times, IsLeastOf}
+use Rattle.lawful_log.specs.Clock.{IsClockBy}
 use Rattle.lawful_log.specs.Readiness as log
 use Rattle.lawful_log.specs.Readiness.{is_ready, any_ready, waking_times}
 use Rattle.lawful_log.specs.Setup.{Setup}
 use Rattle.lawful_log.specs.State.{State}
-use Rattle.machine_world.specs.Threads.{Blocked}
+use Rattle.machine_world.specs.Runs.{may_run}
+use Rattle.machine_world.specs.Threads.{Blocked, World, Setting}
 use Rattle.lawful_steps.specs.Clocks.{goes_on, IsClockOf}
-use Rattle.lawful_steps.specs.Tests.{wakes, may_go, if_later, later_wake}
+use Rattle.lawful_steps.specs.Tests.{waking_time, if_later, later_wake}
 use Rattle.lawful_steps.proofs.Lists.{either, left_true, right_true}
 
 -- ---- elements of lists
@@ -88,14 +92,14 @@ module _ {X : Type 0} (h : X → Option ℕ) where
 
 -- ---- a thread that wakes is ready
 
-awake_block : (caps : List ℕ) (x : Exchange) (clock since : ℕ) (block : Block) → wakes_at since block ≡ Some clock → may_go caps x clock (Some (record { block = block; since = since })) ≡ true
+awake_block : (caps : List ℕ) (x : Exchange) (clock since : ℕ) (block : Block) → wakes_at since block ≡ Some clock → table.is_ready caps x clock since block ≡ true
 awake_block caps x clock since Block.Accept e = absurd (cc)
 awake_block caps x clock since (Block.Wait channel) e = absurd (cc)
 awake_block caps x clock since (Block.Sleep ticks) e = let is : since + ticks_of ticks ≡ clock = cc in grind (arith, nat_tests, is)
 awake_block caps x clock since Block.Yield e = absurd (cc)
 awake_block caps x clock since (Block.Take resource amount) e = absurd (cc)
 
-awake_ready : (caps : List ℕ) (x : Exchange) (clock since : ℕ) (rest : Option Rest) → log.wakes since rest ≡ Some clock → log.is_ready_at caps x clock since rest ≡ true
+awake_ready : (caps : List ℕ) (x : Exchange) (clock since : ℕ) (rest : Option Rest) → rules.wakes since rest ≡ Some clock → rules.is_ready_at caps x clock since rest ≡ true
 awake_ready caps x clock since (Some (Fresh function arguments)) e = refl
 awake_ready caps x clock since (Some (Blocks block waiting)) e = awake_block caps x clock since block e
 awake_ready caps x clock since (Some Ended) e = absurd (cc)
@@ -103,7 +107,7 @@ awake_ready caps x clock since None e = absurd (cc)
 
 ready_at_wake : (g : Setup) (state : State) (clock : ℕ) → Contains (waking_times state) clock → any_ready g state clock ≡ true
 ready_at_wake g state clock c =
-    gives_any (λ w. log.wakes w.since (log.rest_of state w.thread)) (is_ready g state clock) clock
+    gives_any (λ w. rules.wakes w.since (log.rest_of state w.thread)) (is_ready g state clock) clock
     (λ w e. awake_ready g.policy.caps state.source.exchange clock w.since (log.rest_of state w.thread) e) state.waiting c
 
 le_self : (n : ℕ) → nat_le n n ≡ true
@@ -145,7 +149,7 @@ moves_to g state next clock time is stuck least =
 
 -- ---- the earliest that wakes
 
-later_block : (caps : List ℕ) (x : Exchange) (clock since : ℕ) (block : Block) → may_go caps x clock (Some (record { block = block; since = since })) ≡ false → if_later clock (wakes_at since block) ≡ wakes_at since block
+later_block : (caps : List ℕ) (x : Exchange) (clock since : ℕ) (block : Block) → table.is_ready caps x clock since block ≡ false → if_later clock (wakes_at since block) ≡ wakes_at since block
 later_block caps x clock since Block.Accept e = refl
 later_block caps x clock since (Block.Wait channel) e = refl
 later_block caps x clock since (Block.Sleep ticks) e =
@@ -155,9 +159,9 @@ later_block caps x clock since (Block.Sleep ticks) e =
 later_block caps x clock since Block.Yield e = refl
 later_block caps x clock since (Block.Take resource amount) e = refl
 
-pub later_is : (caps : List ℕ) (x : Exchange) (clock : ℕ) (b : Option Blocked) → may_go caps x clock b ≡ false → later_wake clock b ≡ wakes b
-later_is caps x clock None e = absurd (cc)
-later_is caps x clock (Some b) e = later_block caps x clock b.since b.block e
+pub later_is : (s : Setting) (w : World) (b : Option Blocked) → may_run s w b ≡ false → later_wake w.clock b ≡ waking_time b
+later_is s w None e = absurd (cc)
+later_is s w (Some b) e = later_block s.caps w.exchange w.clock b.since b.block e
 
 abbrev pub is_time : ℕ → Option ℕ → Bool
 is_time time None = false

@@ -5,10 +5,11 @@ use Rattle.blocking_graph.specs.Nodes.{node_number}
 use Rattle.cap_word.specs.declared.stops.Stop.{Stop}
 use Rattle.c_mean.specs.Frames.{key_of}
 use Rattle.c_mean.specs.World as source
+use Rattle.choice_rules.specs.Seen.{Waiter}
 use Rattle.lawful_log.specs.Good.{checked_of}
 use Rattle.lawful_log.specs.Segments.{HasRun, IsBlock, IsEnd}
 use Rattle.lawful_log.specs.Setup.{Setup, setting_of}
-use Rattle.lawful_log.specs.State.{Waiter, Segment, State}
+use Rattle.lawful_log.specs.State.{Segment, State}
 use Rattle.lawful_log.specs.Stops.{IsCutBy, IsStopped}
 use Rattle.machine_world.specs.StandsForWorld.{StandsForWorld}
 use Rattle.machine_world.specs.Threads.{World, Blocks, Ends, Puts, Stops, step}

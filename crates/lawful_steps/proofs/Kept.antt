@@ -3,7 +3,7 @@ use Rattle.std.proofs.Common.{◌≡◌, ◌≢◌, ℕ, ◌<◌, true, false, n
 use Rattle.std.specs.Prelude.{IsSome}
 use Rattle.std.specs.List.{AllByRecursion}
 use Rattle.std.proofs.lemmas.Bool.{cases_eq, ne_eqb}
-use Rattle.lawful_log.specs.State.{Waiter}
+use Rattle.choice_rules.specs.Seen.{Waiter}
 use Rattle.machine_world.specs.Numbered.{IsNumbered}
 use Rattle.machine_world.specs.Threads.{Blocked, Thread, World, thread_of}
 use Rattle.lawful_steps.specs.Waiting.{SinceIs, IsWaiting, waits, AreWaiting}

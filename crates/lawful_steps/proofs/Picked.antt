@@ -3,7 +3,7 @@ use Rattle.std.proofs.Common.{◌≡◌, ◌≢◌, ℕ, Bool, true, false, not,
 use Rattle.std.specs.Prelude.{IsSome, if◌then◌else◌}
 use Rattle.std.specs.List.{AllByRecursion}
 use Rattle.std.proofs.lemmas.Bool.{cond_both, cases_eq, cond-false, eq-eqb, ne_eqb, eqb-true}
-use Rattle.lawful_log.specs.State.{Waiter}
+use Rattle.choice_rules.specs.Seen.{Waiter}
 use Rattle.machine_world.specs.Runs.{Pick, picked, picked_at, may_run, after_action, is_between}
 use Rattle.machine_world.specs.Threads.{Blocked, Thread, World, Setting, thread_of, replaced, first_with}
 use Rattle.lawful_steps.specs.Waiting.{IsWaiting, waits, AreWaiting}

@@ -4,7 +4,7 @@ use Rattle.std.specs.Prelude.{IsSome}
 use Rattle.std.specs.List.{AllByRecursion}
 use Rattle.std.proofs.lemmas.Bool.{cond-true, cond-false, eq-eqb, ne_eqb}
 use Rattle.cap_word.specs.declared.threads.ThreadId.{ThreadId}
-use Rattle.lawful_log.specs.State.{Waiter}
+use Rattle.choice_rules.specs.Seen.{Waiter}
 use Rattle.scheduler.specs.Queues.{is_same, without}
 use Rattle.lawful_steps.specs.Waiting.{IsOnce, at_node, IsPlaced, IsQueue}
 use Rattle.lawful_steps.proofs.Lists.{but}

@@ -4,14 +4,16 @@ use Rattle.cap_word.specs.declared.calls.Block.{Block}
 use Rattle.chunk_pool.specs.Pool.{Pool}
 use Rattle.c_mean.specs.Frames.{Waiting}
 use Rattle.c_mean.specs.ModelledCalls as table
-use Rattle.c_mean.specs.ModelledCalls.{Exchange, wakes_at}
+use Rattle.c_mean.specs.ModelledCalls.{wakes_at}
 use Rattle.c_mean.specs.World.{Rest, Fresh, Blocked as Blocks, Ended}
 use Rattle.c_tree.specs.Trees.{ProgramTree}
+use Rattle.choice_rules.specs.Readiness as rules
+use Rattle.choice_rules.specs.Readiness.{is_accept}
 use Rattle.machine_world.specs.Places.{Checked}
+use Rattle.machine_world.specs.Runs.{may_run}
 use Rattle.machine_world.specs.StandsForWorld.{StandsForRest}
-use Rattle.machine_world.specs.Threads.{Blocked, Thread}
-use Rattle.lawful_log.specs.Readiness as log
-use Rattle.lawful_steps.specs.Tests.{is_accept, is_accepting, may_go, wakes}
+use Rattle.machine_world.specs.Threads.{Blocked, Thread, World, Setting}
+use Rattle.lawful_steps.specs.Tests.{is_blocked_at_accept, waking_time}
 use Rattle.lawful_steps.specs.Waiting.{SinceIs}
 
 -- blocked at the same since the same clock, or at the start
@@ -42,35 +44,28 @@ alike_rest c program pool thread since None stands s = absurd stands
 
 -- ---- the three tests
 
-pub ready_alike : (caps : List ℕ) (x : Exchange) (clock : ℕ) (b : Option Blocked) (since : ℕ) (rest : Option Rest) → RestsAlike b since rest → may_go caps x clock b ≡ log.is_ready_at caps x clock since rest
-ready_alike caps x clock None since (Some (Fresh function arguments)) alike = refl
-ready_alike caps x clock None since (Some (Blocks block waiting)) alike = absurd alike
-ready_alike caps x clock None since (Some Ended) alike = absurd alike
-ready_alike caps x clock None since None alike = absurd alike
-ready_alike caps x clock (Some b) since (Some (Blocks block waiting)) alike =
-    ap (λ (v : Block). table.is_ready caps x clock b.since v) alike.0 ∙ ap (λ (n : ℕ). table.is_ready caps x clock n block) alike.1
-ready_alike caps x clock (Some b) since (Some (Fresh function arguments)) alike = absurd alike
-ready_alike caps x clock (Some b) since (Some Ended) alike = absurd alike
-ready_alike caps x clock (Some b) since None alike = absurd alike
+pub ready_alike : (s : Setting) (w : World) (b : Option Blocked) (since : ℕ) (rest : Option Rest) → RestsAlike b since rest → may_run s w b ≡ rules.is_ready_at s.caps w.exchange w.clock since rest
+ready_alike s w None since (Some (Fresh function arguments)) alike = refl
+ready_alike s w None since (Some (Blocks block waiting)) alike = absurd alike
+ready_alike s w None since (Some Ended) alike = absurd alike
+ready_alike s w None since None alike = absurd alike
+ready_alike s w (Some b) since (Some (Blocks block waiting)) alike =
+    ap (λ (v : Block). table.is_ready s.caps w.exchange w.clock b.since v) alike.0 ∙ ap (λ (n : ℕ). table.is_ready s.caps w.exchange w.clock n block) alike.1
+ready_alike s w (Some b) since (Some (Fresh function arguments)) alike = absurd alike
+ready_alike s w (Some b) since (Some Ended) alike = absurd alike
+ready_alike s w (Some b) since None alike = absurd alike
 
-accept_block : (block : Block) (waiting : Waiting) → is_accept block ≡ log.is_accepting (Some (Blocks block waiting))
-accept_block Block.Accept waiting = refl
-accept_block (Block.Wait channel) waiting = refl
-accept_block (Block.Sleep ticks) waiting = refl
-accept_block Block.Yield waiting = refl
-accept_block (Block.Take resource amount) waiting = refl
-
-pub accept_alike : (b : Option Blocked) (since : ℕ) (rest : Option Rest) → RestsAlike b since rest → is_accepting b ≡ log.is_accepting rest
+pub accept_alike : (b : Option Blocked) (since : ℕ) (rest : Option Rest) → RestsAlike b since rest → is_blocked_at_accept b ≡ rules.is_accepting rest
 accept_alike None since (Some (Fresh function arguments)) alike = refl
 accept_alike None since (Some (Blocks block waiting)) alike = absurd alike
 accept_alike None since (Some Ended) alike = absurd alike
 accept_alike None since None alike = absurd alike
-accept_alike (Some b) since (Some (Blocks block waiting)) alike = ap is_accept alike.0 ∙ accept_block block waiting
+accept_alike (Some b) since (Some (Blocks block waiting)) alike = ap is_accept alike.0
 accept_alike (Some b) since (Some (Fresh function arguments)) alike = absurd alike
 accept_alike (Some b) since (Some Ended) alike = absurd alike
 accept_alike (Some b) since None alike = absurd alike
 
-pub wakes_alike : (b : Option Blocked) (since : ℕ) (rest : Option Rest) → RestsAlike b since rest → wakes b ≡ log.wakes since rest
+pub wakes_alike : (b : Option Blocked) (since : ℕ) (rest : Option Rest) → RestsAlike b since rest → waking_time b ≡ rules.wakes since rest
 wakes_alike None since (Some (Fresh function arguments)) alike = refl
 wakes_alike None since (Some (Blocks block waiting)) alike = absurd alike
 wakes_alike None since (Some Ended) alike = absurd alike

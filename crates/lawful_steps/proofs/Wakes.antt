@@ -4,16 +4,20 @@ use Rattle.std.specs.Prelude.{All, Contains, filter_map, nat_eq}
 use Rattle.std.specs.List.{AllByRecursion, list_any}
 use Rattle.std.proofs.lemmas.Bool.{cases_eq, cond-true, cond-false, eq-eqb, ne_eqb, eqb-true}
 use Rattle.std.proofs.lemmas.List.Elements.{All-contains}
-use Rattle.lawful_log.specs.Clock.{IsLeastOf}
+use Rattle.c_mean.specs.ModelledCalls.{Exchange}
+use Rattle.choice_rules.specs.Seen.{Waiter}
+use Rattle.choice_rules.specs.Readiness as rules
+use Rattle.choice_rules.specs.Clock.{IsLeastOf}
 use Rattle.lawful_log.specs.Readiness as log
 use Rattle.lawful_log.specs.Readiness.{is_ready, any_ready, waking_times}
-use Rattle.lawful_log.specs.Setup.{Setup}
-use Rattle.lawful_log.specs.State.{Waiter, State}
+use Rattle.lawful_log.specs.Setup.{Setup, setting_of}
+use Rattle.lawful_log.specs.State.{State}
 use Rattle.machine_world.specs.Numbered.{IsNumbered}
+use Rattle.machine_world.specs.Runs.{advanced, may_run}
 use Rattle.machine_world.specs.StandsForWorld.{StandsForWorld, StandsForRest}
 use Rattle.machine_world.specs.Threads.{Thread, World, first_with, thread_of}
 use Rattle.lawful_log.specs.Good.{checked_of}
-use Rattle.lawful_steps.specs.Tests.{later_wake, may_go}
+use Rattle.lawful_steps.specs.Tests.{later_wake}
 use Rattle.lawful_steps.specs.Waiting.{IsWaiting, AreWaiting}
 use Rattle.lawful_steps.proofs.Any.{any_found, waiter_of}
 use Rattle.lawful_steps.proofs.Clocks.{gives_contains, gives_none, gives_above, all_index, is_time, later_is, contains_later, contains_head, contains_tail, contains_none}
@@ -96,24 +100,25 @@ module _ (w : World) (waiting : List Waiter) (numbered : IsNumbered w) (between 
 -- ---- in a state where no thread is ready
 
 fits_state : (g : Setup) (state : State) (clock : ℕ) (x : Waiter) → StandsForWorld (checked_of g) g.program state.machine state.source → (v : IsWaiting state.machine x) → is_ready g state clock x ≡ false →
-    (u : IsWaiting state.machine x) × (log.wakes x.since (log.rest_of state x.thread) ≡ later_wake clock u.thread.blocked)
+    (u : IsWaiting state.machine x) × (rules.wakes x.since (log.rest_of state x.thread) ≡ later_wake clock u.thread.blocked)
 fits_state g state clock x stands v unready =
     let rest : StandsForRest (checked_of g) g.program state.machine.areas.pool (Some v.thread) (log.rest_of state x.thread) =
     subst (λ (o : Option Thread). StandsForRest (checked_of g) g.program state.machine.areas.pool o (log.rest_of state x.thread)) v.live (stands.threads x.thread) in
     let alike = alike_rest (checked_of g) g.program state.machine.areas.pool v.thread x.since (log.rest_of state x.thread) rest v.since in
-    let waits_still : may_go g.policy.caps state.source.exchange clock v.thread.blocked ≡ false =
-    ready_alike g.policy.caps state.source.exchange clock v.thread.blocked x.since (log.rest_of state x.thread) alike ∙ unready in
-    (v, sym (wakes_alike v.thread.blocked x.since (log.rest_of state x.thread) alike) ∙ sym (later_is g.policy.caps state.source.exchange clock v.thread.blocked waits_still))
+    let waits_still : may_run (setting_of g) (advanced state.machine clock) v.thread.blocked ≡ false =
+    ready_alike (setting_of g) (advanced state.machine clock) v.thread.blocked x.since (log.rest_of state x.thread) alike
+    ∙ ap (λ (e : Exchange). rules.is_ready_at g.policy.caps e clock x.since (log.rest_of state x.thread)) stands.exchange ∙ unready in
+    (v, sym (wakes_alike v.thread.blocked x.since (log.rest_of state x.thread) alike) ∙ sym (later_is (setting_of g) (advanced state.machine clock) v.thread.blocked waits_still))
 
 module _ (g : Setup) (state : State) (clock : ℕ) (numbered : IsNumbered state.machine) (stands : StandsForWorld (checked_of g) g.program state.machine state.source) (are : AreWaiting state.machine state.waiting)
     (unready : any_ready g state clock ≡ false) where
-  fitting : AllByRecursion (λ x. (v : IsWaiting state.machine x) × (log.wakes x.since (log.rest_of state x.thread) ≡ later_wake clock v.thread.blocked)) state.waiting
-  fitting = zipped (IsWaiting state.machine) (λ x. is_ready g state clock x ≡ false) (λ x. (v : IsWaiting state.machine x) × (log.wakes x.since (log.rest_of state x.thread) ≡ later_wake clock v.thread.blocked))
+  fitting : AllByRecursion (λ x. (v : IsWaiting state.machine x) × (rules.wakes x.since (log.rest_of state x.thread) ≡ later_wake clock v.thread.blocked)) state.waiting
+  fitting = zipped (IsWaiting state.machine) (λ x. is_ready g state clock x ≡ false) (λ x. (v : IsWaiting state.machine x) × (rules.wakes x.since (log.rest_of state x.thread) ≡ later_wake clock v.thread.blocked))
       (λ x v e. fits_state g state clock x stands v e) state.waiting are.each (all_false (is_ready g state clock) state.waiting unready)
 
   pub none_wakes : All (λ thread. later_wake clock thread.blocked ≡ None) state.machine.threads → waking_times state ≡ []
-  none_wakes all = none_sleeps state.machine state.waiting numbered stands.between are clock (λ x. log.wakes x.since (log.rest_of state x.thread)) fitting all
+  none_wakes all = none_sleeps state.machine state.waiting numbered stands.between are clock (λ x. rules.wakes x.since (log.rest_of state x.thread)) fitting all
 
   pub least_wakes : (time : ℕ) → Contains (map (λ thread. later_wake clock thread.blocked) state.machine.threads) (Some time) →
       ((other : ℕ) → Contains (map (λ thread. later_wake clock thread.blocked) state.machine.threads) (Some other) → time ≤ other) → IsLeastOf (waking_times state) time
-  least_wakes time one least = least_sleeps state.machine state.waiting numbered stands.between are clock (λ x. log.wakes x.since (log.rest_of state x.thread)) fitting time one least
+  least_wakes time one least = least_sleeps state.machine state.waiting numbered stands.between are clock (λ x. rules.wakes x.since (log.rest_of state x.thread)) fitting time one least

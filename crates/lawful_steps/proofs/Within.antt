@@ -9,10 +9,11 @@ use Rattle.cap_word.specs.declared.calls.Block.{Block}
 use Rattle.cap_word.specs.declared.stops.Stop.{Stop}
 use Rattle.c_mean.specs.Frames.{Waiting, key_of}
 use Rattle.c_mean.specs.World as source
+use Rattle.choice_rules.specs.Seen.{newcomers, end_node, Waiter}
 use Rattle.lawful_log.specs.Good.{checked_of}
-use Rattle.lawful_log.specs.Segments.{quiet_world, after_quiet, HasRun, IsOut, IsBlock, IsEnd, rested, newcomers, end_node}
+use Rattle.lawful_log.specs.Segments.{quiet_world, after_quiet, HasRun, IsOut, IsBlock, IsEnd, rested}
 use Rattle.lawful_log.specs.Setup.{Setup, setting_of}
-use Rattle.lawful_log.specs.State.{Waiter, Segment, State}
+use Rattle.lawful_log.specs.State.{Segment, State}
 use Rattle.lawful_log.specs.Stops.{IsCutBy, IsStopped}
 use Rattle.machine_world.specs.Alone.{KeepsThread}
 use Rattle.machine_world.specs.Numbered.{IsNumbered}
@@ -23,7 +24,7 @@ use Rattle.machine_world.specs.WellFormed.{IsWellFormed, KeepsWellFormed}
 use Rattle.machine_world.proofs.FormWorlds.{KeepsWellFormed-step}
 use Rattle.machine_world.proofs.OtherThreads.{KeepsThread-step}
 use Rattle.lawful_steps.specs.Waiting.{AreWaiting, IsWaiting}
-use Rattle.lawful_steps.specs.Within.{IsWithin, newcomers_to}
+use Rattle.lawful_steps.specs.Within.{IsWithin}
 use Rattle.lawful_steps.proofs.Counts.{Counts, Retires, StartsOne, IsOver, counts_step}
 use Rattle.lawful_steps.proofs.Kept.{all_kept, waiting_on, waiting_started, waiting_blocked, waiting_ended}
 use Rattle.lawful_steps.proofs.Own.{found_below, LeavesOwn, StandsFresh, StandsBlocked, IsBlockedSince, own_step}
@@ -56,7 +57,7 @@ runs_live s w number e wrong = live_running s w number w.running e wrong
 
 -- ---- newcomers
 
-none_more : (old : source.World) (next : ℕ) → length old.threads ≤ next → newcomers_to old (next + 1) ≡ newcomers_to old next ++ record { thread = next; node = 0; since = 0 } ∷ []
+none_more : (old : source.World) (next : ℕ) → length old.threads ≤ next → newcomers old (next + 1) ≡ newcomers old next ++ record { thread = next; node = 0; since = 0 } ∷ []
 none_more old next h =
     let f : ℕ → Waiter = λ thread. record { thread = thread; node = 0; since = 0 } in
     let count : next + 1 - length old.threads ≡ next - length old.threads + 1 = omega arith in
@@ -87,7 +88,7 @@ module _ (g : Setup) (state : State) (segment : Segment) (begun : ℕ) (here : W
         formed = formed;
         running = counts.running ∙ is.running;
         started = let more = counts.next in let before = is.started in omega arith;
-        waiting_is = is.waiting_is ∙ ap (λ (n : ℕ). state.waiting ++ newcomers_to state.source n) (sym counts.next);
+        waiting_is = is.waiting_is ∙ ap (λ (n : ℕ). state.waiting ++ newcomers state.source n) (sym counts.next);
         threads = waiting_on here after numbered formed.counted.numbered kept waiting counts.next counts.running is.threads;
       }
 
@@ -108,10 +109,10 @@ module _ (g : Setup) (state : State) (segment : Segment) (begun : ℕ) (here : W
         started = let more = counts.next in let before = is.started in omega arith;
         waiting_is =
             ap (λ (l : List Waiter). l ++ record { thread = number; node = 0; since = 0 } ∷ []) is.waiting_is
-            ∙ append_assoc state.waiting (newcomers_to state.source here.next) (record { thread = number; node = 0; since = 0 } ∷ [])
-            ∙ ap (λ (n : ℕ). state.waiting ++ (newcomers_to state.source here.next ++ record { thread = n; node = 0; since = 0 } ∷ [])) counts.number_is
+            ∙ append_assoc state.waiting (newcomers state.source here.next) (record { thread = number; node = 0; since = 0 } ∷ [])
+            ∙ ap (λ (n : ℕ). state.waiting ++ (newcomers state.source here.next ++ record { thread = n; node = 0; since = 0 } ∷ [])) counts.number_is
             ∙ ap (λ (l : List Waiter). state.waiting ++ l) (sym (none_more state.source here.next is.started))
-            ∙ ap (λ (n : ℕ). state.waiting ++ newcomers_to state.source n) (sym counts.next);
+            ∙ ap (λ (n : ℕ). state.waiting ++ newcomers state.source n) (sym counts.next);
         threads = waiting_started here after numbered formed.counted.numbered kept waiting number counts fresh
             (running_below (Spawns number after) e (λ wrong. absurd (cc))) is.threads;
       }
@@ -152,7 +153,7 @@ module _ (g : Setup) (state : State) (segment : Segment) (begun : ℕ) (here : W
         formed = formed;
         running = counts.running ∙ is.running;
         started = let more = counts.next in let before = is.started in omega arith;
-        waiting_is = is.waiting_is ∙ ap (λ (n : ℕ). state.waiting ++ newcomers_to state.source n) (sym counts.next);
+        waiting_is = is.waiting_is ∙ ap (λ (n : ℕ). state.waiting ++ newcomers state.source n) (sym counts.next);
         threads = waiting_on here after numbered formed.counted.numbered kept waiting counts.next counts.running is.threads;
       }
 
@@ -170,10 +171,10 @@ module _ (g : Setup) (state : State) (segment : Segment) (begun : ℕ) (here : W
   pub over_end : (after : World) → step (setting_of g) here ≡ Ends after → IsOver here after
   over_end after e = subst (Counts here) e (counts_step (setting_of g) here)
 
-  newcomers_are : (after : World) (world : source.World) → IsOver here after → StandsForWorld (checked_of g) g.program after world → newcomers_to state.source here.next ≡ newcomers state.source world
+  newcomers_are : (after : World) (world : source.World) → IsOver here after → StandsForWorld (checked_of g) g.program after world → newcomers state.source here.next ≡ newcomers state.source (length world.threads)
   newcomers_are after world over stands =
       let next : here.next ≡ length world.threads = sym over.next ∙ stands.next in
-      ap (λ (n : ℕ). newcomers_to state.source n) next
+      ap (λ (n : ℕ). newcomers state.source n) next
 
   -- where the thread that has blocked rests
   pub record RestsBlocked (after : World) (world : source.World) : Type 0 where
@@ -238,9 +239,9 @@ module _ (g : Setup) (state : State) (segment : Segment) (begun : ℕ) (here : W
       let last : List Waiter = record { thread = segment.thread; node = node; since = after.clock } ∷ [] in
       let all : AreWaiting after (waiting ++ last) = waiting_blocked here after numbered formed.counted.numbered kept segment.thread is.running over waiting node own is.threads in
       subst (AreWaiting after)
-      (ap (λ (l : List Waiter). l ++ last) is.waiting_is ∙ append_assoc state.waiting (newcomers_to state.source here.next) last
+      (ap (λ (l : List Waiter). l ++ last) is.waiting_is ∙ append_assoc state.waiting (newcomers state.source here.next) last
       ∙ ap (λ (l : List Waiter). state.waiting ++ (l ++ last)) (newcomers_are after world over stands)
-      ∙ sym (append_assoc state.waiting (newcomers state.source world) last)) all
+      ∙ sym (append_assoc state.waiting (newcomers state.source (length world.threads)) last)) all
 
   abbrev pub ended_state : World → source.World → State
   ended_state after world = rested state segment end_node cost_of after world [] state.past.keys
@@ -282,7 +283,7 @@ module _ (g : Setup) (state : State) (segment : Segment) (begun : ℕ) (here : W
       let all : AreWaiting after waiting = waiting_ended here after numbered formed.counted.numbered kept segment.thread is.running over waiting gone is.threads in
       subst (AreWaiting after)
       (is.waiting_is ∙ ap (λ (l : List Waiter). state.waiting ++ l) (newcomers_are after world over stands)
-      ∙ sym (append-nil (state.waiting ++ newcomers state.source world))) all
+      ∙ sym (append-nil (state.waiting ++ newcomers state.source (length world.threads)))) all
 
   pub formed_after_block : (after : World) → step (setting_of g) here ≡ Blocks after → IsWellFormed (checked_of g) (setting_of g) after
   formed_after_block after e = subst (KeepsWellFormed (checked_of g) (setting_of g)) e (KeepsWellFormed-step (checked_of g) (setting_of g) here is.formed)

@@ -2,9 +2,11 @@
 use Rattle.std.specs.Prelude.{◌≡◌, ℕ, List, Option, None, Some}
 use Rattle.blocking_graph.specs.Edges.{edges_of}
 use Rattle.blocking_graph.specs.Graph.{GraphState}
-use Rattle.lawful_log.specs.Setup.{Setup, all_caps}
-use Rattle.lawful_log.specs.State.{Waiter, Past, State}
-use Rattle.lawful_log.specs.Choice.{last_choice, IsLawful}
+use Rattle.choice_rules.specs.Policy.{all_caps}
+use Rattle.choice_rules.specs.Seen.{Waiter, Past, last_choice}
+use Rattle.lawful_log.specs.Setup.{Setup}
+use Rattle.lawful_log.specs.State.{State}
+use Rattle.lawful_log.specs.Choice.{IsLawful}
 use Rattle.lawful_steps.specs.Waiting.{IsWaiting, IsPlaced}
 use Rattle.resource_monitor.specs.Monitor.{MonitorState}
 use Rattle.scheduler.specs.State.{SchedulerState, last_of}

@@ -1,10 +1,10 @@
 -- The clock of a run at a choice point, which may have moved since the last entry.
 use Rattle.std.specs.Prelude.{◌≡◌, ℕ, Bool, false, ◌||◌, ◌++◌, ◌⊎◌, Option, Some, None, List, []}
 use Rattle.event_trace.specs.declared.events.Event.{Event}
+use Rattle.choice_rules.specs.Clock.{is_due, event_times, IsLeastOf}
 use Rattle.lawful_log.specs.Setup.{Setup}
 use Rattle.lawful_log.specs.State.{State}
 use Rattle.lawful_log.specs.Readiness.{any_ready, waking_times}
-use Rattle.lawful_log.specs.Clock.{is_due, event_times, IsLeastOf}
 
 -- something goes on at a clock: the next event is due, or a thread is ready
 abbrev pub goes_on : Setup → State → Option Event → ℕ → Bool

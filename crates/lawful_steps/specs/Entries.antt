@@ -6,14 +6,16 @@ use Rattle.cap_word.specs.declared.calls.Block.{Block}
 use Rattle.c_mean.specs.Frames.{Waiting, key_of}
 use Rattle.c_mean.specs.World as source
 use Rattle.event_trace.specs.declared.events.Event.{Event}
+use Rattle.choice_rules.specs.Trace.{IsNext}
+use Rattle.choice_rules.specs.Seen.{Waiter}
+use Rattle.choice_rules.specs.Clock.{is_due}
+use Rattle.choice_rules.specs.Deliveries.{delivery_of, item_of}
 use Rattle.lawful_log.specs.Choice.{IsRun}
-use Rattle.lawful_log.specs.Clock.{is_due}
-use Rattle.lawful_log.specs.Deliveries.{IsComing, delivery_of, item_of}
+use Rattle.lawful_log.specs.Deliveries.{IsComing}
 use Rattle.lawful_log.specs.Good.{checked_of}
 use Rattle.lawful_log.specs.Segments.{IsOut, IsBlock, IsEnd}
 use Rattle.lawful_log.specs.Setup.{Setup, setting_of}
-use Rattle.lawful_log.specs.State.{Waiter, Segment, State}
-use Rattle.lawful_log.specs.Trace.{IsNext}
+use Rattle.lawful_log.specs.State.{Segment, State}
 use Rattle.machine_world.specs.Runs.{delivered}
 use Rattle.machine_world.specs.StandsForWorld.{IsBlockedAt}
 use Rattle.machine_world.specs.Threads.{Thread, World, thread_of}

@@ -2,7 +2,7 @@
 use Rattle.std.specs.Prelude.{◌≡◌, ◌≢◌, ℕ, Bool, true, false, IsSome, List, [], ◌∷◌, Option, Some, None, filter, nat_eq, slice_index_or}
 use Rattle.std.specs.List.{AllByRecursion, list_any}
 use Rattle.cap_word.specs.declared.threads.ThreadId.{ThreadId}
-use Rattle.lawful_log.specs.State.{Waiter}
+use Rattle.choice_rules.specs.Seen.{Waiter}
 use Rattle.machine_world.specs.Threads.{Blocked, Thread, World, thread_of}
 use Rattle.scheduler.specs.State.{SchedulerState, queue_of}
 

@@ -1,12 +1,11 @@
 -- A run between segments and within one, beside the state of its log.
-use Rattle.std.specs.Prelude.{◌≡◌, ℕ, ◌+◌, ◌-◌, ◌≤◌, List, ◌++◌, length, map, Option, Some, None}
-use Rattle.std.specs.List.{range_with_len}
-use Rattle.c_mean.specs.World as source
+use Rattle.std.specs.Prelude.{◌≡◌, ℕ, ◌+◌, ◌≤◌, List, ◌++◌, length, Option, Some, None}
 use Rattle.event_trace.specs.declared.events.Event.{Event}
+use Rattle.choice_rules.specs.Seen.{Waiter, newcomers}
 use Rattle.lawful_log.specs.Good.{checked_of}
 use Rattle.lawful_log.specs.Segments.{after_quiet}
 use Rattle.lawful_log.specs.Setup.{Setup, setting_of}
-use Rattle.lawful_log.specs.State.{Waiter, Segment, State}
+use Rattle.lawful_log.specs.State.{Segment, State}
 use Rattle.machine_world.specs.Runs.{advanced}
 use Rattle.machine_world.specs.StandsForWorld.{StandsForWorld}
 use Rattle.machine_world.specs.Threads.{World}
@@ -25,10 +24,6 @@ pub record IsBetween (g : Setup) (state : State) (known : Option (Option Event))
   pub later : state.machine.clock ≤ machine.clock
   pub clock_is : IsClockOf g state known machine.clock
 
--- the threads from those of a source world on up to a number, which wait at node 0
-abbrev pub newcomers_to : source.World → ℕ → List Waiter
-newcomers_to old next = map (λ thread. record { thread = thread; node = 0; since = 0 }) (range_with_len (length old.threads) (next - length old.threads))
-
 -- within a segment, which began when so many instructions had retired: some steps without an entry lead to the machine now
 pub record IsWithin (g : Setup) (state : State) (segment : Segment) (begun : ℕ) (here : World) (waiting : List Waiter) : Type 0 where
   pub under_way : state.segment ≡ Some segment
@@ -39,5 +34,5 @@ pub record IsWithin (g : Setup) (state : State) (segment : Segment) (begun : ℕ
   pub formed : IsWellFormed (checked_of g) (setting_of g) here
   pub running : here.running ≡ Some segment.thread
   pub started : length state.source.threads ≤ here.next
-  pub waiting_is : waiting ≡ state.waiting ++ newcomers_to state.source here.next
+  pub waiting_is : waiting ≡ state.waiting ++ newcomers state.source here.next
   pub threads : AreWaiting here waiting

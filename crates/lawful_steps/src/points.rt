@@ -1,11 +1,12 @@
 ghost use Rattle.std.specs.Prelude.{◌≡◌, ◌≤◌, ◌++◌, false, true, List, Option, None, Some, ℕ};
+ghost use Rattle.choice_rules.specs.Clock.{IsLeastOf, event_times};
+ghost use Rattle.choice_rules.specs.Deliveries.{delivery_of};
+ghost use Rattle.choice_rules.specs.Seen.{Waiter};
 ghost use Rattle.event_trace.specs.declared.events.Event.{Event};
 ghost use Rattle.lawful_log.specs.Choice.{IsLawful};
-ghost use Rattle.lawful_log.specs.Clock.{IsLeastOf, event_times};
-ghost use Rattle.lawful_log.specs.Deliveries.{delivery_of};
 ghost use Rattle.lawful_log.specs.Readiness.{any_ready, waking_times};
 ghost use Rattle.lawful_log.specs.Setup.{Setup, setting_of};
-ghost use Rattle.lawful_log.specs.State.{State, Waiter};
+ghost use Rattle.lawful_log.specs.State.{State};
 ghost use Rattle.lawful_steps.specs.Clocks.{goes_on};
 ghost use Rattle.lawful_steps.specs.Entries.{ComesHere, RunsHere};
 ghost use Rattle.lawful_steps.specs.Within.{IsBetween};

@@ -3,10 +3,13 @@ use Rattle.std.proofs.Common.{◌≡◌, ◌≢◌, ℕ, ◌&&◌, ◌||◌, ◌
 use Rattle.std.specs.Prelude.{IsSome, IsTrue, filter}
 use Rattle.std.specs.List.{AllByRecursion, list_any}
 use Rattle.std.proofs.lemmas.Bool.{cases_eq, cond-true, cond-false, eq-eqb, eqb-true}
-use Rattle.lawful_log.specs.Choice.{IsLawful, is_eligible, is_open, score_of, last_choice}
+use Rattle.choice_rules.specs.Policy.{Rule, by_graph}
+use Rattle.choice_rules.specs.Seen.{last_choice, Waiter}
+use Rattle.choice_rules.proofs.Rules.{lawful_by_graph}
+use Rattle.lawful_log.specs.Choice.{IsLawful, is_eligible, is_open, score_of}
 use Rattle.lawful_log.specs.Readiness.{is_ready, at_accept, any_ready, any_elsewhere}
 use Rattle.lawful_log.specs.Setup.{Setup}
-use Rattle.lawful_log.specs.State.{Waiter, State}
+use Rattle.lawful_log.specs.State.{State, seen_of}
 use Rattle.scheduler.specs.Scores.{comes_before}
 use Rattle.scheduler.proofs.OrderLemmas.{comes_before-asym, comes_before-total, comes_before-cotrans}
 use Rattle.lawful_steps.proofs.Lists.{either, left_true, right_true, not_both}
@@ -160,21 +163,27 @@ module _ (g : Setup) (state : State) (clock : ℕ) where
   behind_by node other o apart is (inl same) = absurd (apart (sym is ∙ same))
   behind_by node other o apart is (inr later) = subst (λ (n : ℕ). comes node n ≡ true) is later
 
-  pub lawful_choice : (P : Waiter → Type 0) → AllByRecursion P state.waiting → any_ready g state clock ≡ true → Chosen P
-  lawful_choice P all ready =
+  graph_choice : (P : Waiter → Type 0) → g.policy.rule ≡ by_graph → AllByRecursion P state.waiting → any_ready g state clock ≡ true → Chosen P
+  graph_choice P rule_is all ready =
       let b = best_of state.waiting (some_eligible ready) in
       let found = is_some (find test (at state.waiting b.best.node)) b.there in
       let first = first_of P test b.best.node state.waiting found.0 all found.1 in
       record {
         waiter = found.0;
-        lawful = record {
+        lawful = lawful_by_graph g.policy (seen_of state) clock found.0 rule_is (record {
           first = subst (λ (n : ℕ). find test (at state.waiting n) ≡ Some found.0) (sym first.node_is) found.1;
           least = λ other apart some.
               let o = is_some (find test (at state.waiting other)) some in
               let theirs = first_of (IsBehind b.best.node) test other state.waiting o.0 b.behind o.1 in
               subst (λ (n : ℕ). IsTrue (comes n other)) (sym first.node_is)
               (behind_by b.best.node other o.0 (λ same. apart (same ∙ sym first.node_is)) theirs.node_is (theirs.holds theirs.passes));
-        };
+        });
         ready = left_of (is_ready g state clock found.0) _ first.passes;
         holds = first.holds;
       }
+
+  choice_by : (rule : Rule) → g.policy.rule ≡ rule → (P : Waiter → Type 0) → AllByRecursion P state.waiting → any_ready g state clock ≡ true → Chosen P
+  choice_by by_graph e P all ready = graph_choice P e all ready
+
+  pub lawful_choice : (P : Waiter → Type 0) → AllByRecursion P state.waiting → any_ready g state clock ≡ true → Chosen P
+  lawful_choice P all ready = choice_by g.policy.rule refl P all ready

@@ -7,7 +7,7 @@ use Rattle.event_trace.specs.declared.events.Event.{Event}
 use Rattle.event_trace.specs.declared.events.EventKind.{EventKind}
 use Rattle.event_trace.specs.declared.events.EventKind.TheVariants.{Arrive, Message}
 use Rattle.event_trace.proofs.LineTexts.{event_unique}
-use Rattle.lawful_log.specs.Trace.{Trace, IsNext, IsRefused}
+use Rattle.choice_rules.specs.Trace.{Trace, IsNext, IsRefused}
 
 -- ---- searches
 

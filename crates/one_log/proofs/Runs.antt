@@ -1,7 +1,8 @@
 -- A run from any state comes to a stop: fuel bounds the steps of its segments, and the trace what comes.
 use Rattle.std.proofs.Common.{◌≡◌, ◌≢◌, ℕ, zero, suc, ◌+◌, ◌<◌, ◌≤◌, ◌&&◌, ◌||◌, Bool, true, false, List, [], ◌∷◌, length, Option, Some, None, refl, sym, ap, ◌∙◌, subst, arith}
-use Rattle.std.specs.Prelude.{IsSome, slice_get, is_none, nat_le, if◌then◌else◌}
+use Rattle.std.specs.Prelude.{IsSome, slice_get, is_none, is_some, nat_le, if◌then◌else◌}
 use Rattle.std.proofs.lemmas.Bool.Decides.{nat_tests}
+use Rattle.std.proofs.lemmas.List.{nil_from_length}
 use Rattle.blocking_graph.specs.Nodes.{node_number}
 use Rattle.cap_word.specs.Word.{signed}
 use Rattle.cap_word.specs.declared.stops.Stop.{Stop}
@@ -14,18 +15,21 @@ use Rattle.event_trace.specs.Lines.{FitsKind}
 use Rattle.event_trace.specs.declared.events.Event.{Event}
 use Rattle.event_trace.specs.declared.events.EventKind.{EventKind}
 use Rattle.event_trace.specs.declared.events.EventKind.TheVariants.{Arrive, Message}
-use Rattle.lawful_log.specs.Clock.{is_due, event_times}
-use Rattle.lawful_log.specs.Deliveries.{delivery_of, item_of, IsComing}
+use Rattle.choice_rules.specs.Trace.{IsNext}
+use Rattle.choice_rules.specs.Seen.{Waiter}
+use Rattle.choice_rules.specs.Clock.{is_due, event_times}
+use Rattle.choice_rules.specs.Stops.{IsDone, IsBadTrace, IsIdle}
+use Rattle.choice_rules.specs.Deliveries.{delivery_of, item_of}
+use Rattle.lawful_log.specs.Deliveries.{IsComing}
 use Rattle.lawful_log.specs.Good.{checked_of}
 use Rattle.lawful_log.specs.Lawful.{IsAllowed, Leads, nowhere, by_entry}
 use Rattle.lawful_log.specs.Readiness.{any_ready}
 use Rattle.lawful_log.specs.Segments.{HasRun}
 use Rattle.lawful_log.specs.Setup.{Setup, setting_of}
-use Rattle.lawful_log.specs.State.{Waiter, Segment, State}
+use Rattle.lawful_log.specs.State.{Segment, State, seen_of}
 use Rattle.lawful_log.specs.Stops.{IsCutBy, IsStop}
-use Rattle.lawful_log.specs.Trace.{IsNext}
 use Rattle.machine_world.specs.Runs.{Deliver, Advance, Pick, delivered, advanced, after_action, may_run, picked_at, picked}
-use Rattle.machine_world.specs.Threads.{Blocked, Thread, World, Setting, Move, Goes, Puts, Spawns, Blocks, Ends, Stops, Wrong, step, thread_of}
+use Rattle.machine_world.specs.Threads.{Thread, World, Setting, Move, Goes, Puts, Spawns, Blocks, Ends, Stops, Wrong, step, thread_of}
 use Rattle.machine_world.specs.WellFormed.{IsWellFormed, IsWellFormedIf, DeliversWords}
 use Rattle.machine_world.proofs.FormWorlds.{IsWellFormedIf-action}
 use Rattle.schedule_log.specs.declared.entries.Entry.{Entry}
@@ -36,7 +40,6 @@ use Rattle.world_source.specs.UnderWay.{IsSettled, StandsSettled}
 use Rattle.world_source.proofs.Between.{delivered_law, advanced_law}
 use Rattle.world_source.proofs.Laws as laws
 use Rattle.lawful_steps.specs.Clocks.{goes_on}
-use Rattle.lawful_steps.specs.Tests.{may_go}
 use Rattle.lawful_steps.specs.Waiting.{IsWaiting}
 use Rattle.lawful_steps.specs.Within.{IsBetween, IsWithin}
 use Rattle.lawful_steps.proofs.Between.{between_after, between_read, between_moved, come_state, coming, between_came, run_state, run_segment, run_allowed, within_run}
@@ -187,7 +190,13 @@ module _ (g : Setup) (scoped : IsWellScoped g.program) (valid : IsValid (lowered
     stands : StandsSettled (checked_of g) g.program state.machine state.source
     stands = record { stands = b.is.stands; settled = b.settled }
 
+    no_segment : is_some state.segment ≡ false
+    no_segment = ap (λ (o : Option Segment). is_some o) b.is.between
+
     module _ (live : state.machine.threads ≢ []) where
+      some_live : length state.machine.threads ≢ 0
+      some_live e = live (nil_from_length state.machine.threads e)
+
       -- at a clock at which something goes on
       module _ (next : Option Event) (good : IsNext state.trace next) (time : ℕ) (later : state.machine.clock ≤ time) (is : IsBetween g state (Some next) (advanced state.machine time)) where
         abbrev machine : World
@@ -234,16 +243,12 @@ module _ (g : Setup) (scoped : IsWellScoped g.program) (valid : IsValid (lowered
             entered (is_dropped g.policy.backlog state.source.exchange (delivery_of event.kind)) (item_of event.kind) new (coming g state event machine mine words live its due_now) rest
 
         -- a thread is ready
-        may : (o : Option Blocked) → may_go g.policy.caps state.machine.exchange time o ≡ true → may_run s machine o ≡ true
-        may None e = refl
-        may (Some blocked) e = e
-
         runs : is_due next time ≡ false → any_ready g state time ≡ true → Rest state
         runs due ready =
             let chosen = lawful_choice g state time (IsWaiting state.machine) b.is.threads.each ready in
             let thread = chosen.holds.thread in
             let after = picked_at s machine thread thread.blocked in
-            let able : may_run s machine thread.blocked ≡ true = may thread.blocked (ready_same g state time b.is.stands chosen.waiter chosen.holds ∙ chosen.ready) in
+            let able : may_run s machine thread.blocked ≡ true = ready_same g state time b.is.stands chosen.waiter chosen.holds ∙ chosen.ready in
             let picks : after_action s machine (Pick chosen.waiter.thread) ≡ Some after =
             ap (λ (o : Option ℕ). if is_none o then picked s machine (thread_of state.machine chosen.waiter.thread) else None) b.is.stands.between
             ∙ ap (λ (o : Option Thread). picked s machine o) chosen.holds.live
@@ -282,14 +287,15 @@ module _ (g : Setup) (scoped : IsWellScoped g.program) (valid : IsValid (lowered
         unready stuck = (not_both (is_due next state.machine.clock) (any_ready g state state.machine.clock) stuck).1
 
         stuck_by : goes_on g state next state.machine.clock ≡ false → times.Goes g state state.machine.clock next → Rest state
-        stuck_by stuck (times.Nothing none asleep) = here state StopLine.Idle state.machine (record {
-          between = b.is.between;
-          live = live;
-          over = over_by next refl none;
-          none_ready = unready stuck;
-          none_sleeps = asleep;
-          machine_is = refl;
-        })
+        stuck_by stuck (times.Nothing none asleep) = here state StopLine.Idle state.machine (idle, refl) where
+          idle : IsIdle g.policy (seen_of state)
+          idle = record {
+            between = no_segment;
+            live = some_live;
+            over = over_by next refl none;
+            none_ready = unready stuck;
+            none_sleeps = asleep;
+          }
         stuck_by stuck (times.At time later least) =
             acts next good time later (between_moved g state state.machine next time here_now later stuck least) (moved_goes_on g state next time least.one)
 
@@ -303,10 +309,14 @@ module _ (g : Setup) (scoped : IsWellScoped g.program) (valid : IsValid (lowered
       by_next : Next state.trace → Rest state
       by_next (Over e) = at_line None e
       by_next (Line event is) = at_line (Some event) is
-      by_next (Refused number is) = here state (StopLine.Trace number) state.machine (record { between = b.is.between; live = live; refused = is; machine_is = refl })
+      by_next (Refused number is) = here state (StopLine.Trace number) state.machine (bad, refl) where
+        bad : IsBadTrace (seen_of state) number
+        bad = record { between = no_segment; live = some_live; refused = is }
 
     by_threads : (threads : List Thread) → state.machine.threads ≡ threads → Rest state
-    by_threads [] e = here state StopLine.Done state.machine (record { between = b.is.between; nobody = e; machine_is = refl })
+    by_threads [] e = here state StopLine.Done state.machine (done, refl) where
+      done : IsDone (seen_of state)
+      done = record { between = no_segment; nobody = ap (λ (ts : List Thread). length ts) e }
     by_threads (thread ∷ threads) e = by_next (λ none. let no : [] ≡ thread ∷ threads = sym none ∙ e in absurd (cc)) (next_of state.trace)
 
     between_goes_on : Rest state

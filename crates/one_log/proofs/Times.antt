@@ -8,7 +8,8 @@ use Rattle.c_mean.specs.ModelledCalls as table
 use Rattle.c_mean.specs.ModelledCalls.{Exchange, wakes_at, ticks_of}
 use Rattle.c_mean.specs.World.{Rest, Fresh, Blocked as Blocks, Ended}
 use Rattle.event_trace.specs.declared.events.Event.{Event}
-use Rattle.lawful_log.specs.Clock.{event_times, IsLeastOf}
+use Rattle.choice_rules.specs.Readiness as rules
+use Rattle.choice_rules.specs.Clock.{event_times, IsLeastOf}
 use Rattle.lawful_log.specs.Readiness as log
 use Rattle.lawful_log.specs.Readiness.{is_ready, any_ready, waking_times}
 use Rattle.lawful_log.specs.Setup.{Setup}
@@ -57,7 +58,7 @@ later_block caps x clock since (Block.Sleep ticks) t e w =
 later_block caps x clock since Block.Yield t e w = absurd (let no : None ≡ Some t = w in cc)
 later_block caps x clock since (Block.Take resource amount) t e w = absurd (let no : None ≡ Some t = w in cc)
 
-later_rest : (caps : List ℕ) (x : Exchange) (clock since : ℕ) (rest : Option Rest) (t : ℕ) → log.is_ready_at caps x clock since rest ≡ false → log.wakes since rest ≡ Some t → clock ≤ t
+later_rest : (caps : List ℕ) (x : Exchange) (clock since : ℕ) (rest : Option Rest) (t : ℕ) → rules.is_ready_at caps x clock since rest ≡ false → rules.wakes since rest ≡ Some t → clock ≤ t
 later_rest caps x clock since (Some (Fresh function arguments)) t e w = absurd (let no : None ≡ Some t = w in cc)
 later_rest caps x clock since (Some (Blocks block waiting)) t e w = later_block caps x clock since block t e w
 later_rest caps x clock since (Some Ended) t e w = absurd (let no : None ≡ Some t = w in cc)
@@ -65,8 +66,8 @@ later_rest caps x clock since None t e w = absurd (let no : None ≡ Some t = w 
 
 module _ (g : Setup) (state : State) (clock : ℕ) where
   sleepers_later : any_ready g state clock ≡ false → AllByRecursion (λ t. clock ≤ t) (waking_times state)
-  sleepers_later none = gives_above (λ w. log.wakes w.since (log.rest_of state w.thread)) clock state.waiting
-      (weakened (λ w. is_ready g state clock w ≡ false) (λ w. (t : ℕ) → log.wakes w.since (log.rest_of state w.thread) ≡ Some t → clock ≤ t)
+  sleepers_later none = gives_above (λ w. rules.wakes w.since (log.rest_of state w.thread)) clock state.waiting
+      (weakened (λ w. is_ready g state clock w ≡ false) (λ w. (t : ℕ) → rules.wakes w.since (log.rest_of state w.thread) ≡ Some t → clock ≤ t)
       (λ w e t wakes. later_rest g.policy.caps state.source.exchange clock w.since (log.rest_of state w.thread) t e wakes)
       state.waiting (all_false (is_ready g state clock) state.waiting none))
 

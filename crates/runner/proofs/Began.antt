@@ -4,13 +4,16 @@ use Rattle.std.proofs.lemmas.Bool.{cases_eq, cond-true, cond-false, eq-eqb, ne_e
 use Rattle.blocking_graph.specs.Edges.{edges_of}
 use Rattle.blocking_graph.specs.declared.edges.EdgeLine.{EdgeLine}
 use Rattle.event_trace.specs.declared.events.Event.{Event}
-use Rattle.lawful_log.specs.Choice.{IsRun, is_eligible as eligible_waiter, monitor_of, last_choice, queue_at}
-use Rattle.lawful_log.specs.Clock.{is_due}
+use Rattle.choice_rules.specs.Policy.{all_caps}
+use Rattle.choice_rules.specs.Trace.{IsNext}
+use Rattle.choice_rules.specs.Seen.{last_choice}
+use Rattle.choice_rules.specs.Clock.{is_due}
+use Rattle.choice_rules.proofs.Rules.{graph_choice_of}
+use Rattle.lawful_log.specs.Choice.{IsRun, is_eligible as eligible_waiter, monitor_of, queue_at}
 use Rattle.lawful_log.specs.Good.{checked_of}
 use Rattle.lawful_log.specs.Readiness.{any_ready, any_elsewhere}
-use Rattle.lawful_log.specs.Setup.{Setup, setting_of, all_caps}
-use Rattle.lawful_log.specs.State.{Segment, State, uses_of}
-use Rattle.lawful_log.specs.Trace.{IsNext}
+use Rattle.lawful_log.specs.Setup.{Setup, setting_of}
+use Rattle.lawful_log.specs.State.{Segment, State, seen_of, uses_of}
 use Rattle.lawful_steps.specs.Beside.{HasLasts, IsChosenAs, IsChosen}
 use Rattle.lawful_steps.specs.Waiting.{AreQueued}
 use Rattle.lawful_steps.specs.Within.{IsBetween, IsWithin}
@@ -76,7 +79,7 @@ module _ (g : Setup) (state : State) (k : Kept) (held : Held) (left : Option (Li
       (score (observed k.monitor uses) k.graph.edges) (last_of k.scheduler) o) (any_elsewhere_told g state held (Some next) between stands.of.setting) lawful)
 
   pub chosen_as : (o : Option Choice) → Lawful o → IsChosen g state held.machine.clock held.places o
-  chosen_as o lawful = choice_told g state held.machine.clock held.places k.scheduler (is_ready_in held) (is_at_accept_in held) (observed k.monitor uses) between.formed.counted.numbered between.stands between.threads stands.queued stands.past.lasts
+  chosen_as o lawful = choice_told g state held.machine.clock held.places k.scheduler (is_ready_in held) (is_at_accept_in held) (observed k.monitor uses) stands.of.rule between.formed.counted.numbered between.stands between.threads stands.queued stands.past.lasts
       (ready_told g state held (Some next) between stands.of.setting) (accept_told g state held (Some next) between stands.of.setting) monitor_is some_ready o (lawful_now o lawful)
 
   -- ---- its segment begins
@@ -115,7 +118,7 @@ module _ (g : Setup) (state : State) (k : Kept) (held : Held) (left : Option (Li
     queued_now : AreQueued held.places scheduler began_state.waiting
     queued_now = queued_left held.places k.scheduler scheduler choice state.waiting
         (is_eligible (is_ready_in held) (is_at_accept_in held) (any_elsewhere_in held) (observed k.monitor uses).is_open) (eligible_waiter g state held.machine.clock) chosen.waiter between.threads.once stands.queued noted lawful.first
-        (subst (λ (n : ℕ). find (eligible_waiter g state held.machine.clock) (queue_at state n) ≡ Some chosen.waiter) (sym chosen.node_is) chosen.lawful.first) chosen.thread_is
+        (subst (λ (n : ℕ). find (eligible_waiter g state held.machine.clock) (queue_at state n) ≡ Some chosen.waiter) (sym chosen.node_is) (graph_choice_of g.policy (seen_of state) held.machine.clock chosen.waiter stands.of.rule chosen.lawful).first) chosen.thread_is
 
     lasts_now : HasLasts scheduler began_state.past
     lasts_now node = ⊎_elim

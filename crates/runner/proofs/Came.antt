@@ -7,13 +7,15 @@ use Rattle.c_mean.specs.World as source
 use Rattle.event_trace.specs.declared.events.Event.{Event}
 use Rattle.event_trace.specs.declared.events.EventKind.{EventKind}
 use Rattle.event_trace.specs.Lines.{FitsKind, FitsEvent}
-use Rattle.lawful_log.specs.Deliveries.{IsComing, delivery_of, item_of, received}
+use Rattle.choice_rules.specs.Policy.{all_caps}
+use Rattle.choice_rules.specs.Trace.{IsNext, behind}
+use Rattle.choice_rules.specs.Deliveries.{delivery_of, item_of, received}
+use Rattle.lawful_log.specs.Deliveries.{IsComing}
 use Rattle.lawful_log.specs.Good.{checked_of}
 use Rattle.machine_world.specs.Places.{Checked}
 use Rattle.world_source.specs.UnderWay.{IsSettled}
-use Rattle.lawful_log.specs.Setup.{Setup, setting_of, all_caps}
+use Rattle.lawful_log.specs.Setup.{Setup}
 use Rattle.lawful_log.specs.State.{State, uses_of}
-use Rattle.lawful_log.specs.Trace.{IsNext, behind}
 use Rattle.lawful_steps.proofs.Between.{come_state, drops, came, coming, between_came}
 use Rattle.lawful_steps.specs.Within.{IsBetween}
 use Rattle.machine_world.specs.Runs.{Deliver, delivered}
@@ -21,7 +23,6 @@ use Rattle.machine_world.specs.Threads.{World, Setting}
 use Rattle.machine_world.specs.WellFormed.{DeliversWords}
 use Rattle.resource_monitor.specs.Gate.{gate_after}
 use Rattle.resource_monitor.specs.Pressure.{pressures}
-use Rattle.thread_core.specs.Making as making
 use Rattle.thread_core.specs.Making.{after_event}
 use Rattle.thread_core.specs.Worlds.{Held}
 use Rattle.runner.specs.declared.looking.Next.{Next}
@@ -29,10 +30,6 @@ use Rattle.runner.specs.Kept.{Kept, known}
 use Rattle.runner.specs.Stands.{IsTraceOf, FitsNext, HasPast, StandsBetween}
 use Rattle.runner.specs.Steps.{IsTold}
 use Rattle.runner.proofs.Times.{timely_delivered}
-
-pub same_delivery : (kind : EventKind) → making.delivery_of kind ≡ delivery_of kind
-same_delivery (EventKind.Arrive value) = refl
-same_delivery (EventKind.Message channel value) = refl
 
 words_of : (kind : EventKind) → FitsKind kind → DeliversWords (Deliver (delivery_of kind))
 words_of (EventKind.Arrive value) fits = fits
@@ -80,7 +77,7 @@ module _ (g : Setup) (state : State) (k : Kept) (held : Held) (left : Option (Li
   came_world = came g state event held.machine between words
 
   pub machine_is : (after_event held event.kind).machine ≡ came_world
-  machine_is = ap (λ (s : Setting). delivered s held.machine (making.delivery_of event.kind)) stands.of.setting ∙ ap (λ (d : Delivery). delivered (setting_of g) held.machine d) (same_delivery event.kind)
+  machine_is = ap (λ (s : Setting). delivered s held.machine (delivery_of event.kind)) stands.of.setting
 
   uses_same : uses_of came_state ≡ uses_of state
   uses_same =
@@ -112,10 +109,11 @@ module _ (g : Setup) (state : State) (k : Kept) (held : Held) (left : Option (Li
       setting = stands.of.setting;
       chunks = ap (λ (w : World). w.areas.pool.count) machine_is
           ∙ same_count (is_dropped g.policy.backlog held.machine.exchange (delivery_of event.kind)) held.machine (with_delivery held.machine.exchange (delivery_of event.kind)) ∙ stands.of.chunks;
+      rule = stands.of.rule;
       small = stands.of.small;
       scoped = stands.of.scoped;
       valid = stands.of.valid;
-      timely = timely_delivered held.setting held.machine (making.delivery_of event.kind) stands.of.timely;
+      timely = timely_delivered held.setting held.machine (delivery_of event.kind) stands.of.timely;
     };
     going = stands.going;
     between = subst (λ (w : World). IsBetween g came_state None w) (sym machine_is) (between_came g state event held.machine between words);

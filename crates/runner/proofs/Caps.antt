@@ -4,11 +4,12 @@ use Rattle.std.proofs.lemmas.Int.{ints}
 use Rattle.std.specs.Prelude.{slice_index, slice_index_or, ◌-ℤ◌, unsigned_abs, All}
 use Rattle.std.proofs.lemmas.Bool.{cond-false, ne_eqb}
 use Rattle.c_mean.specs.ModelledCalls.{cap_of, use_of}
-use Rattle.lawful_log.specs.Segments.{changes}
-use Rattle.lawful_log.specs.Setup.{Setup, all_caps}
+use Rattle.choice_rules.specs.Policy.{all_caps}
+use Rattle.choice_rules.specs.Seen.{changes, uses_in}
+use Rattle.lawful_log.specs.State.{held_chunks}
+use Rattle.lawful_log.specs.Setup.{Setup}
 use Rattle.machine_world.specs.Threads.{World, Setting}
 use Rattle.resource_monitor.specs.Monitor.{NoneAbove}
-use Rattle.runner.specs.Kept.{machine_uses}
 use Rattle.runner.specs.Recorded.{HasSmallCaps}
 use Rattle.runner.specs.Stands.{IsOf}
 use Rattle.thread_core.specs.Worlds.{Held, used_in, cap_in}
@@ -38,7 +39,7 @@ within_small held uses small within r below = let most = within r below in let c
 
 -- ---- uses
 
-used_is : (w : World) (r : ℕ) → used_in w r ≡ slice_index (machine_uses w) r
+used_is : (w : World) (r : ℕ) → used_in w r ≡ slice_index (uses_in (held_chunks w) w.exchange) r
 used_is w zero = refl
 used_is w (suc r) = cond-false (nat_eq (suc r) 0) (w.areas.pool.count - length w.areas.pool.free) (use_of w.exchange (suc r)) (ne_eqb (suc r) 0 (λ e. omega (arith, e))) ∙ sym (at_drop w.exchange.uses r)
 
@@ -56,14 +57,14 @@ same_lists (suc n) (a ∷ xs) (b ∷ ys) x y same =
 pub same_eight : (xs ys : List ℕ) → length xs ≡ 8 → length ys ≡ 8 → ((r : ℕ) → r < 8 → slice_index xs r ≡ slice_index ys r) → xs ≡ ys
 same_eight xs ys x y same = same_lists 8 xs ys x y same
 
-length_uses : (w : World) → length w.exchange.uses ≡ 8 → length (machine_uses w) ≡ 8
+length_uses : (w : World) → length w.exchange.uses ≡ 8 → length (uses_in (held_chunks w) w.exchange) ≡ 8
 length_uses w eight = by w.exchange.uses eight where
   by : (us : List ℕ) → length us ≡ 8 → suc (length (drop 1 us)) ≡ 8
   by [] e = absurd (omega (arith, e))
   by (u ∷ us) e = e
 
-pub uses_are : (w : World) (uses : List ℕ) → length uses ≡ 8 → length w.exchange.uses ≡ 8 → ((r : ℕ) → r < 8 → slice_index uses r ≡ used_in w r) → uses ≡ machine_uses w
-uses_are w uses eight there same = same_eight uses (machine_uses w) eight (length_uses w there) (λ r below. same r below ∙ used_is w r)
+pub uses_are : (w : World) (uses : List ℕ) → length uses ≡ 8 → length w.exchange.uses ≡ 8 → ((r : ℕ) → r < 8 → slice_index uses r ≡ used_in w r) → uses ≡ uses_in (held_chunks w) w.exchange
+uses_are w uses eight there same = same_eight uses (uses_in (held_chunks w) w.exchange) eight (length_uses w there) (λ r below. same r below ∙ used_is w r)
 
 -- ---- changes
 

@@ -5,10 +5,12 @@ use Rattle.cap_io.specs.Writes.{Puts}
 use Rattle.c_mean.specs.ModelledCalls.{Exchange}
 use Rattle.event_trace.specs.Reader.{ReaderState}
 use Rattle.event_trace.specs.declared.events.Event.{Event}
+use Rattle.choice_rules.specs.Policy.{all_caps}
+use Rattle.choice_rules.specs.Trace.{Trace, IsNext}
+use Rattle.choice_rules.specs.Seen.{uses_in}
 use Rattle.lawful_log.specs.Good.{checked_of}
-use Rattle.lawful_log.specs.Setup.{Setup, setting_of, all_caps}
-use Rattle.lawful_log.specs.State.{State, uses_of}
-use Rattle.lawful_log.specs.Trace.{Trace, IsNext}
+use Rattle.lawful_log.specs.Setup.{Setup, setting_of}
+use Rattle.lawful_log.specs.State.{State, uses_of, held_chunks}
 use Rattle.lawful_steps.proofs.Picked.{is_picked}
 use Rattle.machine_world.specs.Runs.{Pick, after_action}
 use Rattle.machine_world.specs.Threads.{World, Setting}
@@ -17,7 +19,7 @@ use Rattle.resource_monitor.specs.Monitor.{MonitorState, NoneAbove}
 use Rattle.runner.specs.declared.course.Under.{Under}
 use Rattle.runner.specs.declared.ends.Failure.{Failure}
 use Rattle.runner.specs.declared.looking.Next.{Next}
-use Rattle.runner.specs.Kept.{Kept, known, machine_uses}
+use Rattle.runner.specs.Kept.{Kept, known}
 use Rattle.runner.specs.Ranks.{turn_rank, under_rank, long_rank}
 use Rattle.runner.specs.Stands.{IsTraceOf, StandsBetween, StandsWithin, Stands, StepsAsSource, IsAtChoice}
 use Rattle.runner.specs.Steps.{IsTold, ActsTo, PartEnds}
@@ -94,8 +96,8 @@ module _ (g : Setup) (state : State) (k : Kept) (held : Held) (left : Option (Li
 
   -- ---- the uses
 
-  machine_same : machine_uses held.machine ≡ uses_of state
-  machine_same = ap machine_uses stands.between.machine_is
+  machine_same : uses_in (held_chunks held.machine) held.machine.exchange ≡ uses_of state
+  machine_same = ap (λ (w : World). uses_in (held_chunks w) w.exchange) stands.between.machine_is
       ∙ ap (λ (x : Exchange). (state.machine.areas.pool.count - length state.machine.areas.pool.free) ∷ drop 1 x.uses) stands.between.stands.exchange
 
   pub uses_now : (uses : List ℕ) → length uses ≡ 8 → ((r : ℕ) → r < 8 → slice_index uses r ≡ used_in held.machine r) → uses ≡ uses_of state

@@ -1,11 +1,12 @@
 -- What a run writes of what comes.
 use Rattle.std.proofs.Common.{◌≡◌, ◌≢◌, ℕ, ◌≤◌, Bool, true, false, List, [], ◌∷◌, ◌++◌, Option, Some, None, Result, refl, sym, ap, ◌∙◌, subst}
 use Rattle.std.specs.Prelude.{if◌then◌else◌}
-use Rattle.c_mean.specs.ModelledCalls.{Delivery, Exchange, is_dropped, with_delivery}
+use Rattle.c_mean.specs.ModelledCalls.{Exchange, is_dropped, with_delivery}
 use Rattle.cap_io.specs.Writes.{Puts}
 use Rattle.event_trace.specs.declared.events.Event.{Event}
 use Rattle.event_trace.specs.declared.events.EventKind.{EventKind}
-use Rattle.lawful_log.specs.Deliveries.{IsComing, delivery_of, item_of}
+use Rattle.choice_rules.specs.Deliveries.{delivery_of, item_of}
+use Rattle.lawful_log.specs.Deliveries.{IsComing}
 use Rattle.lawful_log.specs.Lawful.{IsAllowed}
 use Rattle.lawful_log.specs.Setup.{Setup, setting_of}
 use Rattle.lawful_log.specs.State.{State}
@@ -21,11 +22,10 @@ use Rattle.runner.specs.Steps.{IsTold, ActsTo, PartEnds}
 use Rattle.runner.proofs.Acting.{acts_on}
 use Rattle.runner.proofs.Parts.{acts_between, deliver_acts, part_of}
 use Rattle.schedule_log.specs.EntryText.{entry_text}
-use Rattle.thread_core.specs.Making as making
 use Rattle.thread_core.specs.Making.{after_event, delivery_answer}
 use Rattle.thread_core.specs.Worlds.{Held}
 use Rattle.thread_core.specs.declared.outside.Delivered.{Delivered}
-use Rattle.runner.proofs.Came.{between, words, came_state, came_world, came_allowed, came_stands, same_delivery}
+use Rattle.runner.proofs.Came.{between, words, came_state, came_world, came_allowed, came_stands}
 
 allowed_by : (g : Setup) (state : State) (clock : ℕ) (kind : EventKind) (new : State) (b : Bool) → IsComing g state clock (item_of kind) b new → IsAllowed g state (coming_line clock kind (if b then Delivered.Dropped else Delivered.Queued)) new
 allowed_by g state clock kind new true is = is
@@ -37,17 +37,16 @@ same_clock false w x = refl
 
 module _ (g : Setup) (state : State) (k : Kept) (held : Held) (left : Option (List ℕ)) (stands : StandsBetween g state k held left) (event : Event) (next_is : k.next ≡ Next.Event event) (delivered : Delivered)
     (delivered_is : delivered ≡ delivery_answer held event.kind) where
-  drops_same : is_dropped held.setting.backlog held.machine.exchange (making.delivery_of event.kind) ≡ drops g state event held.machine (between g state k held left stands event next_is) (words g state k held left stands event next_is)
+  drops_same : is_dropped held.setting.backlog held.machine.exchange (delivery_of event.kind) ≡ drops g state event held.machine (between g state k held left stands event next_is) (words g state k held left stands event next_is)
   drops_same =
-      ap (λ (s : Setting). is_dropped s.backlog held.machine.exchange (making.delivery_of event.kind)) stands.of.setting
-      ∙ ap (λ (d : Delivery). is_dropped g.policy.backlog held.machine.exchange d) (same_delivery event.kind)
+      ap (λ (s : Setting). is_dropped s.backlog held.machine.exchange (delivery_of event.kind)) stands.of.setting
       ∙ ap (λ (x : Exchange). is_dropped g.policy.backlog x (delivery_of event.kind)) (ap (λ (w : World). w.exchange) stands.between.machine_is ∙ stands.between.stands.exchange)
 
   answer_is : (if drops g state event held.machine (between g state k held left stands event next_is) (words g state k held left stands event next_is) then Delivered.Dropped else Delivered.Queued) ≡ delivered
   answer_is = ap (λ (b : Bool). if b then Delivered.Dropped else Delivered.Queued) (sym drops_same) ∙ sym delivered_is
 
   clock_is : (after_event held event.kind).machine.clock ≡ held.machine.clock
-  clock_is = same_clock (is_dropped held.setting.backlog held.machine.exchange (making.delivery_of event.kind)) held.machine (with_delivery held.machine.exchange (making.delivery_of event.kind))
+  clock_is = same_clock (is_dropped held.setting.backlog held.machine.exchange (delivery_of event.kind)) held.machine (with_delivery held.machine.exchange (delivery_of event.kind))
 
   pub entry_allowed : held.machine.threads ≢ [] → event.time ≤ held.machine.clock → IsTold left →
       IsAllowed g state (coming_line (after_event held event.kind).machine.clock event.kind delivered) (came_state g state k held left stands event next_is)

@@ -9,7 +9,7 @@ use Rattle.std.proofs.lemmas.List.Concat.{flat_map-append}
 use Rattle.blocking_graph.specs.declared.edges.EdgeLine.{EdgeLine}
 use Rattle.cap_io.specs.Writes.{Puts}
 use Rattle.cap_io.proofs.Pieces.{appends_more}
-use Rattle.lawful_log.specs.Lawful.{given, shown}
+use Rattle.choice_rules.specs.EdgeLines.{given, shown}
 use Rattle.schedule_log.specs.EntryText.{entry_text, log_text}
 use Rattle.schedule_log.specs.declared.entries.Entry.{Entry}
 use Rattle.schedule_log.specs.declared.entries.StopLine.{StopLine}

@@ -4,16 +4,16 @@ use Rattle.blocking_graph.specs.Edges.{edges_with, count_of}
 use Rattle.blocking_graph.specs.Graph.{GraphState}
 use Rattle.blocking_graph.specs.Nodes.{keys_with, node_number}
 use Rattle.cap_io.specs.Writes.{Puts}
+use Rattle.choice_rules.specs.Seen.{changes, end_node, uses_in}
 use Rattle.lawful_log.specs.Good.{checked_of}
-use Rattle.lawful_log.specs.Segments.{changes, end_node}
 use Rattle.lawful_log.specs.Setup.{Setup, setting_of}
-use Rattle.lawful_log.specs.State.{State}
+use Rattle.lawful_log.specs.State.{State, held_chunks}
 use Rattle.machine_world.specs.Threads.{World, step}
 use Rattle.machine_world.specs.WellFormed.{IsWellFormed}
 use Rattle.scheduler.specs.State.{SchedulerState, IsJoined}
 use Rattle.runner.specs.declared.course.Under.{Under}
 use Rattle.runner.specs.declared.ends.Failure.{Failure}
-use Rattle.runner.specs.Kept.{Kept, machine_uses}
+use Rattle.runner.specs.Kept.{Kept}
 use Rattle.runner.specs.Recorded.{HasSmallCaps}
 use Rattle.runner.specs.Stands.{StandsWithin, StepsAsSource}
 use Rattle.runner.specs.Steps.{ActsTo, PartEnds}
@@ -66,7 +66,7 @@ module _ (g : Setup) (state : State) (k : Kept) (held : Held) (left : Option (Li
     block_acts = subst (λ (w : World). ActsTo (setting_of g) state.machine w) block_told.machine (acts_within g state k held left under stands)
 
     pub block_part : (node : ℕ) → node ≡ node_number k.graph.keys key → (scheduler : SchedulerState) → IsJoined k.scheduler scheduler node under.choice.thread → (graph : GraphState) → graph.keys ≡ keys_with k.graph.keys key →
-        graph.edges ≡ edges_with k.graph.edges (record { from = under.choice.node; to = node; cost = cost; change = changes under.before (machine_uses held.machine) }) →
+        graph.edges ≡ edges_with k.graph.edges (record { from = under.choice.node; to = node; cost = cost; change = changes under.before (uses_in (held_chunks held.machine) held.machine.exchange) }) →
         count_of graph.edges ≡ count_of k.graph.edges + 1 → length graph.keys ≤ length k.graph.keys + 1 → (taken written : Option (List ℕ)) (result : Result (Unit {0}) Failure) →
         Puts taken written (entry_text (Entry.Block under.choice.thread.number node key cost (length held.machine.areas.pool.free)) ++ 10 ∷ []) result →
         PartEnds g state left (record k { scheduler = scheduler; graph = graph; under = None }) held left taken written result
@@ -75,7 +75,7 @@ module _ (g : Setup) (state : State) (k : Kept) (held : Held) (left : Option (Li
         (Entry.Block under.choice.thread.number node key cost (length held.machine.areas.pool.free)) result
         (λ told. over.block_is g state k held left under stands law key cost block_told node node_is) block_acts
         (by_none g (over.over_state g state k held left under stands law key cost block_told) (record k { scheduler = scheduler; graph = graph; under = None }) held left refl
-        (over.over_stands g state k held left under stands law key cost block_told node node_is (machine_uses held.machine) refl scheduler joined graph keys edges counted few)) puts
+        (over.over_stands g state k held left under stands law key cost block_told node node_is (uses_in (held_chunks held.machine) held.machine.exchange) refl scheduler joined graph keys edges counted few)) puts
 
   -- ---- an end
 
@@ -94,7 +94,7 @@ module _ (g : Setup) (state : State) (k : Kept) (held : Held) (left : Option (Li
     end_acts = subst (λ (w : World). ActsTo (setting_of g) state.machine w) end_told.machine (acts_within g state k held left under stands)
 
     pub end_part : (graph : GraphState) → graph.keys ≡ k.graph.keys →
-        graph.edges ≡ edges_with k.graph.edges (record { from = under.choice.node; to = end_node; cost = cost; change = changes under.before (machine_uses held.machine) }) →
+        graph.edges ≡ edges_with k.graph.edges (record { from = under.choice.node; to = end_node; cost = cost; change = changes under.before (uses_in (held_chunks held.machine) held.machine.exchange) }) →
         count_of graph.edges ≡ count_of k.graph.edges + 1 → (taken written : Option (List ℕ)) (result : Result (Unit {0}) Failure) →
         Puts taken written (entry_text (Entry.End under.choice.thread.number cost (length held.machine.areas.pool.free)) ++ 10 ∷ []) result →
         PartEnds g state left (record k { graph = graph; under = None }) held left taken written result
@@ -103,4 +103,4 @@ module _ (g : Setup) (state : State) (k : Kept) (held : Held) (left : Option (Li
         (Entry.End under.choice.thread.number cost (length held.machine.areas.pool.free)) result
         (λ told. finished.end_is g state k held left under stands end_law cost end_told (finished.was_there g state k held left under stands end_law cost end_told)) end_acts
         (by_none g (finished.over_state g state k held left under stands end_law cost end_told) (record k { graph = graph; under = None }) held left refl
-        (finished.end_stands g state k held left under stands end_law cost end_told (machine_uses held.machine) refl graph keys edges counted)) puts
+        (finished.end_stands g state k held left under stands end_law cost end_told (uses_in (held_chunks held.machine) held.machine.exchange) refl graph keys edges counted)) puts

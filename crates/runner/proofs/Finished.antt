@@ -6,12 +6,14 @@ use Rattle.blocking_graph.specs.Graph.{GraphState}
 use Rattle.blocking_graph.specs.declared.edges.EdgeLine.{EdgeLine}
 use Rattle.blocking_graph.specs.declared.segments.SegmentRecord.{SegmentRecord}
 use Rattle.c_mean.specs.ModelledCalls.{Exchange}
+use Rattle.choice_rules.specs.Policy.{all_caps}
+use Rattle.choice_rules.specs.Seen.{changes, newcomers, end_node, Waiter, uses_in}
 use Rattle.lawful_log.specs.Good.{checked_of}
-use Rattle.lawful_log.specs.Segments.{HasRun, IsEnd, changes, newcomers, end_node}
-use Rattle.lawful_log.specs.Setup.{Setup, setting_of, all_caps}
-use Rattle.lawful_log.specs.State.{Waiter, State, uses_in}
+use Rattle.lawful_log.specs.Segments.{HasRun, IsEnd}
+use Rattle.lawful_log.specs.Setup.{Setup, setting_of}
+use Rattle.lawful_log.specs.State.{State, held_chunks}
 use Rattle.lawful_steps.specs.Waiting.{AreQueued}
-use Rattle.lawful_steps.specs.Within.{IsBetween, newcomers_to}
+use Rattle.lawful_steps.specs.Within.{IsBetween}
 use Rattle.lawful_steps.proofs.Between.{between_after}
 use Rattle.lawful_steps.proofs.Own.{found_below}
 use Rattle.lawful_steps.proofs.Within.{cost_of, cost_is, over_end, ended_state, end_allowed, threads_ended, formed_after_end}
@@ -24,7 +26,7 @@ use Rattle.thread_core.specs.declared.turns.Turn.{Turn}
 use Rattle.world_source.specs.Reached.{IsFinishedIn, StepReaches}
 use Rattle.world_source.specs.UnderWay.{IsSettled}
 use Rattle.runner.specs.declared.course.Under.{Under}
-use Rattle.runner.specs.Kept.{Kept, known, machine_uses}
+use Rattle.runner.specs.Kept.{Kept, known}
 use Rattle.runner.specs.Stands.{StandsBetween, StandsWithin, StepsAsSource}
 use Rattle.runner.proofs.Over.{between_any, gate_more, edges_more}
 
@@ -80,15 +82,15 @@ module _ (g : Setup) (state : State) (k : Kept) (held : Held) (left : Option (Li
       subst (λ (n : ℕ). IsEnd g state n cost (length held.machine.areas.pool.free) over_state) (sym stands.thread_is)
       (subst (λ (n : ℕ). IsEnd g state stands.segment.thread n (length held.machine.areas.pool.free) over_state) cost_same is)
 
-  module _ (uses : List ℕ) (uses_is : uses ≡ machine_uses held.machine) (graph : GraphState) (keys_are : graph.keys ≡ k.graph.keys)
+  module _ (uses : List ℕ) (uses_is : uses ≡ uses_in (held_chunks held.machine) held.machine.exchange) (graph : GraphState) (keys_are : graph.keys ≡ k.graph.keys)
       (edges_are : graph.edges ≡ edges_with k.graph.edges (record { from = under.choice.node; to = end_node; cost = cost; change = changes under.before uses }))
       (counted : count_of graph.edges ≡ count_of k.graph.edges + 1) where
-    uses_same : uses ≡ uses_in told.after reaches.0
-    uses_same = uses_is ∙ ap machine_uses told.machine
+    uses_same : uses ≡ uses_in (held_chunks told.after) reaches.0.exchange
+    uses_same = uses_is ∙ ap (λ (w : World). uses_in (held_chunks w) w.exchange) told.machine
         ∙ ap (λ (x : Exchange). (told.after.areas.pool.count - length told.after.areas.pool.free) ∷ drop 1 x.uses) reaches.2.stands.exchange
 
     record_same : (let r : SegmentRecord = record { from = under.choice.node; to = end_node; cost = cost; change = changes under.before uses } in r) ≡
-        record { from = stands.segment.node; to = end_node; cost = cost_of g state stands.segment held.begun stands.here stands.waiting stands.within; change = changes stands.segment.uses (uses_in told.after reaches.0) }
+        record { from = stands.segment.node; to = end_node; cost = cost_of g state stands.segment held.begun stands.here stands.waiting stands.within; change = changes stands.segment.uses (uses_in (held_chunks told.after) reaches.0.exchange) }
     record_same =
         ap (λ (n : ℕ). let r : SegmentRecord = record { from = n; to = end_node; cost = cost; change = changes under.before uses } in r) stands.node_is
         ∙ ap (λ (n : ℕ). let r : SegmentRecord = record { from = stands.segment.node; to = end_node; cost = n; change = changes under.before uses } in r) (sym cost_same)
@@ -104,7 +106,7 @@ module _ (g : Setup) (state : State) (k : Kept) (held : Held) (left : Option (Li
         let over = over_end g state stands.segment held.begun stands.here stands.waiting stands.within told.after told.step_is in
         let next : stands.here.next ≡ length reaches.0.threads = sym over.next ∙ reaches.2.stands.next in
         subst (λ (l : List Waiter). AreQueued held.places k.scheduler l)
-        (stands.within.waiting_is ∙ ap (λ (n : ℕ). state.waiting ++ newcomers_to state.source n) next ∙ sym (append-nil (state.waiting ++ newcomers state.source reaches.0))) stands.queued
+        (stands.within.waiting_is ∙ ap (λ (n : ℕ). state.waiting ++ newcomers state.source n) next ∙ sym (append-nil (state.waiting ++ newcomers state.source (length reaches.0.threads)))) stands.queued
 
     begun_below : held.begun + 1 ≤ held.machine.cost
     begun_below =
@@ -132,6 +134,6 @@ module _ (g : Setup) (state : State) (k : Kept) (held : Held) (left : Option (Li
         keys = let most = stands.past.keys in let below = begun_below in let same = keys_are in
             let size : length graph.keys ≡ length k.graph.keys = ap (λ (ks : List (List ℕ)). length ks) same in omega arith;
       };
-      gate = ap (λ (b : Bool). gate_after g.policy.high g.policy.low b (pressures g.policy.curves (uses_in told.after reaches.0) (all_caps g.policy))) stands.gate ∙ sym (gate_more g state (uses_in told.after reaches.0));
+      gate = ap (λ (b : Bool). gate_after g.policy.high g.policy.low b (pressures g.policy.curves (uses_in (held_chunks told.after) reaches.0.exchange) (all_caps g.policy))) stands.gate ∙ sym (gate_more g state (uses_in (held_chunks told.after) reaches.0.exchange));
       read = stands.read;
     }

@@ -5,8 +5,9 @@ use Rattle.std.specs.Io.KnownBytes.{Appends}
 use Rattle.std.proofs.lemmas.Grind.{flat_map-append}
 use Rattle.blocking_graph.specs.declared.edges.EdgeLine.{EdgeLine}
 use Rattle.good_logs.proofs.Good.{good}
+use Rattle.choice_rules.specs.EdgeLines.{edge_entry}
 use Rattle.lawful_log.specs.Good.{IsGoodLog}
-use Rattle.lawful_log.specs.Lawful.{Leads, nowhere, by_entry, ending, edge_entry, IsLawfulLog}
+use Rattle.lawful_log.specs.Lawful.{Leads, nowhere, by_entry, ending, IsLawfulLog}
 use Rattle.lawful_log.specs.Setup.{Setup, setting_of}
 use Rattle.lawful_log.specs.State.{State, start_of}
 use Rattle.lawful_log.proofs.AtMostOne.{begins_each}
@@ -61,9 +62,9 @@ take_in (b ∷ x) y (suc n) h = ap (λ (l : List ℕ). b ∷ l) (take_in x y n (
 
 -- ---- the end of a log
 
-lines_same : (g : Setup) (caps : List ℕ) (edges : List EdgeLine) → caps ≡ g.policy.caps → map (edge_line caps) edges ≡ map (edge_entry g) edges
+lines_same : (g : Setup) (caps : List ℕ) (edges : List EdgeLine) → caps ≡ g.policy.caps → map (edge_line caps) edges ≡ map (edge_entry g.policy.caps) edges
 lines_same g caps [] e = refl
-lines_same g caps (edge ∷ edges) e = ap (λ (c : List ℕ). edge_line c edge ∷ map (edge_line caps) edges) e ∙ ap (λ (l : List Entry). edge_entry g edge ∷ l) (lines_same g caps edges e)
+lines_same g caps (edge ∷ edges) e = ap (λ (c : List ℕ). edge_line c edge ∷ map (edge_line caps) edges) e ∙ ap (λ (l : List Entry). edge_entry g.policy.caps edge ∷ l) (lines_same g caps edges e)
 
 pub end_same : (g : Setup) (state : State) (k : Kept) (held : Held) (halt : Halt) (taken written : Option (List ℕ)) (before : Option (List ℕ)) → HaltsAt g state before k held halt taken written → (stop : StopLine) →
     end_lines held.setting.caps k.graph.edges stop ≡ ending g state stop

@@ -3,9 +3,10 @@ use Rattle.std.proofs.Common.{◌≡◌, ℕ, zero, suc, List, Option, Some, Non
 use Rattle.std.specs.Prelude.{IsSome}
 use Rattle.std.specs.List.{AllByRecursion}
 use Rattle.cap_word.specs.declared.threads.ThreadId.{ThreadId}
+use Rattle.choice_rules.specs.Seen.{Waiter}
 use Rattle.lawful_log.specs.Good.{checked_of}
 use Rattle.lawful_log.specs.Setup.{Setup, setting_of}
-use Rattle.lawful_log.specs.State.{Waiter, Segment, State}
+use Rattle.lawful_log.specs.State.{Segment, State}
 use Rattle.lawful_steps.specs.Waiting.{IsWaiting, IsPlaced, AreQueued, at_node}
 use Rattle.lawful_steps.specs.Within.{IsWithin}
 use Rattle.lawful_steps.proofs.Queues.{queue_kept, all_at_node}

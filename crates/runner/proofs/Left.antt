@@ -3,7 +3,7 @@ use Rattle.std.proofs.Common.{◌≡◌, ◌≢◌, ℕ, Bool, true, false, nat_
 use Rattle.std.specs.List.{AllByRecursion}
 use Rattle.std.proofs.lemmas.Bool.{cases_eq, cond-true, cond-false, eq-eqb, ne_eqb}
 use Rattle.cap_word.specs.declared.threads.ThreadId.{ThreadId}
-use Rattle.lawful_log.specs.State.{Waiter}
+use Rattle.choice_rules.specs.Seen.{Waiter}
 use Rattle.lawful_steps.specs.Waiting.{IsOnce, IsQueue, AreQueued, at_node}
 use Rattle.lawful_steps.proofs.Lists.{but}
 use Rattle.lawful_steps.proofs.Queues.{all_at_node, at_node-but, but_none, without_found}

@@ -4,9 +4,9 @@ use Rattle.event_trace.specs.declared.events.Event.{Event}
 use Rattle.event_trace.specs.declared.refusals.TraceError.{TraceError}
 use Rattle.event_trace.specs.Lines.{FitsEvent, rest_of}
 use Rattle.event_trace.specs.Reader.{ReaderState, GivesEvent, RefusesLine, RefusesOrder, NextTold}
+use Rattle.choice_rules.specs.Trace.{Trace, IsRefused, behind}
 use Rattle.lawful_log.specs.Setup.{Setup}
 use Rattle.lawful_log.specs.State.{State}
-use Rattle.lawful_log.specs.Trace.{Trace, IsRefused, behind}
 use Rattle.lawful_steps.specs.Within.{IsBetween}
 use Rattle.lawful_steps.proofs.Between.{between_read}
 use Rattle.thread_core.specs.Worlds.{Held}

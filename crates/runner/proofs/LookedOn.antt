@@ -1,12 +1,15 @@
 -- A step of a choice point: it stops, or goes on behind a look at the next line.
-use Rattle.std.proofs.Common.{◌≡◌, ◌≢◌, ℕ, ◌+◌, ◌*◌, ◌<◌, ◌≤◌, ◌||◌, Bool, true, false, List, [], Option, Some, None, Result, Ok, Err, refl, sym, ap, ◌∙◌, subst, arith, ⊎_elim}
-use Rattle.std.specs.Prelude.{if◌then◌else◌}
+use Rattle.std.proofs.Common.{◌≡◌, ◌≢◌, ℕ, ◌+◌, ◌*◌, ◌<◌, ◌≤◌, ◌||◌, Bool, true, false, List, [], length, Option, Some, None, Result, Ok, Err, refl, sym, ap, ◌∙◌, subst, arith, ⊎_elim}
+use Rattle.std.specs.Prelude.{is_some, if◌then◌else◌}
+use Rattle.std.proofs.lemmas.List.{nil_from_length}
 use Rattle.event_trace.specs.declared.events.Event.{Event}
+use Rattle.choice_rules.specs.Stops.{IsDone, IsBadTrace}
+use Rattle.choice_rules.specs.Trace.{IsRefused}
 use Rattle.lawful_log.specs.Setup.{Setup}
-use Rattle.lawful_log.specs.State.{State}
+use Rattle.lawful_log.specs.State.{Segment, State, seen_of}
 use Rattle.lawful_steps.specs.Beside.{IsGraphOf}
 use Rattle.blocking_graph.specs.Graph.{GraphState}
-use Rattle.machine_world.specs.Threads.{World}
+use Rattle.machine_world.specs.Threads.{Thread, World}
 use Rattle.thread_core.specs.Ready.{any_ready_in}
 use Rattle.thread_core.specs.Worlds.{Held}
 use Rattle.runner.specs.declared.course.Under.{Under}
@@ -44,14 +47,19 @@ module _ (g : Setup) (state : State) (k : Kept) (held : Held) (left : Option (Li
   threads_same : held.machine.threads ≡ state.machine.threads
   threads_same = ap (λ (w : World). w.threads) stands.between.machine_is
 
+  no_segment : is_some state.segment ≡ false
+  no_segment = ap (λ (o : Option Segment). is_some o) stands.between.between
+
+  done : held.machine.threads ≡ [] → IsDone (seen_of state)
+  done none = record { between = no_segment; nobody = ap (λ (ts : List Thread). length ts) (sym threads_same ∙ none) }
+
+  bad : (line : ℕ) → held.machine.threads ≢ [] → IsRefused state.trace line → IsBadTrace (seen_of state) line
+  bad line live refused = record { between = no_segment; live = λ none. live (threads_same ∙ nil_from_length state.machine.threads none); refused = refused }
+
   pub done_halts : (taken : Option (List ℕ)) → held.machine.threads ≡ [] → HaltsAt g state left k held Halt.Done taken taken
   done_halts taken none = record {
     of = stands.of;
-    stops = λ told. record {
-      between = stands.between.between;
-      nobody = sym threads_same ∙ none;
-      machine_is = clock_same state held.machine stands.between.machine_is (stands.ended none);
-    };
+    stops = λ told. (done none, clock_same state held.machine stands.between.machine_is (stands.ended none));
     graph = stands.past.graph_is;
     acts = acts_between g state k held left stands;
     way = way_between g state k held left stands;
@@ -61,12 +69,7 @@ module _ (g : Setup) (state : State) (k : Kept) (held : Held) (left : Option (Li
   pub refused_halts : (new : Kept) (line : ℕ) (taken : Option (List ℕ)) → new.graph ≡ k.graph → held.machine.threads ≢ [] → Refuses g state left held line → HaltsAt g state left new held (Halt.BadTrace line) taken taken
   refused_halts new line taken same live is = record {
     of = stands.of;
-    stops = λ told. record {
-      between = stands.between.between;
-      live = λ none. live (threads_same ∙ none);
-      refused = is.refused told;
-      machine_is = is.machine_is;
-    };
+    stops = λ told. (bad line live (is.refused told), is.machine_is);
     graph = subst (λ (x : GraphState). IsGraphOf x state.past) (sym same) stands.past.graph_is;
     acts = acts_between g state k held left stands;
     way = way_between g state k held left stands;

@@ -13,13 +13,15 @@ use Rattle.c_mean.specs.ModelledCalls.{Exchange}
 use Rattle.c_tree.specs.Trees.{ProgramTree}
 use Rattle.c_lower.specs.ProgramCode.{lowered}
 use Rattle.event_trace.specs.declared.events.Event.{Event}
+use Rattle.choice_rules.specs.Policy.{all_caps}
+use Rattle.choice_rules.specs.Seen.{changes, Waiter, uses_in, newcomers}
 use Rattle.lawful_log.specs.Choice.{is_open}
 use Rattle.lawful_log.specs.Good.{checked_of}
-use Rattle.lawful_log.specs.Segments.{HasRun, IsBlock, changes}
-use Rattle.lawful_log.specs.Setup.{Setup, setting_of, all_caps}
-use Rattle.lawful_log.specs.State.{Waiter, State, uses_in}
+use Rattle.lawful_log.specs.Segments.{HasRun, IsBlock}
+use Rattle.lawful_log.specs.Setup.{Setup, setting_of}
+use Rattle.lawful_log.specs.State.{State, held_chunks}
 use Rattle.lawful_steps.specs.Waiting.{AreQueued}
-use Rattle.lawful_steps.specs.Within.{IsBetween, newcomers_to}
+use Rattle.lawful_steps.specs.Within.{IsBetween}
 use Rattle.lawful_steps.proofs.Between.{between_after, between_read}
 use Rattle.lawful_steps.proofs.Within.{cost_of, cost_is, over_block, rests_blocked, RestsBlocked, blocked_state, block_allowed, threads_blocked, formed_after_block}
 use Rattle.machine_world.specs.Local.{Core}
@@ -39,7 +41,7 @@ use Rattle.thread_core.specs.declared.turns.Turn.{Turn}
 use Rattle.world_source.specs.Reached.{IsFinishedIn, StepReaches}
 use Rattle.world_source.specs.UnderWay.{IsSettled}
 use Rattle.runner.specs.declared.course.Under.{Under}
-use Rattle.runner.specs.Kept.{Kept, known, machine_uses}
+use Rattle.runner.specs.Kept.{Kept, known}
 use Rattle.runner.specs.Stands.{IsOf, StandsBetween, StandsWithin, StepsAsSource}
 use Rattle.runner.proofs.Told.{queued_more}
 use Rattle.runner.proofs.Turned.{some_live}
@@ -121,19 +123,19 @@ module _ (g : Setup) (state : State) (k : Kept) (held : Held) (left : Option (Li
 
   -- ---- how the run stands after it
 
-  module _ (node : ℕ) (node_is : node ≡ node_number k.graph.keys key) (uses : List ℕ) (uses_is : uses ≡ machine_uses held.machine) (scheduler : SchedulerState) (joined : IsJoined k.scheduler scheduler node under.choice.thread) (graph : GraphState)
+  module _ (node : ℕ) (node_is : node ≡ node_number k.graph.keys key) (uses : List ℕ) (uses_is : uses ≡ uses_in (held_chunks held.machine) held.machine.exchange) (scheduler : SchedulerState) (joined : IsJoined k.scheduler scheduler node under.choice.thread) (graph : GraphState)
       (keys_are : graph.keys ≡ keys_with k.graph.keys key)
       (edges_are : graph.edges ≡ edges_with k.graph.edges (record { from = under.choice.node; to = node; cost = cost; change = changes under.before uses }))
       (counted : count_of graph.edges ≡ count_of k.graph.edges + 1) (few : length graph.keys ≤ length k.graph.keys + 1) where
-    uses_same : uses ≡ uses_in told.after reaches.0
-    uses_same = uses_is ∙ ap machine_uses told.machine
+    uses_same : uses ≡ uses_in (held_chunks told.after) reaches.0.exchange
+    uses_same = uses_is ∙ ap (λ (w : World). uses_in (held_chunks w) w.exchange) told.machine
         ∙ ap (λ (x : Exchange). (told.after.areas.pool.count - length told.after.areas.pool.free) ∷ drop 1 x.uses) reaches.2.stands.exchange
 
     number_same : node ≡ node_number state.past.keys key
     number_same = node_is ∙ ap (λ (ks : List (List ℕ)). node_number ks key) stands.past.graph_is.keys
 
     record_same : (let r : SegmentRecord = record { from = under.choice.node; to = node; cost = cost; change = changes under.before uses } in r) ≡
-        record { from = stands.segment.node; to = node_number state.past.keys key; cost = cost_of g state stands.segment held.begun stands.here stands.waiting stands.within; change = changes stands.segment.uses (uses_in told.after reaches.0) }
+        record { from = stands.segment.node; to = node_number state.past.keys key; cost = cost_of g state stands.segment held.begun stands.here stands.waiting stands.within; change = changes stands.segment.uses (uses_in (held_chunks told.after) reaches.0.exchange) }
     record_same =
         ap (λ (n : ℕ). let r : SegmentRecord = record { from = n; to = node; cost = cost; change = changes under.before uses } in r) stands.node_is
         ∙ ap (λ (n : ℕ). let r : SegmentRecord = record { from = stands.segment.node; to = n; cost = cost; change = changes under.before uses } in r) number_same
@@ -158,7 +160,7 @@ module _ (g : Setup) (state : State) (k : Kept) (held : Held) (left : Option (Li
         let next : stands.here.next ≡ length reaches.0.threads = sym over.next ∙ reaches.2.stands.next in
         subst (λ (l : List Waiter). AreQueued held.places scheduler l)
         (ap (λ (n : ℕ). stands.waiting ++ last n node) stands.thread_is ∙ ap (λ (n : ℕ). stands.waiting ++ last stands.segment.thread n) number_same
-        ∙ ap (λ (l : List Waiter). l ++ last stands.segment.thread (node_number state.past.keys key)) (stands.within.waiting_is ∙ ap (λ (n : ℕ). state.waiting ++ newcomers_to state.source n) next)) all
+        ∙ ap (λ (l : List Waiter). l ++ last stands.segment.thread (node_number state.past.keys key)) (stands.within.waiting_is ∙ ap (λ (n : ℕ). state.waiting ++ newcomers state.source n) next)) all
 
     begun_below : held.begun + 1 ≤ held.machine.cost
     begun_below =
@@ -185,6 +187,6 @@ module _ (g : Setup) (state : State) (k : Kept) (held : Held) (left : Option (Li
         records = let most = stands.past.records in let below = begun_below in omega arith;
         keys = let most = stands.past.keys in let below = begun_below in omega arith;
       };
-      gate = ap (λ (b : Bool). gate_after g.policy.high g.policy.low b (pressures g.policy.curves (uses_in told.after reaches.0) (all_caps g.policy))) stands.gate ∙ sym (gate_more g state (uses_in told.after reaches.0));
+      gate = ap (λ (b : Bool). gate_after g.policy.high g.policy.low b (pressures g.policy.curves (uses_in (held_chunks told.after) reaches.0.exchange) (all_caps g.policy))) stands.gate ∙ sym (gate_more g state (uses_in (held_chunks told.after) reaches.0.exchange));
       read = stands.read;
     }

@@ -3,9 +3,10 @@ use Rattle.std.proofs.Common.{◌≡◌, ℕ, ◌+◌, ◌-◌, ◌*◌, ◌<◌
 use Rattle.std.specs.Prelude.{nat_le}
 use Rattle.std.proofs.lemmas.Bool.Decides.{nat_tests}
 use Rattle.event_trace.specs.Lines.{FitsEvent, FitsKind}
+use Rattle.choice_rules.specs.Deliveries.{delivery_of}
 use Rattle.event_trace.specs.declared.events.Event.{Event}
 use Rattle.event_trace.specs.declared.events.EventKind.{EventKind}
-use Rattle.lawful_log.specs.Clock.{is_due}
+use Rattle.choice_rules.specs.Clock.{is_due}
 use Rattle.lawful_log.specs.Setup.{Setup}
 use Rattle.lawful_log.specs.State.{State}
 use Rattle.c_mean.specs.ModelledCalls.{Exchange, is_dropped, with_delivery}
@@ -18,7 +19,6 @@ use Rattle.runner.specs.Ranks.{long_rank, lines_rank, next_rank, under_rank}
 use Rattle.runner.specs.Stands.{FitsNext, IsAtPoint}
 use Rattle.runner.specs.Steps.{HaltsAt, StepEnds}
 use Rattle.runner.specs.Waits.{WaitEnds}
-use Rattle.thread_core.specs.Making as making
 use Rattle.thread_core.specs.Making.{IsEventInRange, after_event}
 use Rattle.thread_core.specs.Worlds.{Held}
 use Rattle.runner.proofs.Parts.{acts_between, way_between, by_none, silent}
@@ -80,16 +80,16 @@ count_by false w x = refl
 
 module _ (held new : Held) (kind : EventKind) (is : new ≡ after_event held kind) where
   abbrev drops : Bool
-  drops = is_dropped held.setting.backlog held.machine.exchange (making.delivery_of kind)
+  drops = is_dropped held.setting.backlog held.machine.exchange (delivery_of kind)
 
   cost_same : new.machine.cost ≡ held.machine.cost
-  cost_same = ap (λ (h : Held). h.machine.cost) is ∙ cost_by drops held.machine (with_delivery held.machine.exchange (making.delivery_of kind))
+  cost_same = ap (λ (h : Held). h.machine.cost) is ∙ cost_by drops held.machine (with_delivery held.machine.exchange (delivery_of kind))
 
   pub keeps_event : KeepsRun held new
   keeps_event = record {
     accepted = ap (λ (h : Held). h.accepted) is;
     setting = ap (λ (h : Held). h.setting) is;
-    chunks = ap (λ (h : Held). h.machine.areas.pool.count) is ∙ count_by drops held.machine (with_delivery held.machine.exchange (making.delivery_of kind));
+    chunks = ap (λ (h : Held). h.machine.areas.pool.count) is ∙ count_by drops held.machine (with_delivery held.machine.exchange (delivery_of kind));
   }
 
   pub long_event : (k : Kept) → long_rank (record k { next = Next.Unread }) new ≡ long_rank k held

@@ -5,16 +5,17 @@ use Rattle.std.specs.List.{list_any}
 use Rattle.std.proofs.lemmas.Bool.{cond-true, eq-eqb}
 use Rattle.cap_word.specs.declared.calls.Block.{Block}
 use Rattle.cap_word.specs.declared.threads.ThreadId.{ThreadId}
-use Rattle.c_mean.specs.ModelledCalls.{Exchange}
+use Rattle.choice_rules.specs.Seen.{Waiter}
+use Rattle.choice_rules.specs.Readiness.{is_accept}
 use Rattle.lawful_log.specs.Readiness.{any_ready, any_elsewhere}
 use Rattle.lawful_log.specs.Setup.{Setup, setting_of}
-use Rattle.lawful_log.specs.State.{Waiter, State}
+use Rattle.lawful_log.specs.State.{State}
 use Rattle.event_trace.specs.declared.events.Event.{Event}
-use Rattle.lawful_steps.specs.Tests.{may_go, is_accept, is_accepting}
+use Rattle.lawful_steps.specs.Tests.{is_blocked_at_accept}
 use Rattle.lawful_steps.specs.Waiting.{IsWaiting, IsPlaced}
 use Rattle.lawful_steps.specs.Within.{IsBetween}
 use Rattle.lawful_steps.proofs.Told.{any_told, elsewhere_told}
-use Rattle.machine_world.specs.Runs.{may_run}
+use Rattle.machine_world.specs.Runs.{advanced, may_run}
 use Rattle.machine_world.specs.Threads.{Blocked, Thread, World, Setting, thread_of}
 use Rattle.thread_core.specs.Ready.{runs_now, is_ready_thread, is_at_accept_blocked, is_at_accept_thread, passes, is_same_number, passes_at, is_ready_in, is_at_accept_in, any_ready_in, any_elsewhere_in}
 use Rattle.thread_core.specs.Worlds.{Held}
@@ -24,10 +25,6 @@ any_alike : {X : Type 0} (f h : X → Bool) → ((x : X) → f x ≡ h x) → (x
 any_alike f h same [] = refl
 any_alike f h same (x ∷ xs) = ap (λ (b : Bool). b || list_any f xs) (same x) ∙ ap (λ (b : Bool). h x || b) (any_alike f h same xs)
 
-may_alike : (s : Setting) (w : World) (b : Option Blocked) → may_run s w b ≡ may_go s.caps w.exchange w.clock b
-may_alike s w None = refl
-may_alike s w (Some b) = refl
-
 accept_alike : (b : Block) → is_at_accept_block b ≡ is_accept b
 accept_alike Block.Accept = refl
 accept_alike (Block.Wait channel) = refl
@@ -35,7 +32,7 @@ accept_alike (Block.Sleep ticks) = refl
 accept_alike Block.Yield = refl
 accept_alike (Block.Take resource amount) = refl
 
-accepting_alike : (b : Option Blocked) → is_at_accept_blocked b ≡ is_accepting b
+accepting_alike : (b : Option Blocked) → is_at_accept_blocked b ≡ is_blocked_at_accept b
 accepting_alike None = refl
 accepting_alike (Some b) = accept_alike b.block
 
@@ -46,12 +43,11 @@ passing test held t thread placed live =
     ∙ ap (passes test) live
 
 module _ (g : Setup) (state : State) (held : Held) (known : Option (Option Event)) (is : IsBetween g state known held.machine) (setting_is : held.setting ≡ setting_of g) where
-  ready_thread : (thread : Thread) → is_ready_thread held.setting held.machine thread ≡ may_go g.policy.caps state.machine.exchange held.machine.clock thread.blocked
+  ready_thread : (thread : Thread) → is_ready_thread held.setting held.machine thread ≡ may_run (setting_of g) (advanced state.machine held.machine.clock) thread.blocked
   ready_thread thread =
       ap (λ (o : Option ℕ). if runs_now o thread.number then false else may_run held.setting held.machine thread.blocked) (ap (λ (w : World). w.running) is.machine_is ∙ is.stands.between)
-      ∙ may_alike held.setting held.machine thread.blocked
-      ∙ ap (λ (s : Setting). may_go s.caps held.machine.exchange held.machine.clock thread.blocked) setting_is
-      ∙ ap (λ (e : Exchange). may_go g.policy.caps e held.machine.clock thread.blocked) (ap (λ (w : World). w.exchange) is.machine_is)
+      ∙ ap (λ (s : Setting). may_run s held.machine thread.blocked) setting_is
+      ∙ ap (λ (w : World). may_run (setting_of g) w thread.blocked) is.machine_is
 
   threads_are : held.machine.threads ≡ state.machine.threads
   threads_are = ap (λ (w : World). w.threads) is.machine_is
@@ -59,21 +55,21 @@ module _ (g : Setup) (state : State) (held : Held) (known : Option (Option Event
   live_there : (t : ThreadId) (x : Waiter) → t.number ≡ x.thread → (v : IsWaiting state.machine x) → thread_of held.machine t.number ≡ Some v.thread
   live_there t x same v = ap (λ (n : ℕ). thread_of held.machine n) same ∙ ap (λ (w : World). thread_of w x.thread) is.machine_is ∙ v.live
 
-  pub ready_told : (t : ThreadId) (x : Waiter) → t.number ≡ x.thread → IsPlaced held.places t → (v : IsWaiting state.machine x) → is_ready_in held t ≡ may_go g.policy.caps state.machine.exchange held.machine.clock v.thread.blocked
+  pub ready_told : (t : ThreadId) (x : Waiter) → t.number ≡ x.thread → IsPlaced held.places t → (v : IsWaiting state.machine x) → is_ready_in held t ≡ may_run (setting_of g) (advanced state.machine held.machine.clock) v.thread.blocked
   ready_told t x same placed v = passing (is_ready_thread held.setting held.machine) held t v.thread placed (live_there t x same v) ∙ ready_thread v.thread
 
-  pub accept_told : (t : ThreadId) (x : Waiter) → t.number ≡ x.thread → IsPlaced held.places t → (v : IsWaiting state.machine x) → is_at_accept_in held t ≡ is_accepting v.thread.blocked
+  pub accept_told : (t : ThreadId) (x : Waiter) → t.number ≡ x.thread → IsPlaced held.places t → (v : IsWaiting state.machine x) → is_at_accept_in held t ≡ is_blocked_at_accept v.thread.blocked
   accept_told t x same placed v = passing is_at_accept_thread held t v.thread placed (live_there t x same v) ∙ accepting_alike v.thread.blocked
 
   pub any_ready_told : any_ready_in held ≡ any_ready g state held.machine.clock
   any_ready_told =
-      any_alike (is_ready_thread held.setting held.machine) (λ thread. may_go g.policy.caps state.machine.exchange held.machine.clock thread.blocked) ready_thread held.machine.threads
-      ∙ ap (λ (l : List Thread). list_any (λ thread. may_go g.policy.caps state.machine.exchange held.machine.clock thread.blocked) l) threads_are
+      any_alike (is_ready_thread held.setting held.machine) (λ thread. may_run (setting_of g) (advanced state.machine held.machine.clock) thread.blocked) ready_thread held.machine.threads
+      ∙ ap (λ (l : List Thread). list_any (λ thread. may_run (setting_of g) (advanced state.machine held.machine.clock) thread.blocked) l) threads_are
       ∙ any_told g state held.machine.clock is.stands is.formed.counted.numbered is.threads
 
   pub any_elsewhere_told : any_elsewhere_in held ≡ any_elsewhere g state held.machine.clock
   any_elsewhere_told =
-      any_alike (λ thread. is_ready_thread held.setting held.machine thread && not (is_at_accept_thread thread)) (λ thread. may_go g.policy.caps state.machine.exchange held.machine.clock thread.blocked && not (is_accepting thread.blocked))
-      (λ thread. ap (λ (b : Bool). b && not (is_at_accept_thread thread)) (ready_thread thread) ∙ ap (λ (b : Bool). may_go g.policy.caps state.machine.exchange held.machine.clock thread.blocked && not b) (accepting_alike thread.blocked)) held.machine.threads
-      ∙ ap (λ (l : List Thread). list_any (λ thread. may_go g.policy.caps state.machine.exchange held.machine.clock thread.blocked && not (is_accepting thread.blocked)) l) threads_are
+      any_alike (λ thread. is_ready_thread held.setting held.machine thread && not (is_at_accept_thread thread)) (λ thread. may_run (setting_of g) (advanced state.machine held.machine.clock) thread.blocked && not (is_blocked_at_accept thread.blocked))
+      (λ thread. ap (λ (b : Bool). b && not (is_at_accept_thread thread)) (ready_thread thread) ∙ ap (λ (b : Bool). may_run (setting_of g) (advanced state.machine held.machine.clock) thread.blocked && not b) (accepting_alike thread.blocked)) held.machine.threads
+      ∙ ap (λ (l : List Thread). list_any (λ thread. may_run (setting_of g) (advanced state.machine held.machine.clock) thread.blocked && not (is_blocked_at_accept thread.blocked)) l) threads_are
       ∙ elsewhere_told g state held.machine.clock is.stands is.formed.counted.numbered is.threads

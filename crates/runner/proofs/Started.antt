@@ -10,8 +10,9 @@ use Rattle.certificate_check.specs.Accepting.{accepted_tree}
 use Rattle.certificate_rules.specs.Validity.{IsValid}
 use Rattle.chunk_pool.specs.Pool.{Pool, Taken, IsPool, fits, taken_of, start_pool, taken_for}
 use Rattle.chunk_pool.proofs.PoolStart.{IsPool-start_bytes}
+use Rattle.choice_rules.specs.Policy.{all_caps}
 use Rattle.lawful_log.specs.Good.{checked_of}
-use Rattle.lawful_log.specs.Setup.{Setup, setting_of, main_fact, start_machine, all_caps}
+use Rattle.lawful_log.specs.Setup.{Setup, setting_of, main_fact, start_machine}
 use Rattle.lawful_log.specs.State.{State, start_of, uses_of}
 use Rattle.lawful_steps.specs.Waiting.{AreWaiting, AreQueued}
 use Rattle.lawful_steps.proofs.Between.{between_after}
@@ -164,6 +165,7 @@ module _ (g : Setup) (held : Held) (monitor : MonitorState) (at : IsAtStart g he
     setting = setting_same;
     chunks = ap (λ (w : World). w.areas.pool.count) shape.is ∙ shape.count;
     timely = timely_start g.policy.chunks (g.certificate.chunk / 4) g.image.globals g.image.tables (main_fact g).entry (main_fact g).bound held.machine starts;
+    rule = at.rule;
     small = small_by;
     scoped = scoped;
     valid = valid;

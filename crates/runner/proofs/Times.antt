@@ -11,7 +11,7 @@ use Rattle.cap_word.specs.declared.stops.Stop.{Stop}
 use Rattle.cap_word.specs.declared.traps.TrapKind.{TrapKind}
 use Rattle.c_mean.specs.ModelledCalls.{Exchange, blocking_row, immediate_row, ticks_of, wakes_at, Delivery, is_dropped, with_delivery}
 use Rattle.chunk_pool.specs.Pool.{Taken, taken_for, start_pool}
-use Rattle.lawful_steps.specs.Tests.{wakes}
+use Rattle.lawful_steps.specs.Tests.{waking_time}
 use Rattle.machine_world.specs.Areas.{Areas}
 use Rattle.machine_world.specs.Local as local
 use Rattle.machine_world.specs.Local.{Local, LocalMove, local_step}
@@ -26,7 +26,7 @@ use Rattle.runner.specs.Times.{latest, IsTimely}
 -- ---- threads that wake in time
 
 abbrev Wakes : ℕ → Thread → Type 0
-Wakes cost thread = IfSome (wakes thread.blocked) (λ time. time ≤ latest cost)
+Wakes cost thread = IfSome (waking_time thread.blocked) (λ time. time ≤ latest cost)
 
 abbrev AllWake : ℕ → List Thread → Type 0
 AllWake cost threads = AllByRecursion (Wakes cost) threads
@@ -37,7 +37,7 @@ later_some cost (Some time) is = let now : time ≤ latest cost = is in omega (a
 
 all_later : (cost : ℕ) (threads : List Thread) → AllWake cost threads → AllWake (cost + 1) threads
 all_later cost [] all = tt
-all_later cost (t ∷ ts) all = (later_some cost (wakes t.blocked) all.0, all_later cost ts all.1)
+all_later cost (t ∷ ts) all = (later_some cost (waking_time t.blocked) all.0, all_later cost ts all.1)
 
 all_replaced : (cost : ℕ) (new : Thread) (threads : List Thread) → Wakes cost new → AllWake cost threads → AllWake cost (replaced new threads)
 all_replaced cost new [] is all = tt
@@ -143,7 +143,7 @@ times_stopped w thread local.NoRoom is = tt
 times_stopped w thread local.Wrong is = tt
 
 times_moved : (s : Setting) (w : World) (thread : Thread) (move : LocalMove) → IsTimely w → Wakes w.cost thread → KeepsTimes (moved s w thread move)
-times_moved s w thread (runs.Goes after) is own = times_retired w (record thread { core = after.core }) after.areas is (later_some w.cost (wakes thread.blocked) own)
+times_moved s w thread (runs.Goes after) is own = times_retired w (record thread { core = after.core }) after.areas is (later_some w.cost (waking_time thread.blocked) own)
 times_moved s w thread (runs.Asks question waiting) is own = times_asked s w thread question is
 times_moved s w thread (runs.Stops end) is own = times_stopped w thread end is
 

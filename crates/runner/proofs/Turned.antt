@@ -3,8 +3,9 @@ use Rattle.std.proofs.Common.{◌≡◌, ℕ, ◌+◌, List, Option, Some, None,
 use Rattle.std.specs.Prelude.{IsSome}
 use Rattle.std.specs.List.{AllByRecursion}
 use Rattle.certificate_check.specs.Accepting.{accepted_tree}
+use Rattle.choice_rules.specs.Seen.{Waiter}
 use Rattle.lawful_log.specs.Setup.{Setup, setting_of}
-use Rattle.lawful_log.specs.State.{Waiter, Segment, State}
+use Rattle.lawful_log.specs.State.{Segment, State}
 use Rattle.lawful_steps.specs.Waiting.{IsWaiting}
 use Rattle.lawful_steps.specs.Within.{IsWithin}
 use Rattle.lawful_steps.proofs.Within.{Still, still_waiting}
@@ -27,6 +28,7 @@ of_kept g old new of keeps timely = record {
   certificate = ap (λ a. a.certificate) keeps.accepted ∙ of.certificate;
   setting = keeps.setting ∙ of.setting;
   chunks = keeps.chunks ∙ of.chunks;
+  rule = of.rule;
   small = of.small;
   scoped = of.scoped;
   valid = of.valid;

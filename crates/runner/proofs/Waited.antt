@@ -1,14 +1,16 @@
 -- How a choice point goes on where no thread is ready: the clock moves, or the run is idle; and the other stops.
 use Rattle.std.proofs.Common.{◌≡◌, ◌≢◌, ℕ, ◌+◌, ◌*◌, ◌^◌, ◌<◌, ◌≤◌, ◌||◌, Bool, true, false, List, [], ◌++◌, map, Option, Some, None, refl, sym, ap, ◌∙◌, subst, arith}
-use Rattle.std.specs.Prelude.{All, Contains, IfSome, if◌then◌else◌}
+use Rattle.std.specs.Prelude.{All, Contains, IfSome, is_some, if◌then◌else◌}
+use Rattle.std.proofs.lemmas.List.{nil_from_length}
 use Rattle.event_trace.specs.declared.events.Event.{Event}
 use Rattle.event_trace.specs.Lines.{FitsEvent}
-use Rattle.lawful_log.specs.Clock.{is_due, event_times, IsLeastOf}
+use Rattle.choice_rules.specs.Trace.{IsNext}
+use Rattle.choice_rules.specs.Clock.{is_due, event_times, IsLeastOf}
+use Rattle.choice_rules.specs.Stops.{IsIdle}
 use Rattle.lawful_log.specs.Readiness.{any_ready, waking_times}
 use Rattle.lawful_log.specs.Setup.{Setup, setting_of}
-use Rattle.lawful_log.specs.State.{State}
-use Rattle.lawful_log.specs.Stops.{IsIdle}
-use Rattle.lawful_log.specs.Trace.{IsNext}
+use Rattle.lawful_log.specs.State.{Segment, State, seen_of}
+use Rattle.lawful_log.specs.Stops.{IsStop}
 use Rattle.lawful_steps.specs.Clocks.{goes_on}
 use Rattle.lawful_steps.specs.Tests.{later_wake}
 use Rattle.lawful_steps.specs.Within.{IsBetween}
@@ -17,6 +19,7 @@ use Rattle.lawful_steps.proofs.Clocks.{not_moved, moved_goes_on}
 use Rattle.lawful_steps.proofs.Wakes.{none_wakes, least_wakes}
 use Rattle.machine_world.specs.Runs.{advanced}
 use Rattle.machine_world.specs.Threads.{Thread, World}
+use Rattle.schedule_log.specs.declared.entries.StopLine.{StopLine}
 use Rattle.thread_core.specs.Making.{after_wait}
 use Rattle.thread_core.specs.Ready.{IsWake, any_ready_in}
 use Rattle.thread_core.specs.Worlds.{Held}
@@ -50,20 +53,20 @@ module _ (g : Setup) (state : State) (held : Held) (next : Option Event) (is : I
   still : any_ready_in held ≡ false → is_due next held.machine.clock ≡ false → held.machine.clock ≡ state.machine.clock
   still e due = not_moved g state next held.machine.clock is.clock_is (stuck e due)
 
-  pub idle_is : any_ready_in held ≡ false → next ≡ None → held.machine.threads ≢ [] → IsNext state.trace None → All (λ thread. later_wake held.machine.clock thread.blocked ≡ None) held.machine.threads → IsIdle g state held.machine
+  pub idle_is : any_ready_in held ≡ false → next ≡ None → held.machine.threads ≢ [] → IsNext state.trace None → All (λ thread. later_wake held.machine.clock thread.blocked ≡ None) held.machine.threads → IsStop g state StopLine.Idle held.machine
   idle_is e none live over wake =
       let due : is_due next held.machine.clock ≡ false = ap (λ (o : Option Event). is_due o held.machine.clock) none in
       let same = clock_same state held.machine is.machine_is (still e due) in
       let threads : held.machine.threads ≡ state.machine.threads = ap (λ (w : World). w.threads) is.machine_is in
-      record {
-        between = is.between;
-        live = λ f. live (threads ∙ f);
+      let idle : IsIdle g.policy (seen_of state) = record {
+        between = ap (λ (o : Option Segment). is_some o) is.between;
+        live = λ f. live (threads ∙ nil_from_length state.machine.threads f);
         over = over;
         none_ready = subst (λ (n : ℕ). any_ready g state n ≡ false) (still e due) (unready e);
         none_sleeps = none_wakes g state held.machine.clock is.formed.counted.numbered is.stands is.threads (unready e)
             (subst (λ (l : List Thread). All (λ thread. later_wake held.machine.clock thread.blocked ≡ None) l) threads wake);
-        machine_is = same;
-      }
+      } in
+      (idle, same)
 
 -- ---- the clock goes on
 
@@ -115,6 +118,7 @@ module _ (g : Setup) (state : State) (k : Kept) (held : Held) (left : Option (Li
           certificate = stands.of.certificate;
           setting = stands.of.setting;
           chunks = stands.of.chunks;
+          rule = stands.of.rule;
           small = stands.of.small;
           scoped = stands.of.scoped;
           valid = stands.of.valid;

@@ -5,8 +5,8 @@ use Rattle.std.specs.List.{AllByRecursion}
 use Rattle.std.proofs.lemmas.Bool.Decides.{nat_tests}
 use Rattle.event_trace.specs.declared.events.Event.{Event}
 use Rattle.event_trace.specs.Lines.{FitsEvent}
-use Rattle.lawful_log.specs.Clock.{is_due, event_times, IsLeastOf}
-use Rattle.lawful_steps.specs.Tests.{wakes, if_later, later_wake}
+use Rattle.choice_rules.specs.Clock.{is_due, event_times, IsLeastOf}
+use Rattle.lawful_steps.specs.Tests.{waking_time, if_later, later_wake}
 use Rattle.lawful_steps.proofs.Clocks.{contains_tail, contains_later, contains_head, contains_none}
 use Rattle.machine_world.specs.Threads.{Blocked, Thread, World}
 use Rattle.thread_core.specs.Ready as core
@@ -23,7 +23,7 @@ later_alike clock (Some time) = refl
 
 wake_alike : (clock : ℕ) (b : Option Blocked) → core.later_wake clock b ≡ later_wake clock b
 wake_alike clock None = refl
-wake_alike clock (Some b) = later_alike clock (wakes (Some b))
+wake_alike clock (Some b) = later_alike clock (waking_time (Some b))
 
 abbrev wake_in : ℕ → Thread → Option ℕ
 wake_in clock thread = later_wake clock thread.blocked
@@ -60,11 +60,11 @@ by_wake clock cost time (Some t) within e =
     let is = by_test clock t time (nat_lt clock t) refl e in
     (is.0, subst (λ (n : ℕ). n ≤ latest cost) is.1 within)
 
-by_blocked : (clock cost time : ℕ) (b : Option Blocked) → IfSome (wakes b) (λ t. t ≤ latest cost) → later_wake clock b ≡ Some time → (clock < time) × (time ≤ latest cost)
+by_blocked : (clock cost time : ℕ) (b : Option Blocked) → IfSome (waking_time b) (λ t. t ≤ latest cost) → later_wake clock b ≡ Some time → (clock < time) × (time ≤ latest cost)
 by_blocked clock cost time None within e = absurd (cc)
-by_blocked clock cost time (Some b) within e = by_wake clock cost time (wakes (Some b)) within e
+by_blocked clock cost time (Some b) within e = by_wake clock cost time (waking_time (Some b)) within e
 
-wake_within : (clock cost time : ℕ) (threads : List Thread) → AllByRecursion (λ thread. IfSome (wakes thread.blocked) (λ t. t ≤ latest cost)) threads → Contains (map (wake_in clock) threads) (Some time) → (clock < time) × (time ≤ latest cost)
+wake_within : (clock cost time : ℕ) (threads : List Thread) → AllByRecursion (λ thread. IfSome (waking_time thread.blocked) (λ t. t ≤ latest cost)) threads → Contains (map (wake_in clock) threads) (Some time) → (clock < time) × (time ≤ latest cost)
 wake_within clock cost time [] all c = absurd (contains_none (Some time) c)
 wake_within clock cost time (t ∷ ts) all c = ⊎_elim
     (λ (here : wake_in clock t ≡ Some time). by_blocked clock cost time t.blocked all.0 here)

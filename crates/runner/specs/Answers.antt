@@ -5,6 +5,7 @@ use Rattle.cap_io.specs.Faults.{Rose}
 use Rattle.cap_word.specs.declared.stops.Stop.TheVariants as cut
 use Rattle.cap_word.specs.declared.threads.ThreadId.{ThreadId}
 use Rattle.certificate_check.specs.Accepting.{accepted_tree}
+use Rattle.choice_rules.specs.Policy.{by_graph}
 use Rattle.lawful_log.specs.Good.{IsGoodLog}
 use Rattle.lawful_log.specs.Lawful.{IsLawfulLog}
 use Rattle.lawful_log.specs.Setup.{Setup, setting_of, start_machine}
@@ -25,12 +26,13 @@ use Rattle.runner.specs.declared.ends.RunEnd.TheVariants as end
 abbrev pub world_policy : Setup → WorldPolicy
 world_policy g = record { chunks = g.policy.chunks; backlog = g.policy.backlog; caps = g.policy.caps }
 
--- the world was just made from the program, image and certificate under the policy, and the monitor is that of the policy,
--- with its gate open
+-- the world was just made from the program, image and certificate under the policy, which chooses by the graph, and the
+-- monitor is that of the policy, with its gate open
 pub record IsAtStart (g : Setup) (held : Held) (monitor : MonitorState) : Type 0 where
   pub program : accepted_tree held.accepted ≡ g.program
   pub image : held.accepted.image ≡ g.image
   pub certificate : held.accepted.certificate ≡ g.certificate
+  pub rule : g.policy.rule ≡ by_graph
   pub ranges : IsPolicy held.accepted (world_policy g) g.policy.fuel
   pub made : IsStart held.accepted (world_policy g) g.policy.fuel held
   pub monitor_is : IsMonitorOf g monitor

@@ -5,8 +5,8 @@ use Rattle.cap_io.specs.Faults.{Rose}
 use Rattle.cap_word.specs.declared.stops.Stop.{Stop}
 use Rattle.cap_word.specs.declared.threads.ThreadId.{ThreadId}
 use Rattle.event_trace.specs.declared.events.EventKind.{EventKind}
-use Rattle.lawful_log.specs.Deliveries.{item_of}
-use Rattle.lawful_log.specs.Lawful.{shown}
+use Rattle.choice_rules.specs.Deliveries.{item_of}
+use Rattle.choice_rules.specs.EdgeLines.{shown}
 use Rattle.runner.specs.declared.ends.Failure.{Failure}
 use Rattle.runner.specs.declared.ends.Halt.{Halt}
 use Rattle.runner.specs.declared.ends.RunEnd.{RunEnd}

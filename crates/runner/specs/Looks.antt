@@ -1,9 +1,9 @@
 -- What a look at the next line of the trace comes to.
 use Rattle.std.specs.Prelude.{◌≡◌, ℕ, ◌<◌, ◌⊎◌, List, Option, None, Some, Result, Ok, Err}
 use Rattle.event_trace.specs.declared.events.Event.{Event}
+use Rattle.choice_rules.specs.Trace.{IsRefused}
 use Rattle.lawful_log.specs.Setup.{Setup}
 use Rattle.lawful_log.specs.State.{State}
-use Rattle.lawful_log.specs.Trace.{IsRefused}
 use Rattle.runner.specs.declared.ends.Failure.{Failure}
 use Rattle.runner.specs.declared.looking.Looked.{Looked}
 use Rattle.thread_core.specs.Worlds.{Held}

@@ -1,8 +1,9 @@
 -- The record of a segment.
 use Rattle.std.specs.Prelude.{◌≡◌, ℕ, ◌+◌, ◌<◌, ◌≤◌}
 use Rattle.blocking_graph.specs.Edges.{edges_with, count_of}
-use Rattle.lawful_log.specs.Segments.{changes}
-use Rattle.runner.specs.Kept.{Kept, machine_uses}
+use Rattle.choice_rules.specs.Seen.{changes, uses_in}
+use Rattle.lawful_log.specs.State.{held_chunks}
+use Rattle.runner.specs.Kept.{Kept}
 use Rattle.runner.specs.declared.course.Under.{Under}
 use Rattle.thread_core.specs.Worlds.{Held, cap_in}
 
@@ -12,6 +13,6 @@ HasSmallCaps held = (r : ℕ) → r < 8 → cap_in held r ≤ 1000000
 
 -- the graph has one record more: from the node of the choice to this one, at that cost, with the changes of the uses since
 pub record IsRecorded (old new : Kept) (held : Held) (under : Under) (node cost : ℕ) : Type 0 where
-  pub edges : new.graph.edges ≡ edges_with old.graph.edges (record { from = under.choice.node; to = node; cost = cost; change = changes under.before (machine_uses held.machine) })
+  pub edges : new.graph.edges ≡ edges_with old.graph.edges (record { from = under.choice.node; to = node; cost = cost; change = changes under.before (uses_in (held_chunks held.machine) held.machine.exchange) })
   pub counted : count_of new.graph.edges ≡ count_of old.graph.edges + 1
   pub rest : new ≡ record old { graph = record old.graph { edges = new.graph.edges } }

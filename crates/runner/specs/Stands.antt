@@ -9,12 +9,14 @@ use Rattle.c_tree.specs.WellScoped.{IsWellScoped}
 use Rattle.event_trace.specs.declared.events.Event.{Event}
 use Rattle.event_trace.specs.Lines.{FitsEvent}
 use Rattle.event_trace.specs.Reader.{ReaderState}
+use Rattle.choice_rules.specs.Policy.{by_graph, all_caps}
+use Rattle.choice_rules.specs.Trace.{Trace, IsNext, behind}
+use Rattle.choice_rules.specs.Seen.{Waiter, Past}
+use Rattle.choice_rules.specs.Clock.{is_due}
 use Rattle.lawful_log.specs.Choice.{is_open}
-use Rattle.lawful_log.specs.Clock.{is_due}
 use Rattle.lawful_log.specs.Good.{checked_of}
-use Rattle.lawful_log.specs.Setup.{Setup, setting_of, all_caps}
-use Rattle.lawful_log.specs.State.{Waiter, Segment, Past, State, uses_of}
-use Rattle.lawful_log.specs.Trace.{Trace, IsNext, behind}
+use Rattle.lawful_log.specs.Setup.{Setup, setting_of}
+use Rattle.lawful_log.specs.State.{Segment, State, uses_of}
 use Rattle.lawful_steps.specs.Beside.{HasLasts, IsGraphOf, IsMonitorOf}
 use Rattle.lawful_steps.specs.Waiting.{IsPlaced, AreQueued}
 use Rattle.lawful_steps.specs.Within.{IsBetween, IsWithin}
@@ -36,13 +38,14 @@ use Rattle.world_source.specs.UnderWay.{IsSettled}
 use Rattle.runner.specs.Kept.{Kept, known}
 use Rattle.runner.specs.Times.{IsTimely}
 
--- the world is one of this program, image, certificate and policy, and its times are possible
+-- the world is one of this program, image, certificate and policy, which chooses by the graph, and its times are possible
 pub record IsOf (g : Setup) (held : Held) : Type 0 where
   pub program : accepted_tree held.accepted ≡ g.program
   pub image : held.accepted.image ≡ g.image
   pub certificate : held.accepted.certificate ≡ g.certificate
   pub setting : held.setting ≡ setting_of g
   pub chunks : held.machine.areas.pool.count ≡ g.policy.chunks
+  pub rule : g.policy.rule ≡ by_graph
   -- each cap is at most 1,000,000
   pub small : SmallCaps (all_caps g.policy)
   pub scoped : IsWellScoped g.program

@@ -2,7 +2,7 @@
 -- its one cycle and the ticks of one sleep.
 use Rattle.std.specs.Prelude.{ℕ, ◌+◌, ◌*◌, ◌^◌, ◌≤◌, IfSome}
 use Rattle.std.specs.List.{AllByRecursion}
-use Rattle.lawful_steps.specs.Tests.{wakes}
+use Rattle.lawful_steps.specs.Tests.{waking_time}
 use Rattle.machine_world.specs.Threads.{World}
 
 -- no time of a run of so many instructions is later
@@ -12,4 +12,4 @@ latest cost = 10 ^ 15 + 2 ^ 31 * cost
 -- the clock isn't later, nor does a thread wake later that sleeps
 pub record IsTimely (w : World) : Type 0 where
   pub clock : w.clock ≤ latest w.cost
-  pub sleepers : AllByRecursion (λ thread. IfSome (wakes thread.blocked) (λ time. time ≤ latest w.cost)) w.threads
+  pub sleepers : AllByRecursion (λ thread. IfSome (waking_time thread.blocked) (λ time. time ≤ latest w.cost)) w.threads

@@ -3,8 +3,9 @@ use Rattle.std.specs.Prelude.{◌≡◌, ℕ, ◌<◌, List, Option, None, Some,
 use Rattle.event_trace.specs.declared.events.Event.{Event}
 use Rattle.lawful_log.specs.Setup.{Setup}
 use Rattle.lawful_log.specs.State.{State}
-use Rattle.lawful_log.specs.Stops.{IsIdle}
+use Rattle.lawful_log.specs.Stops.{IsStop}
 use Rattle.runner.specs.declared.ends.Halt.{Halt}
+use Rattle.schedule_log.specs.declared.entries.StopLine.{StopLine}
 use Rattle.thread_core.specs.Worlds.{Held}
 use Rattle.runner.specs.Kept.{Kept}
 use Rattle.runner.specs.Ranks.{rank}
@@ -31,7 +32,7 @@ pub record MovesOn (g : Setup) (state : State) (k : Kept) (held new : Held) (lef
 pub record StaysIdle (g : Setup) (state : State) (held new : Held) (left : Option (List ℕ)) (halt : Halt) : Type 0 where
   pub halt_is : halt ≡ Halt.Idle
   pub same : new ≡ held
-  pub idle : IsTold left → IsIdle g state held.machine
+  pub idle : IsTold left → IsStop g state StopLine.Idle held.machine
   pub machine_is : held.machine ≡ state.machine
 
 abbrev pub WaitEnds : Setup → State → Kept → Held → Held → Option (List ℕ) → Option Halt → Type 0

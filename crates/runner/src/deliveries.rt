@@ -1,6 +1,6 @@
 ghost use Rattle.std.specs.Prelude.{◌≡◌};
 ghost use Rattle.cap_word.specs.Word.{signed};
-ghost use Rattle.lawful_log.specs.Deliveries as log;
+ghost use Rattle.choice_rules.specs.Deliveries as rules;
 ghost use Rattle.runner.specs.Lines.{coming_line};
 
 use event_trace::EventKind;
@@ -19,7 +19,7 @@ pub(crate) fn coming_entry(clock: u64, kind: EventKind, delivered: Delivered) ->
 }
 
 fn item_of(kind: EventKind) -> Item
-    ensures { result ≡ log.item_of kind }
+    ensures { result ≡ rules.item_of kind }
 {
     match kind {
         EventKind::Arrive { value } => Item::Arrive {

@@ -1,6 +1,6 @@
 ghost use Rattle.std.specs.Prelude.{◌<◌, ◌≡◌, length, pos, slice_index_or};
 ghost use Rattle.cap_io.specs.Writes.{Puts};
-ghost use Rattle.lawful_log.specs.Lawful as log;
+ghost use Rattle.choice_rules.specs.EdgeLines as rules;
 ghost use Rattle.runner.specs.Counts.{CountsPart};
 ghost use Rattle.runner.specs.Lines.{edge_line, edge_lines, end_lines};
 ghost use Rattle.runner.specs.Steps.{stop_line};
@@ -65,7 +65,7 @@ fn edge_entry(world: &World, edge: &EdgeLine) -> Entry
 
 /// The averages that an edge's line shows: that of resource 0, and those of the resources that are given.
 fn shown(world: &World, change: &[i128; 8]) -> Averages
-    ensures { result ≡ log.shown world.now.setting.caps change.now }
+    ensures { result ≡ rules.shown world.now.setting.caps change.now }
 {
     let mut places = [0; 8];
     places[0] = change[0];

@@ -1,5 +1,5 @@
 ghost use Rattle.std.specs.Prelude.{◌≡◌, false, List, None, Option, ℕ};
-ghost use Rattle.lawful_log.specs.Clock.{is_due};
+ghost use Rattle.choice_rules.specs.Clock.{is_due};
 ghost use Rattle.lawful_log.specs.Setup.{Setup};
 ghost use Rattle.lawful_log.specs.State.{State};
 ghost use Rattle.runner.specs.Answers.{KeepsRun};

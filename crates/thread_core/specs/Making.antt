@@ -1,7 +1,8 @@
 -- The world in which a run starts, and what comes to a world from outside.
 use Rattle.std.specs.Prelude.{◌≡◌, ℕ, ◌*◌, ◌/◌, ◌<◌, ◌≤◌, Some, None, if◌then◌else◌, slice_index}
-use Rattle.c_mean.specs.ModelledCalls.{Delivery, Arrival, Message, is_dropped}
+use Rattle.c_mean.specs.ModelledCalls.{is_dropped}
 use Rattle.c_mean.specs.World as source
+use Rattle.choice_rules.specs.Deliveries.{delivery_of}
 use Rattle.certificate_check.specs.Accepting.{accepted_tree}
 use Rattle.certificate_check.specs.Acceptance.{Acceptance}
 use Rattle.event_trace.specs.declared.events.EventKind.{EventKind}
@@ -41,11 +42,6 @@ pub record IsStart (accepted : Acceptance) (policy : WorldPolicy) (fuel : ℕ) (
   pub stopped : held.stopped ≡ None
 
 -- ---- from outside
-
--- the queue that an event goes to, and its value
-abbrev pub delivery_of : EventKind → Delivery
-delivery_of (Arrive value) = Arrival value
-delivery_of (Sent channel value) = Message channel value
 
 abbrev pub IsEventInRange : EventKind → Type 0
 IsEventInRange (Arrive value) = Unit {0}

@@ -1,6 +1,7 @@
 use Rattle.std.proofs.Common.{refl, arith}
 use Rattle.std.specs.Prelude.{replicate}
 use Rattle.certificate_check.specs.Accepting.{accepted_tree}
+use Rattle.choice_rules.specs.Policy.{by_graph}
 use Rattle.lawful_log.specs.Setup.{Setup}
 use Rattle.resource_monitor.specs.declared.curves.Curve.TheVariants.{Linear}
 use Rattle.runner.specs.Answers.{IsAtStart}
@@ -27,12 +28,14 @@ run-end-requires g c =
         curves = replicate 8 Linear;
         high = 900;
         low = 700;
+        rule = by_graph;
       };
     } in
     let is : IsAtStart setup c.args.world c.in-Ok.monitor = record {
       program = refl;
       image = refl;
       certificate = refl;
+      rule = refl;
       ranges = c.requires.made.ranges;
       made = c.requires.made.made;
       monitor_is = record { curves = c.in-Ok.ensures.0; caps = c.in-Ok.ensures.1; high = c.in-Ok.ensures.2; low = c.in-Ok.ensures.3 };

@@ -4,11 +4,12 @@ use Rattle.blocking_graph.specs.Edges.{edges_with, count_of}
 use Rattle.blocking_graph.specs.Graph.{GraphState}
 use Rattle.blocking_graph.specs.declared.edges.EdgeLine.{EdgeLine}
 use Rattle.cap_io.specs.Writes.{Puts}
-use Rattle.lawful_log.specs.Segments.{changes}
+use Rattle.choice_rules.specs.Seen.{changes, uses_in}
+use Rattle.lawful_log.specs.State.{held_chunks}
 use Rattle.schedule_log.specs.EntryText.{entry_text}
 use Rattle.schedule_log.specs.declared.entries.Entry.{Entry}
 use Rattle.scheduler.specs.State.{SchedulerState, IsJoined}
-use Rattle.runner.specs.Kept.{Kept, machine_uses}
+use Rattle.runner.specs.Kept.{Kept}
 use Rattle.runner.specs.Stands.{StandsWithin}
 use Rattle.runner.specs.Steps.{PartEnds}
 use Rattle.runner.proofs.Ended.{block_cost, block_part, caps_held, eight_uses}
@@ -57,6 +58,6 @@ returns-clause-ends g c = λ s state left stands.
     let joined = subst (λ (old : SchedulerState). IsJoined old c.enqueue.new.self c.in_ok-node.node c.args.under.choice.thread) scheduler_is c.in_ok-enqueue.ensures.ok in
     subst (λ (k : Kept). PartEnds s state left (record k { scheduler = c.enqueue.new.self; under = None }) c.args.world.now left (g.K.Sink.taken c.args.out.now) (g.K.Sink.taken c.write_line.new.out) c.write_line.result) (sym same)
     (block_part s state first c.args.world.now left c.args.under is c.args.key.now c.args.cost c.requires.4 c.in_ok-node.node c.in_ok-node.ensures.number c.enqueue.new.self joined graph keys_is
-    (recorded.edges ∙ ap (λ (es : List EdgeLine). edges_with es (record { from = c.args.under.choice.node; to = c.in_ok-node.node; cost = c.args.cost; change = changes c.args.under.before (machine_uses c.args.world.now.machine) })) edges_is)
+    (recorded.edges ∙ ap (λ (es : List EdgeLine). edges_with es (record { from = c.args.under.choice.node; to = c.in_ok-node.node; cost = c.args.cost; change = changes c.args.under.before (uses_in (held_chunks c.args.world.now.machine) c.args.world.now.machine.exchange) })) edges_is)
     (recorded.counted ∙ ap (λ (es : List EdgeLine). count_of es + 1) edges_is) c.in_ok-node.ensures.counted (g.K.Sink.taken c.args.out.now) (g.K.Sink.taken c.write_line.new.out) c.write_line.result
     (subst (λ (n : ℕ). Puts (g.K.Sink.taken c.args.out.now) (g.K.Sink.taken c.write_line.new.out) (entry_text (Entry.Block c.args.under.choice.thread.number c.in_ok-node.node c.args.key.now c.args.cost n) ++ 10 ∷ []) c.write_line.result) c.free-free.ensures c.write_line.ensures.bytes))

@@ -1,7 +1,7 @@
 use Rattle.std.proofs.Common.{◌≡◌, ◌∙◌, false, Option, sym, subst, arith}
 use Rattle.event_trace.specs.declared.events.Event.{Event}
 use Rattle.std.proofs.lemmas.Result.{err_from_is_err_and}
-use Rattle.lawful_log.specs.Clock.{is_due}
+use Rattle.choice_rules.specs.Clock.{is_due}
 use Rattle.runner.specs.Stands.{IsAtChoice, IsAtPoint}
 use Rattle.runner.specs.Steps.{StepEnds}
 use Rattle.runner.proofs.Pointed.{not_due_none, not_due_event, waited}

@@ -5,7 +5,7 @@ use Rattle.blocking_graph.specs.Edges.{edges_with}
 use Rattle.blocking_graph.specs.Graph.{GraphState}
 use Rattle.blocking_graph.specs.declared.edges.EdgeLine.{EdgeLine}
 use Rattle.blocking_graph.specs.declared.segments.SegmentRecord.{SegmentRecord}
-use Rattle.lawful_log.specs.Segments.{changes}
+use Rattle.choice_rules.specs.Seen.{changes}
 use Rattle.runner.specs.Kept.{Kept}
 use Rattle.runner.specs.Recorded.{IsRecorded}
 use Rattle.runner.specs.declared.ends.Failure.{Failure}

@@ -1,0 +1,12 @@
+-- The lawful choice where the rule is known.
+use Rattle.std.proofs.Common.{◌≡◌, ℕ, sym, subst}
+use Rattle.choice_rules.specs.Policy.{Rule, by_graph, Policy}
+use Rattle.choice_rules.specs.Seen.{Waiter, Seen}
+use Rattle.choice_rules.specs.Choice.{IsGraphChoice, IsLawfulBy, IsLawful}
+
+module _ (policy : Policy) (seen : Seen) (clock : ℕ) (chosen : Waiter) (rule_is : policy.rule ≡ by_graph) where
+  pub lawful_by_graph : IsGraphChoice policy seen clock chosen → IsLawful policy seen clock chosen
+  lawful_by_graph is = subst (λ (r : Rule). IsLawfulBy r policy seen clock chosen) (sym rule_is) is
+
+  pub graph_choice_of : IsLawful policy seen clock chosen → IsGraphChoice policy seen clock chosen
+  graph_choice_of is = subst (λ (r : Rule). IsLawfulBy r policy seen clock chosen) rule_is is

@@ -1,0 +1,66 @@
+-- The lawful choice of a thread: among those that are eligible by the gate, as the rule of the policy says.
+use Rattle.std.specs.Prelude.{◌≡◌, ◌≢◌, ℕ, Bool, false, not, ◌&&◌, ◌||◌, ℤ, IsTrue, IsSome, List, Option, Some, filter, find, nat_eq}
+use Rattle.blocking_graph.specs.Edges.{edges_of}
+use Rattle.event_trace.specs.declared.events.Event.{Event}
+use Rattle.resource_monitor.specs.Gate.{gate}
+use Rattle.resource_monitor.specs.Monitor.{MonitorState}
+use Rattle.scheduler.specs.Scores as scores
+use Rattle.scheduler.specs.Scores.{comes_before}
+use Rattle.choice_rules.specs.Policy.{Rule, by_graph, Policy, all_caps}
+use Rattle.choice_rules.specs.Seen.{Waiter, Past, Seen, uses_of, last_choice}
+use Rattle.choice_rules.specs.Readiness.{is_ready, at_accept, any_elsewhere}
+use Rattle.choice_rules.specs.Clock.{is_due, IsChoicePoint}
+
+-- ---- who is eligible
+
+-- the gate, moved by the uses at the start and after each segment
+abbrev pub is_open : Policy → Past → Bool
+is_open policy past = gate policy.high policy.low policy.curves (all_caps policy) past.uses
+
+-- a thread is eligible where it is ready and, if it is at `accept`, the gate is open or no thread elsewhere than at
+-- `accept` is ready
+abbrev pub is_eligible : Policy → Seen → ℕ → Waiter → Bool
+is_eligible policy seen clock w =
+    is_ready policy seen clock w && (not (at_accept seen w) || (is_open policy seen.past || not (any_elsewhere policy seen clock)))
+
+-- ---- the choice by the graph: by the scores of the nodes, and the order of the queues
+
+-- the resources as they are at a choice
+abbrev pub monitor_of : Policy → Seen → MonitorState
+monitor_of policy seen = record {
+  curves = policy.curves;
+  caps = all_caps policy;
+  high = policy.high;
+  low = policy.low;
+  uses = uses_of seen;
+  is_open = is_open policy seen.past;
+}
+
+-- the score of a node, by the pressures now and the edges of all records
+abbrev pub score_of : Policy → Seen → ℕ → ℤ
+score_of policy seen node = scores.score (monitor_of policy seen) (edges_of seen.past.records) node
+
+-- the threads at a node, in the order in which they joined it
+abbrev pub queue_at : Seen → ℕ → List Waiter
+queue_at seen node = filter (λ w. nat_eq w.node node) seen.waiting
+
+-- the first eligible thread of its node, which comes before every other node with an eligible thread
+pub record IsGraphChoice (policy : Policy) (seen : Seen) (clock : ℕ) (chosen : Waiter) : Type 0 where
+  pub first : find (is_eligible policy seen clock) (queue_at seen chosen.node) ≡ Some chosen
+  pub least : (other : ℕ) → other ≢ chosen.node → IsSome (find (is_eligible policy seen clock) (queue_at seen other)) →
+      IsTrue (comes_before (score_of policy seen) (last_choice seen.past.taken) chosen.node other)
+
+-- ---- the choice, by the rule
+
+abbrev pub IsLawfulBy : Rule → Policy → Seen → ℕ → Waiter → Type 0
+IsLawfulBy by_graph policy seen clock chosen = IsGraphChoice policy seen clock chosen
+
+abbrev pub IsLawful : Policy → Seen → ℕ → Waiter → Type 0
+IsLawful policy seen clock chosen = IsLawfulBy policy.rule policy seen clock chosen
+
+-- no event is due, and the thread is the lawful choice
+pub record IsChoice (policy : Policy) (seen : Seen) (clock : ℕ) (chosen : Waiter) : Type 0 where
+  pub next : Option Event
+  pub point : IsChoicePoint policy seen next clock
+  pub not_due : is_due next clock ≡ false
+  pub lawful : IsLawful policy seen clock chosen

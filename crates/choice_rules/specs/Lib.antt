@@ -1,0 +1,10 @@
+pub mod Policy
+pub mod Trace
+pub mod Seen
+pub mod Readiness
+pub mod Clock
+pub mod Deliveries
+pub mod Choice
+pub mod Stops
+pub mod SourceRuns
+pub mod EdgeLines

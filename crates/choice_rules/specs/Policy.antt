@@ -1,0 +1,26 @@
+-- The policy of a run: its limits, and the rule by which a thread is chosen.
+use Rattle.std.specs.Prelude.{ℕ, List, ◌∷◌, drop}
+use Rattle.resource_monitor.specs.declared.curves.Curve.{Curve}
+
+-- the rule by which one of the eligible threads is chosen
+pub data Rule : Type 0 where
+  -- by the blocking graph and the pressure on the resources
+  by_graph : Rule
+
+pub record Policy : Type 0 where
+  -- the number of chunks, the most instructions, and how many items may wait in a queue
+  pub chunks : ℕ
+  pub fuel : ℕ
+  pub backlog : ℕ
+  -- the caps of the resources by their numbers, of which 0 isn't read; a cap of 0 says that it isn't given
+  pub caps : List ℕ
+  -- the curve of each resource's pressure, and the pressures from which the gate closes and down to which it opens
+  pub curves : List Curve
+  pub high : ℕ
+  pub low : ℕ
+  -- how a thread is chosen
+  pub rule : Rule
+
+-- the caps of all eight resources: that of resource 0 is the number of chunks
+abbrev pub all_caps : Policy → List ℕ
+all_caps policy = policy.chunks ∷ drop 1 policy.caps
