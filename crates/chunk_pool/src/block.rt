@@ -9,6 +9,9 @@ use std::alloc::{AllocError, Allocator};
 use std::marker::{Model, PhantomData};
 use std::slice;
 
+// How many bytes a word has, and to which multiple its place is.
+const WORD_BYTES: usize = 4;
+
 /// Where a block begins. It owns nothing.
 #[derive(Clone, Copy)]
 pub(crate) struct Start {
@@ -48,9 +51,11 @@ pub(crate) fn allocate<A: Allocator>(
     len: usize,
 ) -> Result<(Start, Words, Deed<A>), AllocError>
     requires { len < 2 ^ 60 }
-    ensures { IfOk result (λ made. (made.1.at ≡ made.0.at) × (made.1.items ≡ []) × (made.1.spare ≡ len) × (made.2.at ≡ made.0.at) × (made.2.len ≡ len) × (made.2.alloc ≡ alloc.now)) }
+    ensures { IfOk result (λ made.
+        (made.1.at ≡ made.0.at) × (made.1.items ≡ []) × (made.1.spare ≡ len) ×
+        (made.2.at ≡ made.0.at) × (made.2.len ≡ len) × (made.2.alloc ≡ alloc.now)) }
 {
-    match alloc.allocate(len * 4, 4) {
+    match alloc.allocate(len * WORD_BYTES, WORD_BYTES) {
         Ok(block) => {
             let start = Start {
                 at: block as *mut u32,
@@ -69,20 +74,23 @@ pub(crate) fn deallocate<A: Allocator>(
     words: Words,
     deed: Deed<A>,
 )
-    requires { (words.at ≡ start.at) × (length words.items ≡ len) × (words.spare ≡ 0) × (deed.at ≡ start.at) × (deed.len ≡ len) × (deed.alloc ≡ alloc.now) }
+    requires { (words.at ≡ start.at) × (length words.items ≡ len) × (words.spare ≡ 0) ×
+        (deed.at ≡ start.at) × (deed.len ≡ len) × (deed.alloc ≡ alloc.now) }
 {
     let Words {} = words;
     let Deed { mark: _ } = deed;
     unsafe {
-        alloc.deallocate(start.at as *mut u8, len * 4, 4);
+        alloc.deallocate(start.at as *mut u8, len * WORD_BYTES, WORD_BYTES);
     }
 }
 
 impl Words {
     /// Writes the first word of the room, which is at `index`.
     pub(crate) fn push(&mut self, start: Start, index: usize, word: u32)
-        requires { (start.at ≡ self.old.at) × (index ≡ length self.old.items) × (0 < self.old.spare) }
-        ensures { (self.new.at ≡ self.old.at) × (self.new.items ≡ self.old.items ++ word ∷ []) × (self.new.spare + 1 ≡ self.old.spare) }
+        requires { (start.at ≡ self.old.at) × (index ≡ length self.old.items) ×
+            (0 < self.old.spare) }
+        ensures { (self.new.at ≡ self.old.at) × (self.new.items ≡ self.old.items ++ word ∷ []) ×
+            (self.new.spare + 1 ≡ self.old.spare) }
     {
         unsafe { start.at.add(index).write(word) }
     }
@@ -90,7 +98,9 @@ impl Words {
     /// Writes the word at `index` again.
     pub(crate) fn write(&mut self, start: Start, index: usize, word: u32)
         requires { (start.at ≡ self.old.at) × (index < length self.old.items) }
-        ensures { (self.new.at ≡ self.old.at) × (self.new.items ≡ slice_set self.old.items index word) × (self.new.spare ≡ self.old.spare) }
+        ensures { (self.new.at ≡ self.old.at) ×
+            (self.new.items ≡ slice_set self.old.items index word) ×
+            (self.new.spare ≡ self.old.spare) }
     {
         unsafe { start.at.add(index).write(word) }
     }

@@ -4,6 +4,9 @@
 // read, written and lent, and their addresses in the machine's memory. The free list is kept as Capriccio keeps it
 // (von Behren et al., SOSP 2003, "Linked Stack Management"): the last chunk that was given back is taken first.
 //
+// All chunks lie side by side in one region of memory (region.rt), and the free list runs through the first words of the
+// free chunks. The raw pointers of the region are in block.rt alone, in five functions that are proved by hand.
+//
 // Contracts see a pool as the record `Pool` of specs/Pool.antt: the count, the words per chunk, the contents and the
 // free list. The layer above uses the definitions there, among them which chunk a need takes (`taken_for`), what fits
 // and where a chunk ends, and the clauses of `ChunkPool`'s calls and of `need_laws`.
