@@ -4,7 +4,7 @@ use Rattle.std.specs.Vec.{with_item}
 use Rattle.std.proofs.lemmas.List.{length-set, get_or-map, map-set, length-map, reverse-append, length-reverse, get_or-reverse, nil_from_length}
 use Rattle.std.proofs.lemmas.List.Elements.{All-get_or}
 use Rattle.chunk_pool.specs.declared.pool.ChunkPool.TheInside.{Inside}
-use Rattle.chunk_pool.specs.Pool.{Pool, contents_with, with_word, after_take, after_give, first_or, IsFree, IsHeld, IsChunk, IsPool}
+use Rattle.chunk_pool.specs.Pool.{Pool, contents_with, with_word, words_of, after_take, after_give, first_or, IsFree, IsHeld, IsChunk, IsPool, words_in}
 use Rattle.chunk_pool.specs.Chunks.{pool_of, IsKept}
 use Rattle.chunk_pool.proofs.PoolLaws.{same_pool}
 use Rattle.chunk_pool.proofs.FreeLaws.{taken_is_held, free_bounded_by_held}
@@ -95,9 +95,10 @@ held-popped a free (Some id) sound e cases =
 pub chunk_within : (a : Inside) (p : Pool) (id : ℕ) → pool_of a ≡ p → id < p.count → id < length a.chunks.items
 chunk_within a p id v within = subst (λ (q : Pool). id < q.count) (sym v) within
 
-pub word_within : (a : Inside) (p : Pool) (id word : ℕ) (chunk : Vec ℕ Global) → pool_of a ≡ p → IsPool (pool_of a) → id < p.count → word < p.words → chunk ≡ get_or a.chunks.items id chunk → word < vec_len chunk
+pub word_within : (a : Inside) (p : Pool) (id word : ℕ) (chunk : Vec ℕ Global) → pool_of a ≡ p → IsPool (pool_of a) → id < p.count → word < words_of p id → chunk ≡ get_or a.chunks.items id chunk → word < vec_len chunk
+unfolding words_in
 word_within a p id word chunk v sound within below read =
-    let in' : word < a.words = subst (λ (q : Pool). word < q.words) (sym v) below in
+    let in' : word < a.words = subst (λ (q : Pool). word < words_of q id) (sym v) below in
     omega (arith, chunk_len a.words a.chunks.items id chunk sound.chunks (chunk_within a p id v within) read)
 
 pub written : (a : Inside) (p : Pool) (id word value : ℕ) (chunk : Vec ℕ Global) → pool_of a ≡ p → id < p.count → chunk ≡ get_or a.chunks.items id chunk → pool_of (record a { chunks = with_item a.chunks id (with_item chunk word value) }) ≡ with_word p id word value

@@ -5,3 +5,4 @@ pub mod AddressLaws
 pub mod PoolStart
 mod Kept
 mod Starts
+pub mod ShapeLaws

@@ -2,6 +2,7 @@ use Rattle.std.proofs.Common.{◌≡◌, ℕ, ◌-◌, sym, ◌∙◌, ap, subst
 use Rattle.std.proofs.lemmas.List.{length-set}
 use Rattle.chunk_pool.specs.Pool.{Pool, KeepsOthers, payload_of, word_of, first_or, IsPool}
 use Rattle.chunk_pool.proofs.PoolLaws.{KeepsOthers-after_give, payload_of-after_give, word_of-with_word_same, IsPool-after_give}
+use Rattle.chunk_pool.proofs.ShapeLaws.{words_of-payload}
 use Rattle.chunk_pool.proofs.Kept.{payload_within, room_for_held, pushed, top_is_first, given}
 use Rattle.chunk_pool.proofs.pool.ChunkPool.give.Goals as goal
 
@@ -47,7 +48,7 @@ returns-clause-link c =
     let sound : IsPool c.args.self.now = subst IsPool c.self.view_is c.self.invariant.pool in
     ap (λ (p : Pool). word_of p c.args.id 0) (returns-clause-after c)
     ∙ word_of-with_word_same c.args.self.now c.args.id 0 (first_or c.args.self.now.free c.args.self.now.count) sound c.requires.0
-    (omega (arith, sound.header_fits))
+    (omega (arith, words_of-payload c.args.self.now c.args.id sound c.requires.0))
 
 pub returns-clause-payloads : goal.returns-clause-payloads
 returns-clause-payloads c other = ap (λ (p : Pool). payload_of p other) (returns-clause-after c) ∙ payload_of-after_give c.args.self.now c.args.id other
