@@ -45,6 +45,7 @@ taken_of-first p need (id ∷ ids) answer new first after free each =
 
 -- where each free chunk fits, a take takes what the need does
 pub IsTaken-after_take : (p : Pool) (need : ℕ) (answer : Option ℕ) (new : Pool) → answer ≡ first_free p → new ≡ after_take p → All (λ id. IsTrue (fits p need id)) p.free → IsTaken (taken_for p need) answer p new
+unfolding taken_for
 IsTaken-after_take p need answer new first after each = taken_of-first p need p.free answer new first after refl each
 
 -- ---- held chunks under take and give
@@ -64,7 +65,7 @@ IsHeld-after_give p id other apart held =
     (held.0, λ there. elim (Contains-cons_cases id p.free other there) [ inl same ↦ apart (sym same) | inr before ↦ held.1 before ])
 
 -- how often a number stands in a list that has one more in front
-copies-cons : (x : ℕ) (xs : List ℕ) (id : ℕ) (same : Bool) → nat_eq x id ≡ same → count_by (λ other. nat_eq other id) (x ∷ xs) ≡ cond same 1 0 + count_by (λ other. nat_eq other id) xs
+pub copies-cons : (x : ℕ) (xs : List ℕ) (id : ℕ) (same : Bool) → nat_eq x id ≡ same → count_by (λ other. nat_eq other id) (x ∷ xs) ≡ cond same 1 0 + count_by (λ other. nat_eq other id) xs
 copies-cons x xs id same test =
     sum_by-cons (λ (other : ℕ). cond (nat_eq other id) 1 0) x xs ∙ ap (λ (same : Bool). cond same 1 0 + count_by (λ other. nat_eq other id) xs) test
 

@@ -1,21 +1,22 @@
 -- A pool that lies in one region, as its parts change.
-use Rattle.std.proofs.Common.{◌≡◌, ◌≢◌, ℕ, ◌+◌, ◌-◌, ◌*◌, ◌^◌, ◌<◌, ◌≤◌, ◌⊎◌, inl, inr, List, [], ◌∷◌, length, map, take, drop, get_or, set, refl, sym, ◌∙◌, ap, subst, arith, All}
+use Rattle.std.proofs.Common.{◌≡◌, ◌≢◌, ℕ, ◌+◌, ◌-◌, ◌*◌, ◌^◌, ◌<◌, ◌≤◌, ◌⊎◌, inl, inr, List, [], ◌∷◌, length, map, take, drop, get_or, slice_get, set, None, IsTrue, refl, sym, ◌∙◌, ap, subst, arith, All}
 use Rattle.std.specs.List.{range_with_len}
 use Rattle.std.proofs.lemmas.Bool.{cases_eq, cases_lt}
-use Rattle.std.proofs.lemmas.List.{length-set}
+use Rattle.std.proofs.lemmas.List.{length-set, nil_from_length}
 use Rattle.std.proofs.lemmas.List.Elements.{All-head}
 use Rattle.std.proofs.lemmas.Nat.{row_fits}
 use Rattle.chunk_pool.specs.declared.pool.ChunkPool.TheInside.{Inside}
-use Rattle.chunk_pool.specs.Pool.{Pool, word_of, payload_of, contents_with, with_word, after_take, after_give, first_or, IsHeld, IsLinked, IsPool, start_chunk, start_pool}
+use Rattle.chunk_pool.specs.Pool.{Pool, word_of, payload_of, contents_with, with_word, words_of, words_in, after_take, after_give, first_or, fits, taken_for, IsTaken, IsHeld, IsLinked, IsPool, start_chunk, start_pool}
 use Rattle.chunk_pool.specs.Chunks.{chunks_in, followed, pool_of, IsKept}
 use Rattle.chunk_pool.proofs.PoolLaws.{same_pool, apart_from, word_of-with_word_same, IsPool-with_word, IsPool-after_take, IsPool-after_give}
-use Rattle.chunk_pool.proofs.FreeLaws.{free_bounded_by_held}
+use Rattle.chunk_pool.proofs.FreeLaws.{free_bounded_by_held, IsTaken-after_take}
 use Rattle.chunk_pool.proofs.PoolStart.{first_or-range, first_word-start_pool}
 use Rattle.chunk_pool.proofs.RegionLaws.{word_in_region, payload_in_region, chunks_in-set, length-followed, followed-step, followed-set, followed-range}
 
 -- ---- reading, where p is what the fields are seen as
 
-pub read_is : (a : Inside) (p : Pool) (id word : ℕ) → pool_of a ≡ p → id < p.count → word < p.words → get_or a.region (id * p.words + word) 0 ≡ word_of p id word
+pub read_is : (a : Inside) (p : Pool) (id word : ℕ) → pool_of a ≡ p → id < p.count → word < words_of p id → get_or a.region (id * p.words + word) 0 ≡ word_of p id word
+unfolding words_in
 read_is a p id word v =
     let P : Pool → Type 0 = λ q. id < q.count → word < q.words → get_or a.region (id * q.words + word) 0 ≡ word_of q id word in
     subst P v (λ within below. sym (word_in_region a.count a.words id word a.region within below))
@@ -71,7 +72,8 @@ here_written a id word value kept within below fits link_kept =
       };
     }
 
-pub written : (a : Inside) (p : Pool) (id word value at : ℕ) (new : List ℕ) → pool_of a ≡ p → IsKept a → id < p.count → word < p.words → value < 2 ^ 32 → IsHeld p id ⊎ (4 ≤ word) → at ≡ id * p.words + word → new ≡ set a.region at value → IsWritten a p id word value new
+pub written : (a : Inside) (p : Pool) (id word value at : ℕ) (new : List ℕ) → pool_of a ≡ p → IsKept a → id < p.count → word < words_of p id → value < 2 ^ 32 → IsHeld p id ⊎ (4 ≤ word) → at ≡ id * p.words + word → new ≡ set a.region at value → IsWritten a p id word value new
+unfolding words_in
 written a p id word value at new v kept within below fits link_kept at_is new_is =
     let P : Pool → Type 0 = λ q. id < q.count → word < q.words → IsHeld q id ⊎ (4 ≤ word) → at ≡ id * q.words + word → IsWritten a q id word value new in
     subst P v (λ within below link_kept at_is.
@@ -114,6 +116,13 @@ taken a next kept some next_is =
       kept = record { pool = subst IsPool (sym pool) (IsPool-after_take (pool_of a) kept.pool); size = kept.size; first = next_is ∙ linked.0 };
     }
 
+-- where no chunk is free, a need takes nothing
+pub none_taken : (a : Inside) (p : Pool) (need : ℕ) → pool_of a ≡ p → a.free ≡ 0 → All (λ id. IsTrue (fits p need id)) p.free → IsTaken (taken_for p need) None p p
+none_taken a p need v empty each =
+    let free : p.free ≡ [] = nil_from_length p.free (omega (arith, free_is a p v, empty)) in
+    IsTaken-after_take p need None p (sym (ap (λ (ids : List ℕ). slice_get ids 0) free))
+    (ap (λ (ids : List ℕ). record p { free = ids }) (free ∙ sym (ap (drop 1) free))) each
+
 -- ---- a chunk is given back
 
 abbrev pub given_to : Inside → ℕ → Inside
@@ -126,6 +135,7 @@ pub record IsGivenTo (a : Inside) (p : Pool) (id : ℕ) : Type 0 where
 
 -- the link is written, and then the number is in front
 pub given : (old a : Inside) (p : Pool) (id : ℕ) → pool_of old ≡ p → IsKept old → pool_of a ≡ with_word p id 0 old.first → IsKept a → IsHeld p id → IsGivenTo a p id
+unfolding words_in
 given old a p id old_is old_kept is kept held =
     let sound : IsPool p = subst IsPool old_is old_kept.pool in
     let linked : Pool = with_word p id 0 old.first in

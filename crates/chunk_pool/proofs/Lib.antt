@@ -6,3 +6,4 @@ pub mod PoolStart
 mod Blocks
 mod RegionLaws
 mod Kept
+pub mod ShapeLaws

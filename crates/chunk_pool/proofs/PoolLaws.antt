@@ -6,7 +6,7 @@ use Rattle.std.proofs.lemmas.Bool.{cases_Bool, cases_eq, cases_lt, eqb-true, ne_
 use Rattle.std.proofs.lemmas.List.{length-set, get_or-set_same, get_or-set_other, get_or_default, set_past, drop-set-lt}
 use Rattle.std.proofs.lemmas.List.Elements.{All-cons, All-head, All-tail, All-set, All-drop, All-get_or}
 use Rattle.std.proofs.lemmas.Map.Views.{Contains-from_any, list_any-from_Contains}
-use Rattle.chunk_pool.specs.Pool.{Pool, word_of, payload_of, contents_with, with_word, KeepsOthers, after_take, after_give, first_or, IsHeld, IsChunk, IsLinked, IsPool}
+use Rattle.chunk_pool.specs.Pool.{Pool, word_of, payload_of, contents_with, with_word, words_of, KeepsOthers, after_take, after_give, first_or, IsHeld, IsChunk, IsLinked, IsPool, words_in}
 
 -- ---- a pool by its parts
 
@@ -65,7 +65,8 @@ chunks-contents_with words contents id word value within fits old =
     All-set (IsChunk words) contents id (set (get_or contents id []) word value)
     (IsChunk-set words (get_or contents id []) word value fits (All-get_or (IsChunk words) contents id [] within old)) old
 
-pub word_of-with_word_same : (p : Pool) (id word value : ℕ) → IsPool p → id < p.count → word < p.words → word_of (with_word p id word value) id word ≡ value
+pub word_of-with_word_same : (p : Pool) (id word value : ℕ) → IsPool p → id < p.count → word < words_of p id → word_of (with_word p id word value) id word ≡ value
+unfolding words_in
 word_of-with_word_same p id word value s within below =
     let in' : id < length p.contents = subst (λ (n : ℕ). id < n) (sym s.count_is) within in
     let chunk = All-get_or (IsChunk p.words) p.contents id [] in' s.chunks in

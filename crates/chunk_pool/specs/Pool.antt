@@ -10,6 +10,31 @@ pub record Pool : Type 0 where
   pub contents : List (List ℕ)
   pub free : List ℕ
 
+-- ---- the shape
+
+-- how many chunks there are and how large they are. Where chunks stand follows from it, and nothing but a new pool
+-- changes it.
+pub record Shape : Type 0 where
+  pub count : ℕ
+  pub words : ℕ
+
+abbrev pub shape_of : Pool → Shape
+shape_of p = record { count = p.count; words = p.words }
+
+-- how many words a chunk has
+unfoldable pub words_in : Shape → ℕ → ℕ
+words_in shape id = shape.words
+
+-- how many words stand before a chunk's first
+unfoldable pub start_in : Shape → ℕ → ℕ
+start_in shape id = id * shape.words
+
+abbrev pub words_of : Pool → ℕ → ℕ
+words_of p id = words_in (shape_of p) id
+
+abbrev pub start_of : Pool → ℕ → ℕ
+start_of p id = start_in (shape_of p) id
+
 -- ---- words
 
 -- the words of a chunk
@@ -46,6 +71,18 @@ KeepsPayloads old new = (other : ℕ) → payload_of new other ≡ payload_of ol
 
 -- ---- free and held
 
+-- the numbers of all free chunks
+abbrev pub all_free : Pool → List ℕ
+all_free p = p.free
+
+-- how many chunks are free
+abbrev pub free_count : Pool → ℕ
+free_count p = length (all_free p)
+
+-- a pool whose free chunks are those of another pool
+abbrev pub with_free_of : Pool → Pool → Pool
+with_free_of p q = record p { free = q.free }
+
 -- the first of these numbers, or the end mark where there is none
 abbrev pub first_or : List ℕ → ℕ → ℕ
 first_or [] end = end
@@ -63,13 +100,13 @@ after_take p = record p { free = drop 1 p.free }
 abbrev pub after_give : Pool → ℕ → Pool
 after_give p id = record p { contents = contents_with p.contents id 0 (first_or p.free p.count); free = id ∷ p.free }
 
--- the number stands in the free list
+-- the chunk is free
 abbrev pub IsFree : Pool → ℕ → Type 0
-IsFree p id = Contains p.free id
+IsFree p id = Contains (all_free p) id
 
 -- a chunk of the pool that is not free
 abbrev pub IsHeld : Pool → ℕ → Type 0
-IsHeld p id = (id < p.count) × ¬ Contains p.free id
+IsHeld p id = (id < p.count) × ¬ IsFree p id
 
 -- ---- what every pool keeps
 
@@ -121,11 +158,18 @@ first_place = 0x8000_0000
 
 -- how many bytes a chunk has
 abbrev pub bytes_of : Pool → ℕ → ℕ
-bytes_of p id = 4 * p.words
+bytes_of p id = 4 * words_of p id
+
+-- how many bytes a chunk of the first size has. All chunks have one size.
+unfoldable pub first_bytes_in : Shape → ℕ
+first_bytes_in shape = 4 * shape.words
+
+abbrev pub first_bytes : Pool → ℕ
+first_bytes p = first_bytes_in (shape_of p)
 
 -- the address of the first byte of a chunk
 abbrev pub place_of : Pool → ℕ → ℕ
-place_of p id = first_place + id * (4 * p.words)
+place_of p id = first_place + 4 * start_of p id
 
 -- the address just past a chunk's last byte, where a stack in it begins
 abbrev pub end_of : Pool → ℕ → ℕ
@@ -143,11 +187,14 @@ abbrev pub HasAddress : Pool → ℕ → ℕ → Type 0
 HasAddress p id address = (id < p.count) × (place_of p id ≤ address) × (address < end_of p id)
 
 -- the number of the chunk that has a byte at this address, if one has
-abbrev pub chunk_at : Pool → ℕ → Option ℕ
-chunk_at p address =
-    if nat_le first_place address && nat_lt address (first_place + p.count * (4 * p.words))
-    then Some ((address - first_place) / (4 * p.words))
+unfoldable pub chunk_in : Shape → ℕ → Option ℕ
+chunk_in shape address =
+    if nat_le first_place address && nat_lt address (first_place + shape.count * (4 * shape.words))
+    then Some ((address - first_place) / (4 * shape.words))
     else None
+
+abbrev pub chunk_at : Pool → ℕ → Option ℕ
+chunk_at p address = chunk_in (shape_of p) address
 
 -- ---- what a need of so many bytes takes
 
@@ -166,8 +213,8 @@ taken_of p need [] = None
 taken_of p need (id ∷ ids) = if fits p need id then Some (record { chunk = id; pool = record p { free = ids } }) else None
 
 -- what the need takes; none where no free chunk fits it
-abbrev pub taken_for : Pool → ℕ → Option Taken
-taken_for p need = taken_of p need p.free
+unfoldable pub taken_for : Pool → ℕ → Option Taken
+taken_for p need = taken_of p need (all_free p)
 
 -- the answer of a take and the pool after it are what the need takes
 abbrev pub IsTaken : Option Taken → Option ℕ → Pool → Pool → Type 0

@@ -9,7 +9,8 @@
 //
 // Contracts see a pool as the record `Pool` of specs/Pool.antt: the count, the words per chunk, the contents and the
 // free list. The layer above uses the definitions there, among them which chunk a need takes (`taken_for`), what fits
-// and where a chunk ends, and the clauses of `ChunkPool`'s calls and of `need_laws`.
+// and where a chunk ends, and the clauses of `ChunkPool`'s calls, `need_laws` and `place_laws`. How many words a chunk
+// has, where it stands, at which address it is found and what a need takes stay closed there: only the laws say.
 #![tactic(auto)]
 
 mod block;
@@ -17,5 +18,5 @@ mod laws;
 mod pool;
 mod region;
 
-pub use laws::need_laws;
+pub use laws::{need_laws, place_laws};
 pub use pool::ChunkPool;

@@ -1,5 +1,5 @@
 ghost use Rattle.std.specs.Prelude.{◌≡◌, ℕ, ◌+◌, ◌-◌, ◌*◌, ◌/◌, ◌%◌, ◌<◌, ◌≤◌, ◌⊎◌, ◌↔◌, [], ◌∷◌, length, map, replicate, All, IsTrue, IsNone, IfSome, IfNone, IfOk};
-ghost use Rattle.chunk_pool.specs.Pool.{Pool, word_of, payload_of, with_word, KeepsOthers, KeepsOtherWords, KeepsPayloads, first_or, first_free, after_take, after_give, IsFree, IsHeld, IsPool, start_pool, bytes_of, place_of, end_of, fits, taken_for, IsTaken, HasAddress, chunk_at, start_chunk};
+ghost use Rattle.chunk_pool.specs.Pool.{Pool, word_of, payload_of, with_word, words_of, KeepsOthers, KeepsOtherWords, KeepsPayloads, all_free, free_count, first_or, first_free, after_take, after_give, IsFree, IsHeld, IsPool, start_pool, bytes_of, place_of, end_of, fits, taken_for, IsTaken, HasAddress, chunk_at, start_chunk};
 ghost use Rattle.std.specs.List.{range_with_len};
 ghost use Rattle.chunk_pool.specs.Chunks.{chunks_in};
 
@@ -62,13 +62,14 @@ impl ChunkPool {
     }
 
     /// Removes the first number of the free list and answers it, or `None` where no chunk is free. No word changes.
+    #[tactic(auto, unfolding(crate::specs::Pool::words_in))]
     pub fn take(&mut self) -> Option<u32>
         ensures first { result ≡ first_free self.old }
         ensures after { self.new ≡ after_take self.old }
-        ensures none { IsNone result ↔ (self.old.free ≡ []) }
+        ensures none { IsNone result ↔ (all_free self.old ≡ []) }
         ensures held { IfSome result (λ id. IsFree self.old id × IsHeld self.new id) }
         // Where each free chunk fits a need, it takes what the need takes.
-        ensures needed { (need : ℕ) → All (λ id. IsTrue (fits self.old need id)) self.old.free → IsTaken (taken_for self.old need) result self.old self.new }
+        ensures needed { (need : ℕ) → All (λ id. IsTrue (fits self.old need id)) (all_free self.old) → IsTaken (taken_for self.old need) result self.old self.new }
         ensures sound { IsPool self.new }
     {
         if self.free == 0 {
@@ -82,6 +83,7 @@ impl ChunkPool {
 
     /// Gives chunk `id` back: its first word is the first free number, or the count where there is none, and its
     /// number is in front of the free list.
+    #[tactic(auto, unfolding(crate::specs::Pool::words_in))]
     pub fn give(&mut self, id: u32)
         requires { IsHeld self.old id }
 
@@ -97,9 +99,10 @@ impl ChunkPool {
     }
 
     /// The word `word`, from 0, of chunk `id`.
+    #[tactic(auto, unfolding(crate::specs::Pool::words_in))]
     pub fn read(&self, id: u32, word: u32) -> u32
         requires id_in_range { id < self.now.count }
-        requires word_in_range { word < self.now.words }
+        requires word_in_range { word < words_of self.now id }
         ensures value { result ≡ word_of self.now id word }
         ensures sound { IsPool self.now }
     {
@@ -107,9 +110,10 @@ impl ChunkPool {
     }
 
     /// Writes the word `word`, from 0, of chunk `id`. The header of a free chunk is not written.
+    #[tactic(auto, unfolding(crate::specs::Pool::words_in))]
     pub fn write(&mut self, id: u32, word: u32, value: u32)
         requires id_in_range { id < self.old.count }
-        requires word_in_range { word < self.old.words }
+        requires word_in_range { word < words_of self.old id }
         requires link_kept { IsHeld self.old id ⊎ (4 ≤ word) }
 
         ensures after { self.new ≡ with_word self.old id word value }
@@ -123,6 +127,7 @@ impl ChunkPool {
     }
 
     /// The words of chunk `id` behind its header, from word 4 on.
+    #[tactic(auto, unfolding(crate::specs::Pool::words_in))]
     pub fn payload(&self, id: u32) -> &[u32]
         requires { id < self.now.count }
         ensures value { result.now ≡ payload_of self.now id }
@@ -133,9 +138,10 @@ impl ChunkPool {
     }
 
     /// Where the word `word` of chunk `id` lies in the region.
+    #[tactic(auto, unfolding(crate::specs::Pool::words_in))]
     fn position(&self, id: u32, word: u32) -> usize
         requires id_in_range { id < self.now.count }
-        requires word_in_range { word < self.now.words }
+        requires word_in_range { word < words_of self.now id }
         ensures place { result ≡ id * self.now.words + word }
         ensures within { result < self.now.count * self.now.words }
     {
@@ -144,7 +150,7 @@ impl ChunkPool {
 
     /// How many chunks are free.
     pub fn free(&self) -> u32
-        ensures count { result ≡ length self.now.free }
+        ensures count { result ≡ free_count self.now }
         ensures bounded { result ≤ self.now.count }
         ensures sound { IsPool self.now }
     {
@@ -152,6 +158,7 @@ impl ChunkPool {
     }
 
     /// The address of the first byte of chunk `id`.
+    #[tactic(auto, unfolding(crate::specs::Pool::words_in, crate::specs::Pool::start_in))]
     pub fn place_of(&self, id: u32) -> u32
         requires { id < self.now.count }
         ensures place { result ≡ place_of self.now id }
@@ -163,6 +170,7 @@ impl ChunkPool {
     }
 
     /// How many bytes chunk `id` has.
+    #[tactic(auto, unfolding(crate::specs::Pool::words_in))]
     pub fn bytes_of(&self, id: u32) -> u32
         requires { id < self.now.count }
         ensures value { result ≡ bytes_of self.now id }
@@ -172,6 +180,7 @@ impl ChunkPool {
     }
 
     /// The number of the chunk that has a byte at `address`, or `None` where none has.
+    #[tactic(auto, unfolding(crate::specs::Pool::words_in, crate::specs::Pool::start_in, crate::specs::Pool::chunk_in))]
     pub fn chunk_at(&self, address: u32) -> Option<u32>
         ensures value { result ≡ chunk_at self.now address }
         ensures holds { IfSome result (λ id. HasAddress self.now id address) }

@@ -3,7 +3,7 @@ use Rattle.std.proofs.Common.{◌≡◌, ◌≢◌, ℕ, ◌+◌, ◌%◌, ◌/�
 use Rattle.std.proofs.lemmas.Bool.{cond_both, cases_eq, eq-eqb, eqb-true}
 use Rattle.cap_word.specs.Calls.{Call}
 use Rattle.cap_word.specs.Runs.{Stops}
-use Rattle.chunk_pool.specs.Pool.{Pool, Taken, taken_for, chunk_of}
+use Rattle.chunk_pool.specs.Pool.{Pool, Taken, taken_for, chunk_of, all_free}
 use Rattle.chunk_pool.specs.Pool.{with_word as with_pool_word}
 use Rattle.chunk_pool.proofs.NeedLaws.{taken_for-leaves, taken_for-keeps}
 use Rattle.chunk_pool.proofs.PoolLaws.{KeepsOthers-with_word, KeepsOthers-after_give}
@@ -84,8 +84,8 @@ chunk_of-with_header p c a b chunk apart = KeepsOthers-with_word (with_pool_word
 kept_linked : (chunk : ℕ) (l : Local) (found : Option Taken) → copies_in chunk l ≡ 0 → taken_for l.areas.pool (read l.core.x t1) ≡ found → KeepsChunk chunk l (linked_on l found)
 kept_linked chunk l None none e = tt
 kept_linked chunk l (Some taken) none e =
-    let free : copies chunk (taken.chunk ∷ taken.pool.free) ≡ 0 = omega (arith, none, taken_for-leaves l.areas.pool (read l.core.x t1) taken e chunk) in
-    chunk_of-with_header taken.pool taken.chunk _ _ chunk (not_first chunk taken.chunk taken.pool.free free)
+    let free : copies chunk (taken.chunk ∷ all_free taken.pool) ≡ 0 = omega (arith, none, taken_for-leaves l.areas.pool (read l.core.x t1) taken e chunk) in
+    chunk_of-with_header taken.pool taken.chunk _ _ chunk (not_first chunk taken.chunk (all_free taken.pool) free)
     ∙ ap (λ (p : Pool). chunk_of p chunk) (taken_for-keeps l.areas.pool (read l.core.x t1) taken e)
 
 kept_front : (chunk : ℕ) (l : Local) (given : ℕ) (chain : List ℕ) → copies chunk chain ≡ 0 → KeepsChunk chunk l (unlinked_front l given chain)

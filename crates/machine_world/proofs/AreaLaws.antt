@@ -4,7 +4,7 @@ use Rattle.std.specs.Prelude.{◌&&◌, nat_le, nat_lt}
 use Rattle.std.proofs.lemmas.Bool.{cond_both, cond-true, cond-false, cases_eq, eq-eqb, ne_eqb, leb-true, ltb-true, and_parts}
 use Rattle.std.proofs.lemmas.List.{length-set}
 use Rattle.std.proofs.lemmas.List.Elements.{All-get_or}
-use Rattle.chunk_pool.specs.Pool.{Pool, chunk_of, word_of, with_word, place_of, payload_place_of, chunk_at, IsPool, IsChunk}
+use Rattle.chunk_pool.specs.Pool.{Pool, chunk_of, word_of, with_word, place_of, payload_place_of, chunk_at, IsPool, words_of, bytes_of}
 use Rattle.chunk_pool.proofs.AddressLaws.{HasAddress-from_chunk_at}
 use Rattle.chunk_pool.proofs.PoolLaws.{IsPool-with_word}
 use Rattle.rv_machine.specs.Bytes.{put_byte, replaced}
@@ -12,6 +12,7 @@ use Rattle.rv_machine.specs.WordBytes.{byte_in, words_with}
 use Rattle.rv_machine.proofs.WordBytes.{byte_in-same, byte_in-other, word_with-below}
 use Rattle.rv_machine.proofs.Memories.{IsMemory}
 use Rattle.machine_world.specs.Areas.{Areas, Spot, InGlobals, InTables, InPayload, globals_place, tables_place, is_within, payload_spot, spot_of, byte_on, is_writable_on, with_byte_on, byte_at, is_writable, with_byte}
+use Rattle.chunk_pool.proofs.ShapeLaws.{IsChunk-chunk_of}
 
 -- ---- where a spot lies
 
@@ -21,7 +22,7 @@ IsSpot areas address None = Unit {0}
 IsSpot areas address (Some (InGlobals offset)) = (address ≡ globals_place + offset) × (offset < 4 * length areas.globals)
 IsSpot areas address (Some (InTables offset)) = (address ≡ tables_place + offset) × (offset < 4 * length areas.tables)
 IsSpot areas address (Some (InPayload chunk offset)) =
-    (address ≡ place_of areas.pool chunk + offset) × (16 ≤ offset) × (chunk < areas.pool.count) × (offset < 4 * areas.pool.words)
+    (address ≡ place_of areas.pool chunk + offset) × (16 ≤ offset) × (chunk < areas.pool.count) × (offset < bytes_of areas.pool chunk)
 
 within : (place : ℕ) (words : List ℕ) (address : ℕ) → is_within place words address ≡ true → (address ≡ place + (address - place)) × (address - place < 4 * length words)
 within place words address inside =
@@ -79,10 +80,8 @@ spot_of-with_byte areas a b at = spot_of-with_byte_on areas (spot_of areas a) b 
 
 -- ---- bytes
 
-length-chunk : (pool : Pool) (chunk : ℕ) → IsPool pool → chunk < pool.count → length (chunk_of pool chunk) ≡ pool.words
-length-chunk pool chunk sound below =
-    let in' : chunk < length pool.contents = subst (λ (n : ℕ). chunk < n) (sym sound.count_is) below in
-    (All-get_or (IsChunk pool.words) pool.contents chunk [] in' sound.chunks).length
+length-chunk : (pool : Pool) (chunk : ℕ) → IsPool pool → chunk < pool.count → length (chunk_of pool chunk) ≡ words_of pool chunk
+length-chunk pool chunk sound below = (IsChunk-chunk_of pool chunk sound below).length
 
 chunk_of-with_word : (pool : Pool) (chunk word value : ℕ) → IsPool pool → chunk < pool.count → chunk_of (with_word pool chunk word value) chunk ≡ set (chunk_of pool chunk) word value
 chunk_of-with_word pool chunk word value sound below =
@@ -147,8 +146,7 @@ IsPool-with_byte_on areas a b None sound is fits = sound
 IsPool-with_byte_on areas a b (Some (InGlobals offset)) sound is fits = sound
 IsPool-with_byte_on areas a b (Some (InTables offset)) sound is fits = sound
 IsPool-with_byte_on areas a b (Some (InPayload chunk offset)) sound is fits =
-    let in' : chunk < length areas.pool.contents = subst (λ (n : ℕ). chunk < n) (sym sound.count_is) is.2 in
-    let chunk_is = All-get_or (IsChunk areas.pool.words) areas.pool.contents chunk [] in' sound.chunks in
+    let chunk_is = IsChunk-chunk_of areas.pool chunk sound is.2 in
     let inside : offset / 4 < length (chunk_of areas.pool chunk) = omega (arith, chunk_is.length) in
     let old : word_of areas.pool chunk (offset / 4) < 2 ^ 32 = All-get_or (λ word. word < 2 ^ 32) (chunk_of areas.pool chunk) (offset / 4) 0 inside chunk_is.fits in
     IsPool-with_word areas.pool chunk (offset / 4) _ sound is.2 (word_with-below (word_of areas.pool chunk (offset / 4)) (offset % 4) b (omega arith) fits old) (inr (omega arith))

@@ -8,19 +8,19 @@ use Rattle.cap_word.specs.Runs as runs
 use Rattle.cap_word.specs.declared.stops.Stop.{Stop}
 use Rattle.cap_word.specs.declared.traps.TrapKind.{TrapKind}
 use Rattle.c_mean.specs.ModelledCalls.{blocking_row, immediate_row, is_dropped, with_delivery}
-use Rattle.chunk_pool.specs.Pool.{Pool, Taken, taken_for, start_pool}
-use Rattle.chunk_pool.proofs.NeedLaws.{taken_for-leaves, taken_for-keeps}
+use Rattle.chunk_pool.specs.Pool.{Taken, taken_for, start_pool, Shape, shape_of, all_free}
+use Rattle.chunk_pool.proofs.NeedLaws.{taken_for-leaves, taken_for-shape}
 use Rattle.machine_world.specs.Areas.{Areas}
 use Rattle.machine_world.specs.Local as local
 use Rattle.machine_world.specs.Local.{Local, LocalMove, local_step, passed, with_result}
-use Rattle.machine_world.specs.Held.{copies, KeepsCopies, size_of, KeepsSize}
+use Rattle.machine_world.specs.Held.{copies, KeepsCopies, KeepsShape}
 use Rattle.machine_world.specs.Threads.{Blocked, Thread, World, Setting, first_with, thread_of, replaced, without, with_thread, start_core, most_threads, Move, Goes, Puts, Spawns, Blocks, Ends, Stops, Wrong, retired, resumed, unless_trap, printed, result_of, package_call, spawned, asked, stopped, moved, step_of, step_on, step}
 use Rattle.machine_world.specs.Threads.{result_on}
 use Rattle.machine_world.specs.Runs.{empty_world, started_on, start_world, Action, Deliver, Advance, Pick, Step, delivered, advanced, may_run, picked_at, picked, is_between, world_of, after_action, and_then, after_actions}
-use Rattle.machine_world.specs.Chains.{held_copies}
+use Rattle.machine_world.specs.Chains.{held_copies, AreAllFree}
 use Rattle.machine_world.specs.Numbered.{RiseBetween}
 use Rattle.machine_world.specs.Counted.{IsCounted, KeepsCounted, IsCountedIf}
-use Rattle.machine_world.proofs.HeldLaws.{copies-cons, KeepsCopies-step, KeepsSize-step}
+use Rattle.machine_world.proofs.HeldLaws.{copies-cons, KeepsCopies-step, KeepsShape-step}
 use Rattle.machine_world.proofs.WorldLaws.{held_copies-replaced, held_copies-without, held_copies-append}
 
 -- ---- numbers
@@ -67,29 +67,29 @@ pub record IsLive (w : World) (thread : Thread) : Type 0 where
   pub found : first_with thread.number w.threads ≡ Some thread
 
 counted_retired : (w : World) (thread new : Thread) (areas : Areas) → IsCounted w → IsLive w thread → new.number ≡ thread.number →
-    ((chunk : ℕ) → copies chunk new.core.chain + copies chunk areas.pool.free ≡ copies chunk thread.core.chain + copies chunk w.areas.pool.free) →
-    size_of areas.pool ≡ size_of w.areas.pool → IsCounted (retired w new areas)
+    ((chunk : ℕ) → copies chunk new.core.chain + copies chunk (all_free areas.pool) ≡ copies chunk thread.core.chain + copies chunk (all_free w.areas.pool)) →
+    shape_of areas.pool ≡ shape_of w.areas.pool → IsCounted (retired w new areas)
 counted_retired w thread new areas counted live number same size = record {
   numbered = RiseBetween-replaced new 0 w.next w.threads counted.numbered;
   partition = λ chunk.
       let found : first_with new.number w.threads ≡ Some thread = ap (λ (n : ℕ). first_with n w.threads) number ∙ live.found in
       let held = held_copies-replaced chunk new thread 0 w.next w.threads counted.numbered found in
-      let count : cond (ltb chunk areas.pool.count) 1 0 ≡ cond (ltb chunk w.areas.pool.count) 1 0 = ap (λ (s : ℕ × ℕ). cond (ltb chunk s.0) 1 0) size in
+      let count : cond (ltb chunk areas.pool.count) 1 0 ≡ cond (ltb chunk w.areas.pool.count) 1 0 = ap (λ (s : Shape). cond (ltb chunk s.count) 1 0) size in
       let before = counted.partition chunk in
-      (let sum : held_copies chunk (replaced new w.threads) + copies chunk areas.pool.free ≡ held_copies chunk w.threads + copies chunk w.areas.pool.free = omega (arith, held, same chunk) in sum)
+      (let sum : held_copies chunk (replaced new w.threads) + copies chunk (all_free areas.pool) ≡ held_copies chunk w.threads + copies chunk (all_free w.areas.pool) = omega (arith, held, same chunk) in sum)
       ∙ before ∙ sym count;
 }
 
 counted_ended : (w : World) (thread : Thread) (areas : Areas) (clock cost : ℕ) → IsCounted w → IsLive w thread →
-    ((chunk : ℕ) → copies chunk areas.pool.free ≡ copies chunk thread.core.chain + copies chunk w.areas.pool.free) →
-    size_of areas.pool ≡ size_of w.areas.pool →
+    ((chunk : ℕ) → copies chunk (all_free areas.pool) ≡ copies chunk thread.core.chain + copies chunk (all_free w.areas.pool)) →
+    shape_of areas.pool ≡ shape_of w.areas.pool →
     IsCounted (record w { threads = without thread.number w.threads; areas = areas; clock = clock; cost = cost; running = None })
 counted_ended w thread areas clock cost counted live same size = record {
   numbered = RiseBetween-without thread.number 0 w.next w.threads counted.numbered;
   partition = λ chunk.
       let held = held_copies-without chunk thread.number thread 0 w.next w.threads counted.numbered live.found in
-      let count : cond (ltb chunk areas.pool.count) 1 0 ≡ cond (ltb chunk w.areas.pool.count) 1 0 = ap (λ (s : ℕ × ℕ). cond (ltb chunk s.0) 1 0) size in
-      (let sum : held_copies chunk (without thread.number w.threads) + copies chunk areas.pool.free ≡ held_copies chunk w.threads + copies chunk w.areas.pool.free = omega (arith, held, same chunk) in sum)
+      let count : cond (ltb chunk areas.pool.count) 1 0 ≡ cond (ltb chunk w.areas.pool.count) 1 0 = ap (λ (s : Shape). cond (ltb chunk s.count) 1 0) size in
+      (let sum : held_copies chunk (without thread.number w.threads) + copies chunk (all_free areas.pool) ≡ held_copies chunk w.threads + copies chunk (all_free w.areas.pool) = omega (arith, held, same chunk) in sum)
       ∙ counted.partition chunk ∙ sym count;
 }
 
@@ -99,10 +99,10 @@ counted_started w taken need entry argument counted some = record {
   partition = λ chunk.
       let held = held_copies-append chunk w.threads (record { number = w.next; core = start_core taken entry argument; blocked = None }) in
       let left = taken_for-leaves w.areas.pool need taken some chunk in
-      let moved_free = copies-cons chunk taken.chunk taken.pool.free in
+      let moved_free = copies-cons chunk taken.chunk (all_free taken.pool) in
       let chain = copies-cons chunk taken.chunk [] in
-      let count : cond (ltb chunk taken.pool.count) 1 0 ≡ cond (ltb chunk w.areas.pool.count) 1 0 = ap (λ (p : Pool). cond (ltb chunk p.count) 1 0) (taken_for-keeps w.areas.pool need taken some) in
-      (let sum : held_copies chunk (w.threads ++ record { number = w.next; core = start_core taken entry argument; blocked = None } ∷ []) + copies chunk taken.pool.free ≡ held_copies chunk w.threads + copies chunk w.areas.pool.free = omega (arith, held, left, moved_free, chain) in sum)
+      let count : cond (ltb chunk taken.pool.count) 1 0 ≡ cond (ltb chunk w.areas.pool.count) 1 0 = ap (λ (s : Shape). cond (ltb chunk s.count) 1 0) (taken_for-shape w.areas.pool need taken some) in
+      (let sum : held_copies chunk (w.threads ++ record { number = w.next; core = start_core taken entry argument; blocked = None } ∷ []) + copies chunk (all_free taken.pool) ≡ held_copies chunk w.threads + copies chunk (all_free w.areas.pool) = omega (arith, held, left, moved_free, chain) in sum)
       ∙ counted.partition chunk ∙ sym count;
 }
 
@@ -144,13 +144,13 @@ counted_asked s w thread (local.Starts entry argument need) counted live =
 abbrev local_of : World → Thread → Local
 local_of w thread = record { areas = w.areas; core = thread.core }
 
-counted_stopped : (w : World) (thread : Thread) (end : local.End) → IsCounted w → IsLive w thread → ((chunk : ℕ) → KeepsCopies chunk (local_of w thread) (runs.Stops end)) → KeepsSize (local_of w thread) (runs.Stops end) → KeepsCounted (stopped w thread end)
+counted_stopped : (w : World) (thread : Thread) (end : local.End) → IsCounted w → IsLive w thread → ((chunk : ℕ) → KeepsCopies chunk (local_of w thread) (runs.Stops end)) → KeepsShape (local_of w thread) (runs.Stops end) → KeepsCounted (stopped w thread end)
 counted_stopped w thread (local.Ended areas) counted live same size = counted_ended w thread areas (w.clock + 1) (w.cost + 1) counted live same size
 counted_stopped w thread (local.Trapped kind) counted live same size = tt
 counted_stopped w thread local.NoRoom counted live same size = tt
 counted_stopped w thread local.Wrong counted live same size = tt
 
-counted_moved : (s : Setting) (w : World) (thread : Thread) (move : LocalMove) → IsCounted w → IsLive w thread → ((chunk : ℕ) → KeepsCopies chunk (local_of w thread) move) → KeepsSize (local_of w thread) move → KeepsCounted (moved s w thread move)
+counted_moved : (s : Setting) (w : World) (thread : Thread) (move : LocalMove) → IsCounted w → IsLive w thread → ((chunk : ℕ) → KeepsCopies chunk (local_of w thread) move) → KeepsShape (local_of w thread) move → KeepsCounted (moved s w thread move)
 counted_moved s w thread (runs.Goes after) counted live same size = counted_retired w thread (record thread { core = after.core }) after.areas counted live refl same size
 counted_moved s w thread (runs.Asks question waiting) counted live same size = counted_asked s w thread question counted live
 counted_moved s w thread (runs.Stops end) counted live same size = counted_stopped w thread end counted live same size
@@ -162,7 +162,7 @@ counted_step_of s w number (Some thread) counted e =
     let l = local_of w thread in
     cond_both (nat_eq w.cost s.fuel) (Stops Stop.Fuel) (moved s w thread (local_step s.code l)) KeepsCounted
     (λ _. tt)
-    (λ _. counted_moved s w thread (local_step s.code l) counted live (λ chunk. KeepsCopies-step s.code l chunk) (KeepsSize-step s.code l))
+    (λ _. counted_moved s w thread (local_step s.code l) counted live (λ chunk. KeepsCopies-step s.code l chunk) (KeepsShape-step s.code l))
 
 counted_step_on : (s : Setting) (w : World) (running : Option ℕ) → IsCounted w → KeepsCounted (step_on s w running)
 counted_step_on s w None counted = tt
@@ -198,13 +198,13 @@ copies-range chunk from (suc n) low high = ⊎_elim
     ∙ (λ i. cond (ne_eqb from chunk apart i) 1 0 + later i))
     (cases_eq from chunk)
 
-free_once : (chunk count : ℕ) → 0 + copies chunk (range_with_len 0 count) ≡ cond (ltb chunk count) 1 0
+free_once : (chunk count : ℕ) → copies chunk (range_with_len 0 count) ≡ cond (ltb chunk count) 1 0
 free_once chunk count = ⊎_elim
     (λ (within : chunk < count).
-    (let one : 0 + copies chunk (range_with_len 0 count) ≡ 1 = omega (arith, copies-range chunk 0 count (omega arith) (omega arith)) in one)
+    copies-range chunk 0 count (omega arith) (omega arith)
     ∙ sym (ap (λ (b : Bool). cond b 1 0) (lt-ltb chunk count within)))
     (λ (past : count ≤ chunk).
-    (let none : 0 + copies chunk (range_with_len 0 count) ≡ 0 = omega (arith, copies-past chunk 0 count (omega arith)) in none)
+    copies-past chunk 0 count (omega arith)
     ∙ sym (ap (λ (b : Bool). cond b 1 0) (le-ltb chunk count past)))
     (cases_lt chunk count)
 
@@ -212,12 +212,15 @@ counted_started_on : (w : World) (entry need : ℕ) (found : Option Taken) → I
 counted_started_on w entry need None counted e = tt
 counted_started_on w entry need (Some taken) counted e = counted_started w taken need entry 0 counted e
 
-pub counted_start : (chunks words : ℕ) (globals tables : List ℕ) (entry need : ℕ) → IsCountedIf (start_world chunks words globals tables entry need)
+-- in a new pool every chunk is free
+pub all_free-new : (chunks words : ℕ) → AreAllFree (start_pool chunks words)
+all_free-new chunks words chunk = free_once chunk chunks
+
+pub counted_start : (areas : Areas) (entry need : ℕ) → AreAllFree areas.pool → IsCountedIf (start_world areas entry need)
 unfolding start_world
-counted_start chunks words globals tables entry need =
-    let areas : Areas = record { pool = start_pool chunks words; globals = globals; tables = tables } in
+counted_start areas entry need free =
     counted_started_on (empty_world areas) entry need (taken_for areas.pool need)
-    (record { numbered = omega arith; partition = λ chunk. free_once chunk chunks }) refl
+    (record { numbered = omega arith; partition = λ chunk. (let all : 0 + copies chunk (all_free areas.pool) ≡ cond (ltb chunk areas.pool.count) 1 0 = omega (arith, free chunk) in all) }) refl
 
 -- ---- actions
 

@@ -1,6 +1,6 @@
 -- A step of one thread keeps the form of areas and thread: what is stored are words, chunks are taken free and given back
 -- held, and registers get words.
-use Rattle.std.proofs.Common.{◌≡◌, ℕ, ◌+◌, ◌*◌, ◌/◌, ◌%◌, ◌^◌, ◌<◌, ◌≤◌, Bool, true, false, nat_eq, List, [], ◌∷◌, length, get_or, set, Option, Some, None, refl, sym, ap, subst, ◌∙◌, arith, cond, inl, ⊎_elim}
+use Rattle.std.proofs.Common.{◌≡◌, ℕ, ◌+◌, ◌/◌, ◌%◌, ◌^◌, ◌<◌, ◌≤◌, Bool, true, false, nat_eq, List, [], ◌∷◌, length, get_or, set, Option, Some, None, refl, ap, ◌∙◌, arith, cond, inl, ⊎_elim}
 use Rattle.std.specs.Prelude.{IfSome, nat_lt}
 use Rattle.std.proofs.lemmas.Bool.{cond_both, cases_lt, lt-ltb, le-ltb, eq-eqb, eqb-true}
 use Rattle.std.proofs.lemmas.List.{length-set, get_or_past}
@@ -8,10 +8,10 @@ use Rattle.std.proofs.lemmas.List.Elements.{All-set, All-get_or}
 use Rattle.cap_word.specs.Calls.{Call}
 use Rattle.cap_word.specs.Runs as runs
 use Rattle.cap_word.proofs.WordRange.{add-below}
-use Rattle.chunk_pool.specs.Pool.{Pool, Taken, taken_for, after_give, chunk_of, word_of, IsPool, IsChunk, IsHeld}
+use Rattle.chunk_pool.specs.Pool.{Pool, Taken, taken_for, after_give, chunk_of, word_of, IsPool, IsHeld, all_free, payload_place_of, end_of}
 use Rattle.chunk_pool.proofs.AddressLaws.{place_of-bounded}
 use Rattle.chunk_pool.proofs.FreeLaws.{absent_from_copies}
-use Rattle.chunk_pool.proofs.NeedLaws.{taken_for-keeps, taken_for-sound}
+use Rattle.chunk_pool.proofs.NeedLaws.{taken_for-sound, taken_for-shape}
 use Rattle.chunk_pool.proofs.PoolLaws.{IsPool-with_word, IsPool-after_give}
 use Rattle.rv_machine.specs.Bytes.{with_stored, with_half, with_word, Stored, Nothing, Byte, Half, Word}
 use Rattle.rv_machine.specs.Registers.{read, write}
@@ -27,6 +27,7 @@ use Rattle.machine_world.specs.Places.{Checked}
 use Rattle.machine_world.specs.WellFormed.{AreWords, AreWellFormed, IsCore}
 use Rattle.machine_world.proofs.AreaLaws.{IsPool-with_byte}
 use Rattle.machine_world.proofs.HeldLaws.{copies-cons}
+use Rattle.chunk_pool.proofs.ShapeLaws.{IsChunk-chunk_of, words_of-payload, first_bytes-same}
 
 -- ---- words
 
@@ -123,7 +124,7 @@ front_is_held l chunk chain owns is =
     ⊎_elim
     (λ (within : chunk < l.areas.pool.count).
     let count : one_if (nat_lt chunk l.areas.pool.count) ≡ one_if true = ap one_if (lt-ltb chunk l.areas.pool.count within) in
-    let none : copies chunk l.areas.pool.free ≡ 0 = omega (arith, front, one, most, count) in
+    let none : copies chunk (all_free l.areas.pool) ≡ 0 = omega (arith, front, one, most, count) in
     (within, absent_from_copies l.areas.pool chunk none))
     (λ (past : l.areas.pool.count ≤ chunk).
     let count : one_if (nat_lt chunk l.areas.pool.count) ≡ one_if false = ap one_if (le-ltb chunk l.areas.pool.count past) in
@@ -132,8 +133,7 @@ front_is_held l chunk chain owns is =
 
 chunk_word-below : (pool : Pool) (chunk i : ℕ) → IsPool pool → chunk < pool.count → word_of pool chunk i < 2 ^ 32
 chunk_word-below pool chunk i sound below =
-    let in' : chunk < length pool.contents = subst (λ (n : ℕ). chunk < n) (sym sound.count_is) below in
-    word-below (chunk_of pool chunk) i (All-get_or (IsChunk pool.words) pool.contents chunk [] in' sound.chunks).fits
+    word-below (chunk_of pool chunk) i (IsChunk-chunk_of pool chunk sound below).fits
 
 -- a chunk that was taken, with its header written
 pub AreWellFormed-taken : (c : Checked) (areas : Areas) (need : ℕ) (taken : Taken) (tp_now sp_now : ℕ) → AreWellFormed c areas → taken_for areas.pool need ≡ Some taken → tp_now < 2 ^ 32 → sp_now < 2 ^ 32 →
@@ -143,7 +143,7 @@ AreWellFormed-taken c areas need taken tp_now sp_now form some tp_below sp_below
     let first = IsPool-with_word taken.pool taken.chunk 0 tp_now sound.0 sound.1.0 tp_below (inl sound.1) in
     record {
       pool = IsPool-with_word _ taken.chunk 1 sp_now first sound.1.0 sp_below (inl sound.1);
-      chunk = ap (λ (p : Pool). 4 * p.words) (taken_for-keeps areas.pool need taken some) ∙ form.chunk;
+      chunk = first_bytes-same areas.pool taken.pool (taken_for-shape areas.pool need taken some) ∙ form.chunk;
       globals = form.globals;
       global_words = form.global_words;
       tables = form.tables;
@@ -151,14 +151,14 @@ AreWellFormed-taken c areas need taken tp_now sp_now form some tp_below sp_below
 
 -- its payload and its end are addresses
 pub record AreAddresses (taken : Taken) : Type 0 where
-  pub payload : 0x8000_0000 + taken.chunk * (4 * taken.pool.words) + 16 < 2 ^ 32
-  pub end : 0x8000_0000 + taken.chunk * (4 * taken.pool.words) + 4 * taken.pool.words < 2 ^ 32
+  pub payload : payload_place_of taken.pool taken.chunk < 2 ^ 32
+  pub end : end_of taken.pool taken.chunk < 2 ^ 32
 
 pub AreAddresses-taken : (pool : Pool) (need : ℕ) (taken : Taken) → IsPool pool → taken_for pool need ≡ Some taken → AreAddresses taken
 AreAddresses-taken pool need taken is some =
     let sound = taken_for-sound pool need taken is some in
     let bounded = place_of-bounded taken.pool taken.chunk sound.0 sound.1.0 in
-    let words = sound.0.header_fits in
+    let words = words_of-payload taken.pool taken.chunk sound.0 sound.1.0 in
     record { payload = omega (arith, bounded, words); end = omega (arith, bounded) }
 
 AreWellFormed-given : (c : Checked) (l : Local) (chunk : ℕ) (chain : List ℕ) → AreWellFormed c l.areas → Owns l → l.core.chain ≡ chunk ∷ chain →

@@ -13,9 +13,9 @@ use Rattle.cap_word.specs.declared.stops.Stop.{Stop}
 use Rattle.cap_word.specs.declared.traps.TrapKind.{TrapKind}
 use Rattle.c_mean.specs.ModelledCalls.{Exchange, channel_of, blocking_row, immediate_row, Delivery, Arrival, Message, is_dropped, with_delivery}
 use Rattle.c_mean.specs.World.{empty_exchange}
-use Rattle.chunk_pool.specs.Pool.{Pool, Taken, taken_for, start_pool, end_of, payload_place_of, IsPool}
+use Rattle.chunk_pool.specs.Pool.{Pool, Taken, taken_for, end_of, payload_place_of, IsPool}
 use Rattle.machine_world.specs.Areas.{Areas}
-use Rattle.machine_world.specs.Chains.{held_copies}
+use Rattle.machine_world.specs.Chains.{held_copies, AreAllFree}
 use Rattle.machine_world.specs.Counted.{IsCounted, KeepsCounted, IsCountedIf}
 use Rattle.machine_world.specs.Held.{copies}
 use Rattle.machine_world.specs.Local as local
@@ -369,10 +369,9 @@ IsExchange-empty = record {
   use_count = refl;
 }
 
-pub IsWellFormedIf-start : (c : Checked) (s : Setting) (chunks words : ℕ) (globals tables : List ℕ) (entry need : ℕ) → AreWellFormed c (record { pool = start_pool chunks words; globals = globals; tables = tables }) → s.fuel ≤ most_fuel → entry < 2 ^ 32 → IsWellFormedIf c s (start_world chunks words globals tables entry need)
+pub IsWellFormedIf-start : (c : Checked) (s : Setting) (areas : Areas) (entry need : ℕ) → AreWellFormed c areas → AreAllFree areas.pool → s.fuel ≤ most_fuel → entry < 2 ^ 32 → IsWellFormedIf c s (start_world areas entry need)
 unfolding start_world
-IsWellFormedIf-start c s chunks words globals tables entry need form fuel below =
-    let areas : Areas = record { pool = start_pool chunks words; globals = globals; tables = tables } in
-    whole_if c s (started_on (empty_world areas) entry (taken_for areas.pool need)) (counted_start chunks words globals tables entry need)
+IsWellFormedIf-start c s areas entry need form free fuel below =
+    whole_if c s (started_on (empty_world areas) entry (taken_for areas.pool need)) (counted_start areas entry need free)
     (HasRest-started_on c s (empty_world areas) entry need (taken_for areas.pool need)
     (record { areas = form; cores = tt; exchange = IsExchange-empty; fuel = fuel; cost = omega arith; next = omega arith }) (omega arith) below refl)

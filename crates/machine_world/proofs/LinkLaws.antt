@@ -3,13 +3,14 @@ use Rattle.std.proofs.Common.{◌≡◌, ◌≢◌, ℕ, ◌^◌, ◌<◌, ◌�
 use Rattle.std.proofs.lemmas.Bool.{cond_both, cases_eq, cases_lt, eq-eqb, ne_eqb}
 use Rattle.std.proofs.lemmas.List.{length-set, drop-set-lt, set_past}
 use Rattle.cap_word.specs.Runs.{Goes, Stops}
-use Rattle.chunk_pool.specs.Pool.{Pool, Taken, taken_for, with_word, chunk_of, payload_of, end_of, payload_place_of, after_give, HasAddress, IsPool, IsHeld}
+use Rattle.chunk_pool.specs.Pool.{Pool, Taken, taken_for, with_word, chunk_of, payload_of, end_of, payload_place_of, after_give, HasAddress, IsPool, IsHeld, words_of}
 use Rattle.chunk_pool.proofs.AddressLaws.{chunk_at-some}
 use Rattle.chunk_pool.proofs.NeedLaws.{taken_for-sound, taken_for-keeps, taken_for-leaves}
 use Rattle.chunk_pool.proofs.PoolLaws.{word_of-with_word_same, word_of-with_word_other, KeepsOthers-with_word, payload_of-after_give, IsPool-with_word}
 use Rattle.rv_machine.specs.Registers.{read, write}
 use Rattle.machine_world.specs.Local.{Local, Wrong, sp, tp, t1, with_header, saved_tp, saved_sp, after_call, linked_on, linked, unlinked_on, unlinked, begins_at, chunk_with_payload}
 use Rattle.machine_world.specs.Links.{IsUndone}
+use Rattle.chunk_pool.proofs.ShapeLaws.{words_of-payload}
 
 -- ---- headers
 
@@ -27,11 +28,12 @@ payload_of-with_header p c a b other = payload_of-with_word (with_word p c 0 a) 
 
 pub saved_tp-with_header : (p : Pool) (c a b : ℕ) → IsPool p → c < p.count → saved_tp (with_header p c a b) c ≡ a
 saved_tp-with_header p c a b sound within =
-    word_of-with_word_other (with_word p c 0 a) c 1 b 0 (λ same. omega arith) ∙ word_of-with_word_same p c 0 a sound within (omega (arith, sound.header_fits))
+    word_of-with_word_other (with_word p c 0 a) c 1 b 0 (λ same. omega arith) ∙ word_of-with_word_same p c 0 a sound within (omega (arith, words_of-payload p c sound within))
 
 pub saved_sp-with_header : (p : Pool) (c a b : ℕ) → IsPool p → a < 2 ^ 32 → c < p.count → IsHeld p c → saved_sp (with_header p c a b) c ≡ b
 saved_sp-with_header p c a b sound fits within held =
-    word_of-with_word_same (with_word p c 0 a) c 1 b (IsPool-with_word p c 0 a sound within fits (inl held)) within (omega (arith, sound.header_fits))
+    let room : 4 < words_of (with_word p c 0 a) c = words_of-payload p c sound within in
+    word_of-with_word_same (with_word p c 0 a) c 1 b (IsPool-with_word p c 0 a sound within fits (inl held)) within (omega (arith, room))
 
 -- ---- registers
 
@@ -74,7 +76,7 @@ twice x a b a' b' r long same_tp same_sp =
 -- ---- the chunk that was linked is found again
 
 HasAddress-payload : (p : Pool) (c : ℕ) → IsPool p → c < p.count → HasAddress p c (payload_place_of p c)
-HasAddress-payload p c sound within = (within, omega arith, omega (arith, sound.header_fits))
+HasAddress-payload p c sound within = (within, omega arith, omega (arith, words_of-payload p c sound within))
 
 chunk_with_payload-of : (p : Pool) (c : ℕ) → IsPool p → c < p.count → chunk_with_payload p (payload_place_of p c) ≡ Some c
 chunk_with_payload-of p c sound within =

@@ -2,6 +2,7 @@
 use Rattle.std.specs.Prelude.{◌≡◌, ℕ, ◌+◌, List, [], ◌∷◌, nat_eq, if◌then◌else◌, nat_lt}
 use Rattle.std.specs.List.{count_by}
 use Rattle.machine_world.specs.Threads.{Thread, World}
+use Rattle.chunk_pool.specs.Pool.{Pool, all_free}
 
 -- how often a chunk stands in a list of chunks
 abbrev pub copies : ℕ → List ℕ → ℕ
@@ -12,6 +13,10 @@ abbrev pub held_copies : ℕ → List Thread → ℕ
 held_copies chunk [] = 0
 held_copies chunk (thread ∷ threads) = copies chunk thread.core.chain + held_copies chunk threads
 
--- the chains of all live threads and the free list hold each number below the count once, and no other number
+-- every chunk is free
+abbrev pub AreAllFree : Pool → Type 0
+AreAllFree pool = (chunk : ℕ) → copies chunk (all_free pool) ≡ (if nat_lt chunk pool.count then 1 else 0)
+
+-- the chains of all live threads and the free chunks hold each number below the count once, and no other number
 abbrev pub IsPartition : World → Type 0
-IsPartition w = (chunk : ℕ) → held_copies chunk w.threads + copies chunk w.areas.pool.free ≡ (if nat_lt chunk w.areas.pool.count then 1 else 0)
+IsPartition w = (chunk : ℕ) → held_copies chunk w.threads + copies chunk (all_free w.areas.pool) ≡ (if nat_lt chunk w.areas.pool.count then 1 else 0)

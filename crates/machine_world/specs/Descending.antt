@@ -11,7 +11,7 @@ use Rattle.std.specs.List.{range_with_len}
 use Rattle.cap_word.specs.declared.stops.Stop.{Stop}
 use Rattle.rv_code.specs.Table.{encoding}
 use Rattle.rv_code.specs.declared.instructions.Instr.{Instr}
-use Rattle.chunk_pool.specs.Pool.{Pool}
+use Rattle.chunk_pool.specs.Pool.{Pool, start_pool, all_free}
 use Rattle.flat_code.specs.Codes.{function_at}
 use Rattle.flat_code.specs.Samples.{descending}
 use Rattle.stack_certificate.specs.declared.sites.LinkKind.{LinkKind}
@@ -22,6 +22,7 @@ use Rattle.machine_world.specs.Places.{Checked}
 use Rattle.machine_world.specs.InPlace.{Frame}
 use Rattle.machine_world.specs.Threads.{Thread, World, Setting, Move, Goes, Puts, Spawns, Blocks, Ends, Stops, Wrong, step}
 use Rattle.machine_world.specs.Runs.{start_world, Pick, and_then, after_actions, after_steps}
+use Rattle.machine_world.specs.Areas.{Areas}
 
 -- ---- checked code
 
@@ -72,7 +73,9 @@ setting = record { code = code; fuel = 1000; backlog = 64; caps = [] }
 
 -- the world of so many chunks when main has begun, and so many steps on
 abbrev pub begun : ℕ → Option World
-begun chunks = and_then (start_world chunks 20 [] [] 4372 48) (after_actions setting (Pick 0 ∷ []))
+begun chunks =
+    let areas : Areas = record { pool = start_pool chunks 20; globals = []; tables = [] } in
+    and_then (start_world areas 4372 48) (after_actions setting (Pick 0 ∷ []))
 
 abbrev pub world_at : ℕ → ℕ → Option World
 world_at chunks n = and_then (begun chunks) (after_steps setting n)
@@ -90,7 +93,7 @@ pub record Shown : Type 0 where
 
 abbrev pub shown : Option World → Option Shown
 shown None = None
-shown (Some w) = Some (record { cost = w.cost; free = w.areas.pool.free; live = length w.threads })
+shown (Some w) = Some (record { cost = w.cost; free = all_free w.areas.pool; live = length w.threads })
 
 abbrev pub put_in : Option Move → Option ℕ
 put_in None = None

@@ -1,7 +1,7 @@
 -- Small threads, run by the definitions alone: what each comes to is computed.
 use Rattle.std.specs.Prelude.{ℕ, List, [], ◌∷◌, Option, Some, None, replicate}
 use Rattle.cap_word.specs.Runs.{Goes, Asks, Stops, moves}
-use Rattle.chunk_pool.specs.Pool.{Pool}
+use Rattle.chunk_pool.specs.Pool.{Pool, all_free}
 use Rattle.machine_world.specs.Areas.{Areas}
 use Rattle.machine_world.specs.Local.{Local, LocalMove, Question, End, Ended, Trapped, NoRoom, Wrong, local_machine, passed}
 
@@ -49,7 +49,7 @@ question_of (Asks question l) = Some question
 question_of (Stops end) = None
 
 abbrev pub free_at : End → List ℕ
-free_at (Ended areas) = areas.pool.free
+free_at (Ended areas) = all_free areas.pool
 free_at (Trapped kind) = []
 free_at NoRoom = []
 free_at Wrong = []

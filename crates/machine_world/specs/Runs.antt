@@ -3,7 +3,7 @@ use Rattle.std.specs.Prelude.{ℕ, zero, suc, Bool, true, ◌&&◌, List, [], �
 use Rattle.cap_word.specs.declared.calls.Block.{Block}
 use Rattle.c_mean.specs.ModelledCalls.{BlockingRow, blocking_row, is_ready, Delivery, is_dropped, with_delivery}
 use Rattle.c_mean.specs.World.{empty_exchange}
-use Rattle.chunk_pool.specs.Pool.{Taken, taken_for, start_pool}
+use Rattle.chunk_pool.specs.Pool.{Taken, taken_for}
 use Rattle.machine_world.specs.Areas.{Areas}
 use Rattle.machine_world.specs.Local.{with_result}
 use Rattle.machine_world.specs.Threads.{Blocked, Thread, World, Setting, thread_of, replaced, with_thread, result_on, Move, Goes, Puts, Spawns, Blocks, Ends, Stops, Wrong, step}
@@ -17,12 +17,10 @@ abbrev pub started_on : World → ℕ → Option Taken → Option World
 started_on w entry None = None
 started_on w entry (Some taken) = Some (with_thread w taken entry 0)
 
--- the world in which a run starts: so many chunks of so many words, the globals and tables of an image, and thread 0 at
--- the entry of main on a chunk for its need; none where no chunk fits
-unfoldable pub start_world : ℕ → ℕ → List ℕ → List ℕ → ℕ → ℕ → Option World
-start_world chunks words globals tables entry need =
-    let areas : Areas = record { pool = start_pool chunks words; globals = globals; tables = tables } in
-    started_on (empty_world areas) entry (taken_for areas.pool need)
+-- the world in which a run starts in these areas: thread 0 at the entry of main on a chunk for its need; none where no
+-- chunk fits
+unfoldable pub start_world : Areas → ℕ → ℕ → Option World
+start_world areas entry need = started_on (empty_world areas) entry (taken_for areas.pool need)
 
 -- ---- actions
 

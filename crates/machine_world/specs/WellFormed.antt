@@ -1,9 +1,9 @@
 -- What every world of a run keeps, whatever its code does: registers and memory are words, the pool keeps what pools keep,
 -- the areas have the sizes that the program declares, and the counts stay within the fuel.
-use Rattle.std.specs.Prelude.{◌≡◌, ℕ, ◌+◌, ◌*◌, ◌^◌, ◌<◌, ◌≤◌, List, length, map, sum, All, Option, Some, None}
+use Rattle.std.specs.Prelude.{◌≡◌, ℕ, ◌+◌, ◌^◌, ◌<◌, ◌≤◌, List, length, map, sum, All, Option, Some, None}
 use Rattle.std.specs.List.{AllByRecursion, flat_map}
 use Rattle.c_mean.specs.ModelledCalls.{Exchange, Arrival, Message}
-use Rattle.chunk_pool.specs.Pool.{IsPool}
+use Rattle.chunk_pool.specs.Pool.{IsPool, first_bytes}
 use Rattle.stack_certificate.specs.Certificates.{fact_at}
 use Rattle.machine_world.specs.Areas.{Areas}
 use Rattle.machine_world.specs.Counted.{IsCounted}
@@ -22,7 +22,7 @@ member_entries c = flat_map (λ members. map (λ g. (fact_at c.certificate g).en
 
 pub record AreWellFormed (c : Checked) (areas : Areas) : Type 0 where
   pub pool : IsPool areas.pool
-  pub chunk : 4 * areas.pool.words ≡ c.certificate.chunk
+  pub chunk : first_bytes areas.pool ≡ c.certificate.chunk
   pub globals : length areas.globals ≡ sum (global_widths c.flat)
   pub global_words : AreWords areas.globals
   pub tables : areas.tables ≡ member_entries c

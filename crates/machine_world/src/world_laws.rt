@@ -6,12 +6,16 @@ ghost use Rattle.machine_world.specs.Counted.{IsCounted, KeepsCounted, IsCounted
 ghost use Rattle.machine_world.specs.Local.{Local, local_step};
 ghost use Rattle.machine_world.specs.Runs.{Action, delivered, start_world, after_actions, after_steps, and_then};
 ghost use Rattle.machine_world.specs.Threads.{World, Setting, step};
+ghost use Rattle.chunk_pool.specs.Pool.{start_pool};
+ghost use Rattle.machine_world.specs.Areas.{Areas};
+ghost use Rattle.machine_world.specs.Chains.{AreAllFree};
 
-/// The laws of held and free chunks: at the start the numbers of the live threads rise and held and free chunks are
+/// The laws of held and free chunks: in a new pool every chunk is free; at the start the numbers of the live threads rise and held and free chunks are
 /// exactly the pool, and so it is after each step, be it a LINK, an UNLINK, a SPAWN, an END or any other, and after any
 /// actions. It does nothing.
 pub fn partition_laws()
-    ensures start { (chunks words : ℕ) (globals tables : List ℕ) (entry need : ℕ) → IsCountedIf (start_world chunks words globals tables entry need) }
+    ensures new_pool { (chunks words : ℕ) → AreAllFree (start_pool chunks words) }
+    ensures start { (areas : Areas) (entry need : ℕ) → AreAllFree areas.pool → IsCountedIf (start_world areas entry need) }
     ensures step { (s : Setting) (w : World) → IsCounted w → KeepsCounted (step s w) }
     ensures actions { (s : Setting) (actions : List Action) (w : World) → IsCounted w → IsCountedIf (after_actions s actions w) }
 {}

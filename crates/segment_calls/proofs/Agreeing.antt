@@ -2,7 +2,7 @@
 use Rattle.std.proofs.Common.{◌≡◌, ℕ, ◌+◌, ◌-◌, ◌*◌, ◌/◌, ◌<◌, ◌≤◌, Bool, true, false, cond, List, [], ◌∷◌, get_or, Some, slice_get, refl, sym, ap, subst, ◌∙◌, arith}
 use Rattle.std.specs.Prelude.{nat_eq}
 use Rattle.std.proofs.lemmas.Bool.{eq-eqb}
-use Rattle.chunk_pool.specs.Pool.{Pool, word_of, place_of, end_of, payload_place_of}
+use Rattle.chunk_pool.specs.Pool.{Pool, word_of, place_of, shape_of}
 use Rattle.flat_code.specs.Frames.{FlatFrame}
 use Rattle.stack_certificate.specs.Certificates.{fact_at}
 use Rattle.machine_world.specs.Held.{copies}
@@ -11,11 +11,11 @@ use Rattle.machine_world.specs.Places.{Checked}
 use Rattle.machine_world.specs.Rests.{HoldsVariables, AreFlatFrames}
 use Rattle.machine_world.proofs.HeldLaws.{copies-cons}
 use Rattle.segment_laws.proofs.Stacks.{IsFront}
+use Rattle.chunk_pool.proofs.ShapeLaws.{count-same, place_of-same, payload_place_of-same, end_of-same}
 
--- as many chunks of the same size, and the same words in the chunks of a chain
+-- the same shape, and the same words in the chunks of a chain
 pub record Agrees (p q : Pool) (chain : List ℕ) : Type 0 where
-  pub count : q.count ≡ p.count
-  pub words : q.words ≡ p.words
+  pub shape : shape_of q ≡ shape_of p
   pub same : (chunk : ℕ) → 1 ≤ copies chunk chain → (j : ℕ) → word_of q chunk j ≡ word_of p chunk j
 
 copies_front : (chunk : ℕ) (chain : List ℕ) → copies chunk (chunk ∷ chain) ≡ 1 + copies chunk chain
@@ -33,33 +33,27 @@ later_copies : (chunk other : ℕ) (chain : List ℕ) → 1 ≤ copies chunk cha
 later_copies chunk other chain h = omega (arith, copies-cons chunk other chain)
 
 pub agrees_later : (p q : Pool) (chunk : ℕ) (chain : List ℕ) → Agrees p q (chunk ∷ chain) → Agrees p q chain
-agrees_later p q chunk chain h = record { count = h.count; words = h.words; same = λ other there j. h.same other (later_copies other chunk chain there) j }
+agrees_later p q chunk chain h = record { shape = h.shape; same = λ other there j. h.same other (later_copies other chunk chain there) j }
 
 agrees_below : (p q : Pool) (first : Bool) (chain : List ℕ) → Agrees p q chain → Agrees p q (chain_below first chain)
 agrees_below p q true [] h = h
 agrees_below p q true (chunk ∷ chain) h = agrees_later p q chunk chain h
 agrees_below p q false chain h = h
 
-place_same : (p q : Pool) (chunk : ℕ) → q.words ≡ p.words → place_of q chunk ≡ place_of p chunk
-place_same p q chunk e = ap (λ (w : ℕ). 0x8000_0000 + chunk * (4 * w)) e
-
-end_same : (p q : Pool) (chunk : ℕ) → q.words ≡ p.words → end_of q chunk ≡ end_of p chunk
-end_same p q chunk e = ap (λ (w : ℕ). 0x8000_0000 + chunk * (4 * w) + 4 * w) e
-
 pub word_in_same : (p q : Pool) (chain : List ℕ) (chunk address : ℕ) → Agrees p q chain → 1 ≤ copies chunk chain → word_in q chunk address ≡ word_in p chunk address
 word_in_same p q chain chunk address h there =
-    h.same chunk there ((address - place_of q chunk) / 4) ∙ ap (λ (place : ℕ). word_of p chunk ((address - place) / 4)) (place_same p q chunk h.words)
+    h.same chunk there ((address - place_of q chunk) / 4) ∙ ap (λ (place : ℕ). word_of p chunk ((address - place) / 4)) (place_of-same p q chunk h.shape)
 
 frame_agrees : (c : Checked) (p q : Pool) (chain : List ℕ) (frame : Frame) → Agrees p q chain → IsFrame c p frame → IsFrame c q frame
 frame_agrees c p q chain frame h is =
-    let place = place_same p q frame.chunk h.words in
-    let end = end_same p q frame.chunk h.words in
+    let place = place_of-same p q frame.chunk h.shape in
+    let end = end_of-same p q frame.chunk h.shape in
     let lowest = is.lowest in
     let highest = is.highest in
     let bound = is.bound in
     record {
       function = is.function;
-      chunk = subst (λ (n : ℕ). frame.chunk < n) (sym h.count) is.chunk;
+      chunk = subst (λ (n : ℕ). frame.chunk < n) (sym (count-same p q h.shape)) is.chunk;
       lowest = omega (arith, place, lowest);
       highest = omega (arith, end, highest);
       bound = omega (arith, place, bound);
@@ -86,16 +80,13 @@ stack_agrees c p q chain frame (b ∷ bs) h front stack =
       stack_agrees c p q (chain_below frame.is_first chain) b bs later front' stack.2,
     )
 
-payload_same : (p q : Pool) (chunk : ℕ) → q.words ≡ p.words → payload_place_of q chunk ≡ payload_place_of p chunk
-payload_same p q chunk e = ap (λ (place : ℕ). place + 16) (place_same p q chunk e)
-
 pub headers_agree : (p q : Pool) (chain : List ℕ) → Agrees p q chain → HeadersName p chain → HeadersName q chain
 headers_agree p q [] h named = named
 headers_agree p q (x ∷ []) h named =
     let there : 1 ≤ copies x (x ∷ []) = omega (arith, copies_front x []) in (h.same x there 0 ∙ named.0, h.same x there 1 ∙ named.1)
 headers_agree p q (x ∷ y ∷ chain) h named =
     let there : 1 ≤ copies x (x ∷ y ∷ chain) = omega (arith, copies_front x (y ∷ chain)) in
-    (h.same x there 0 ∙ named.0 ∙ sym (payload_same p q y h.words), headers_agree p q (y ∷ chain) (agrees_later p q x (y ∷ chain) h) named.1)
+    (h.same x there 0 ∙ named.0 ∙ sym (payload_place_of-same p q y h.shape), headers_agree p q (y ∷ chain) (agrees_later p q x (y ∷ chain) h) named.1)
 
 pub variables_agree : (c : Checked) (p q : Pool) (chain : List ℕ) (frame : Frame) (flat : FlatFrame) → Agrees p q chain → 1 ≤ copies frame.chunk chain → HoldsVariables c p frame flat → HoldsVariables c q frame flat
 variables_agree c p q chain frame flat h there holds x words e k lt = word_in_same p q chain frame.chunk (frame.low + get_or (fact_at c.certificate frame.function).places x 0 + 4 * k) h there ∙ holds x words e k lt

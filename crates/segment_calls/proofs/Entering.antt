@@ -7,7 +7,7 @@ use Rattle.std.proofs.lemmas.Int.{ints, int_rem_euclid_is}
 use Rattle.cap_word.specs.Word as word
 use Rattle.cap_word.specs.Word.{word_of, add}
 use Rattle.cap_word.specs.Runs.{Goes}
-use Rattle.chunk_pool.specs.Pool.{Pool, place_of, end_of, payload_place_of}
+use Rattle.chunk_pool.specs.Pool.{Pool, place_of, end_of, payload_place_of, words_of}
 use Rattle.chunk_pool.proofs.AddressLaws.{place_of-bounded}
 use Rattle.chunk_pool.proofs.PoolLaws.{word_of-with_word_same}
 use Rattle.rv_code.specs.declared.instructions.Instr.{Instr}
@@ -115,8 +115,8 @@ frame_made c code l frame below arguments facts entry is held =
     let frame_bound = frame_is.bound in
     let entry_bound = entry.bound in
     let fits : n ≤ frame.low = omega (arith, frame_bound, entry_bound, none) in
-    let bounded : place_of l.areas.pool frame.chunk + 4 * l.areas.pool.words ≤ 0x8400_0000 = place_of-bounded l.areas.pool frame.chunk is.form.areas.pool frame_is.chunk in
-    let highest : frame.low + frame.bytes ≤ place_of l.areas.pool frame.chunk + 4 * l.areas.pool.words = frame_is.highest in
+    let bounded : end_of l.areas.pool frame.chunk ≤ 0x8400_0000 = place_of-bounded l.areas.pool frame.chunk is.form.areas.pool frame_is.chunk in
+    let highest : frame.low + frame.bytes ≤ end_of l.areas.pool frame.chunk = frame_is.highest in
     let pc = is.at.2 in
     let room = entry.room in
     let value : word.add (read l.core.x 2) (word_of (pos 0 -ℤ pos n)) ≡ frame.low - n =
@@ -176,9 +176,9 @@ pub record Saving (c : Checked) (l : Local) (k : ℕ) (arguments : List ℕ) (fr
   pub flats_are : AreFlatFrames c l.areas.pool below flats
   pub globals_are : AreGlobals c.flat globals l.areas.globals
 
-number_small : (l : Local) (frame : Frame) (offset : ℕ) → InFrame l frame offset → word_number l.areas.pool frame.chunk (frame.low + offset) < l.areas.pool.words
+number_small : (l : Local) (frame : Frame) (offset : ℕ) → InFrame l frame offset → word_number l.areas.pool frame.chunk (frame.low + offset) < words_of l.areas.pool frame.chunk
 number_small l frame offset is =
-    let high : frame.low + offset + 4 ≤ place_of l.areas.pool frame.chunk + 4 * l.areas.pool.words = is.payload.high in
+    let high : frame.low + offset + 4 ≤ end_of l.areas.pool frame.chunk = is.payload.high in
     let low = is.low_in in
     omega (arith, high, low)
 

@@ -4,8 +4,8 @@ use Rattle.std.proofs.lemmas.Bool.{eq-eqb, leb-true}
 use Rattle.std.proofs.lemmas.List.{length-set}
 use Rattle.cap_word.specs.Word as word
 use Rattle.cap_word.specs.Runs.{Goes, Stops}
-use Rattle.chunk_pool.specs.Pool.{Pool, Taken, taken_for, end_of, payload_place_of, payload_bytes_of}
-use Rattle.chunk_pool.proofs.NeedLaws.{taken_for-fits, taken_for-keeps, taken_for-sound}
+use Rattle.chunk_pool.specs.Pool.{Pool, Taken, taken_for, end_of, payload_place_of, payload_bytes_of, shape_of}
+use Rattle.chunk_pool.proofs.NeedLaws.{taken_for-fits, taken_for-sound, taken_for-shape}
 use Rattle.rv_machine.specs.Registers.{read, write}
 use Rattle.rv_machine.specs.Step.{instruction_at}
 use Rattle.flat_code.specs.declared.operations.Op.{Op}
@@ -33,6 +33,7 @@ use Rattle.segment_laws.proofs.Simulation.{Reaches}
 use Rattle.segment_calls.proofs.Standing.{Standing}
 use Rattle.segment_calls.proofs.Transfers.{ReadyToCall, call_step}
 use Rattle.segment_laws.proofs.Ways.{IsGoodState, Leads-one, Leads-then, ComesTo, HasForm-next}
+use Rattle.chunk_pool.proofs.ShapeLaws.{words_of-payload, words_of-same, payload_place_of-same}
 
 -- there is no chunk for the need
 pub finds_no_room : (c : Checked) (code : List ℕ) (l : Local) (t : FlatThread) (op : Op) (need : ℕ) (frame : Frame) (below : List Frame) (s : CallShape c t.frame.function t.frame.next op) → (at : AtLink c code l t op need frame below s) → taken_for at.at.areas.pool need ≡ None → ComesTo c code 5 l (Stops NoRoom)
@@ -68,8 +69,9 @@ calls_far c code l t op g need values frame below taken facts calls there s read
     let agrees = linked_agrees c l1 need (read l1.core.x 4) (read l1.core.x 2) taken is.form found in
     let sound = taken_for-sound p need taken is.form.areas.pool found in
     let fit : need ≤ payload_bytes_of p taken.chunk = leb-true need (payload_bytes_of p taken.chunk) (taken_for-fits p need taken found).1 in
-    let same_words : taken.pool.words ≡ p.words = ap (λ (k : Pool). k.words) (taken_for-keeps p need taken found) in
-    let header = sound.0.header_fits in
+    let shape : shape_of taken.pool ≡ shape_of p = taken_for-shape p need taken found in
+    let same_words = words_of-same p taken.pool taken.chunk shape in
+    let header = words_of-payload taken.pool taken.chunk sound.0 sound.1.0 in
     let chain = l1.core.chain in
     let chunk_in = in_front chain frame.chunk is.front in
     let end = end_of taken.pool taken.chunk in
@@ -88,7 +90,7 @@ calls_far c code l t op g need values frame below taken facts calls there s read
     let pc2 : l2.core.pc ≡ here + 4 * (n + 8) = add-small l1.core.pc 4 (omega (arith, pc, room, size_is, eleven)) ∙ (let e : l1.core.pc + 4 ≡ here + 4 * (n + 8) = omega (arith, pc) in e) in
     let sp_saved : saved_sp q taken.chunk ≡ frame.low = header_sp taken.pool taken.chunk (read l1.core.x 4) (read l1.core.x 2) sound.0 sound.1.0 ∙ is.sp_is in
     let tp_saved : saved_tp q taken.chunk ≡ payload_place_of q frame.chunk =
-    header_tp taken.pool taken.chunk (read l1.core.x 4) (read l1.core.x 2) sound.0 sound.1.0 ∙ is.tp_is ∙ ap (λ (w : ℕ). 0x8000_0000 + frame.chunk * (4 * w) + 16) (sym same_words) in
+    header_tp taken.pool taken.chunk (read l1.core.x 4) (read l1.core.x 2) sound.0 sound.1.0 ∙ is.tp_is ∙ sym (payload_place_of-same p taken.pool frame.chunk shape) in
     let headers2 : HeadersName q (taken.chunk ∷ frame.chunk ∷ is.front.rest) = (tp_saved, subst (HeadersName q) is.front.is (headers_agree p q chain agrees is.headers)) in
     let stack2 : IsStack c q chain frame below = stack_agrees c p q chain frame below agrees is.front is.stack in
     let same_return : return_word c q f frame.chunk frame.low ≡ return_word c p f frame.chunk frame.low = word_in_same p q chain frame.chunk (frame.low + (fact_at c.certificate f).ra) agrees chunk_in in

@@ -4,7 +4,7 @@ use Rattle.std.specs.Prelude.{nat_eq}
 use Rattle.cap_word.specs.Word as word
 use Rattle.cap_word.specs.Word.{word_of}
 use Rattle.cap_word.specs.Runs.{Goes}
-use Rattle.chunk_pool.specs.Pool.{Pool, place_of, end_of, payload_place_of}
+use Rattle.chunk_pool.specs.Pool.{Pool, end_of, payload_place_of}
 use Rattle.chunk_pool.proofs.AddressLaws.{place_of-bounded}
 use Rattle.rv_code.specs.declared.instructions.Instr.{Instr}
 use Rattle.rv_machine.specs.Access.{accessed}
@@ -115,8 +115,8 @@ leaves c code l f i w op frame below facts there is words aligned =
     let frame_is = stack_frame c l1.areas.pool l1.core.chain frame below is1.stack in
     let bytes : frame.bytes ≡ n = is.body.bytes in
     let most = fact.most in
-    let highest : frame.low + frame.bytes ≤ place_of l1.areas.pool frame.chunk + 4 * l1.areas.pool.words = frame_is.highest in
-    let bounded : place_of l1.areas.pool frame.chunk + 4 * l1.areas.pool.words ≤ 0x8400_0000 = place_of-bounded l1.areas.pool frame.chunk is1.form.areas.pool frame_is.chunk in
+    let highest : frame.low + frame.bytes ≤ end_of l1.areas.pool frame.chunk = frame_is.highest in
+    let bounded : end_of l1.areas.pool frame.chunk ≤ 0x8400_0000 = place_of-bounded l1.areas.pool frame.chunk is1.form.areas.pool frame_is.chunk in
     let up : word.add (read l1.core.x 2) (word_of (pos n)) ≡ frame.low + frame.bytes =
     ap (word.add (read l1.core.x 2)) (word_of-small n (omega (arith, most))) ∙ ap (λ (a : ℕ). word.add a n) is1.sp_is
     ∙ add-small frame.low n (omega (arith, highest, bounded, bytes)) ∙ (let e : frame.low + n ≡ frame.low + frame.bytes = omega (arith, bytes) in e) in

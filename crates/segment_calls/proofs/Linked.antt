@@ -5,7 +5,7 @@ use Rattle.std.specs.Prelude.{slice_get, nat_lt}
 use Rattle.std.proofs.lemmas.Bool.{le-ltb}
 use Rattle.cap_word.specs.Word as word
 use Rattle.cap_word.specs.Word.{word_of}
-use Rattle.chunk_pool.specs.Pool.{place_of, payload_place_of}
+use Rattle.chunk_pool.specs.Pool.{place_of, payload_place_of, end_of}
 use Rattle.chunk_pool.proofs.AddressLaws.{place_of-bounded}
 use Rattle.rv_code.specs.declared.instructions.Instr.{Instr}
 use Rattle.rv_machine.specs.Access.{accessed}
@@ -99,8 +99,8 @@ tests_room c code l t op need frame below facts there s linked small during =
     let frame_is = stack_frame c l1.areas.pool l1.core.chain frame below is1.stack in
     let lowest : place_of l1.areas.pool frame.chunk + 16 ≤ frame.low = frame_is.lowest in
     let start : 0x8000_0000 ≤ place_of l1.areas.pool frame.chunk = omega arith in
-    let highest : frame.low + frame.bytes ≤ place_of l1.areas.pool frame.chunk + 4 * l1.areas.pool.words = frame_is.highest in
-    let bounded : place_of l1.areas.pool frame.chunk + 4 * l1.areas.pool.words ≤ 0x8400_0000 = place_of-bounded l1.areas.pool frame.chunk is1.form.areas.pool frame_is.chunk in
+    let highest : frame.low + frame.bytes ≤ end_of l1.areas.pool frame.chunk = frame_is.highest in
+    let bounded : end_of l1.areas.pool frame.chunk ≤ 0x8400_0000 = place_of-bounded l1.areas.pool frame.chunk is1.form.areas.pool frame_is.chunk in
     let difference : word.sub (read l1.core.x 2) (read l1.core.x 6) ≡ frame.low - need =
     ap (λ (a : ℕ). word.sub a (read l1.core.x 6)) is1.sp_is ∙ ap (word.sub frame.low) first.value_is ∙ sub_small frame.low need (omega (arith, lowest, start, small)) (omega (arith, highest, bounded)) in
     let second = set_value c code l1 t (n + 2) op frame below (Instr.Sub 5 2 6) 5 (frame.low - need) there (whole_word c code f i 2 need op s linked (omega arith)) first.during

@@ -1,13 +1,12 @@
 -- The far path of a linked transfer: LINK takes a chunk, and the call is made on it.
 use Rattle.std.proofs.Common.{◌≡◌, ℕ, ◌+◌, ◌-◌, ◌<◌, ◌≤◌, Bool, true, cond, List, [], ◌∷◌, length, get_or, set, pos, Some, refl, ap, subst, ◌∙◌, arith, lit<, get_or-set_same}
 use Rattle.std.specs.Prelude.{nat_eq, nat_lt, ◌||◌}
-use Rattle.std.specs.List.{All}
 use Rattle.std.proofs.lemmas.Bool.{lt-ltb, eq-eqb, cond_both}
 use Rattle.std.proofs.lemmas.List.{length-set}
 use Rattle.cap_word.specs.Word as word
 use Rattle.cap_word.specs.Word.{word_of}
-use Rattle.chunk_pool.specs.Pool.{Pool, Taken, taken_for, chunk_of, word_of as pool_word, with_word as with_pool_word, end_of, payload_place_of, IsPool, IsChunk}
-use Rattle.chunk_pool.proofs.NeedLaws.{taken_for-leaves, taken_for-keeps}
+use Rattle.chunk_pool.specs.Pool.{Pool, Taken, taken_for, chunk_of, word_of as pool_word, with_word as with_pool_word, end_of, payload_place_of, IsPool, words_of, all_free}
+use Rattle.chunk_pool.proofs.NeedLaws.{taken_for-leaves, taken_for-keeps, taken_for-shape}
 use Rattle.rv_code.specs.declared.instructions.Instr.{Instr}
 use Rattle.rv_machine.specs.Registers.{read}
 use Rattle.flat_code.specs.declared.operations.Op.{Op}
@@ -31,6 +30,7 @@ use Rattle.segment_laws.proofs.Registers.{add-small, word_of-small}
 use Rattle.segment_laws.proofs.Simulation.{During}
 use Rattle.segment_laws.proofs.Stacks.{word_of-other}
 use Rattle.segment_laws.proofs.Ways.{IsGoodState, Leads, Leads-then}
+use Rattle.chunk_pool.proofs.ShapeLaws.{IsChunk-chunk_of, words_of-payload}
 
 -- ---- a header
 
@@ -38,25 +38,22 @@ word_same : (p : Pool) (chunk k value : ℕ) → chunk < length p.contents → k
 word_same p chunk k value there small =
     ap (λ (row : List ℕ). get_or row k 0) (get_or-set_same p.contents chunk (set (chunk_of p chunk) k value) [] there) ∙ get_or-set_same (chunk_of p chunk) k value 0 small
 
-chunk_long : (rows : List (List ℕ)) (n chunk : ℕ) → All (IsChunk n) rows → chunk < length rows → length (get_or rows chunk []) ≡ n
-chunk_long rows n chunk all lt = (all chunk [] lt).length
-
 pub header_tp : (p : Pool) (chunk tp_now sp_now : ℕ) → IsPool p → chunk < p.count → saved_tp (with_header p chunk tp_now sp_now) chunk ≡ tp_now
 header_tp p chunk tp_now sp_now sound lt =
     let there : chunk < length p.contents = omega (arith, sound.count_is, lt) in
-    let long : length (chunk_of p chunk) ≡ p.words = chunk_long p.contents p.words chunk sound.chunks there in
-    let fits = sound.header_fits in
+    let long : length (chunk_of p chunk) ≡ words_of p chunk = (IsChunk-chunk_of p chunk sound lt).length in
+    let fits = words_of-payload p chunk sound lt in
     word_of-other (with_pool_word p chunk 0 tp_now) chunk 1 sp_now chunk 0 (λ e k. omega arith) ∙ word_same p chunk 0 tp_now there (omega (arith, long, fits))
 
 pub header_sp : (p : Pool) (chunk tp_now sp_now : ℕ) → IsPool p → chunk < p.count → saved_sp (with_header p chunk tp_now sp_now) chunk ≡ sp_now
 header_sp p chunk tp_now sp_now sound lt =
     let there : chunk < length p.contents = omega (arith, sound.count_is, lt) in
-    let long : length (chunk_of p chunk) ≡ p.words = chunk_long p.contents p.words chunk sound.chunks there in
-    let fits = sound.header_fits in
+    let long : length (chunk_of p chunk) ≡ words_of p chunk = (IsChunk-chunk_of p chunk sound lt).length in
+    let fits = words_of-payload p chunk sound lt in
     let first : Pool = with_pool_word p chunk 0 tp_now in
     let there' : chunk < length first.contents = omega (arith, there, length-set p.contents chunk (set (chunk_of p chunk) 0 tp_now)) in
     let row : chunk_of first chunk ≡ set (chunk_of p chunk) 0 tp_now = get_or-set_same p.contents chunk (set (chunk_of p chunk) 0 tp_now) [] there in
-    let long' : length (chunk_of first chunk) ≡ p.words = ap length row ∙ length-set (chunk_of p chunk) 0 tp_now ∙ long in
+    let long' : length (chunk_of first chunk) ≡ words_of p chunk = ap length row ∙ length-set (chunk_of p chunk) 0 tp_now ∙ long in
     word_same first chunk 1 sp_now there' (omega (arith, long', fits))
 
 -- every word of another chunk stays
@@ -71,14 +68,13 @@ pub linked_agrees : (c : Checked) (l : Local) (need tp_now sp_now : ℕ) (taken 
 linked_agrees c l need tp_now sp_now taken form e =
     let p = l.areas.pool in
     let keeps = taken_for-keeps p need taken e in
-    let free : copies taken.chunk p.free ≡ 1 + copies taken.chunk taken.pool.free =
-    taken_for-leaves p need taken e taken.chunk ∙ copies-cons taken.chunk taken.chunk taken.pool.free ∙ ap (λ (b : Bool). cond b 1 0 + copies taken.chunk taken.pool.free) (eq-eqb taken.chunk taken.chunk refl) in
+    let free : copies taken.chunk (all_free p) ≡ 1 + copies taken.chunk (all_free taken.pool) =
+    taken_for-leaves p need taken e taken.chunk ∙ copies-cons taken.chunk taken.chunk (all_free taken.pool) ∙ ap (λ (b : Bool). cond b 1 0 + copies taken.chunk (all_free taken.pool)) (eq-eqb taken.chunk taken.chunk refl) in
     let most = form.owns.once taken.chunk in
     let one = cond_both (nat_lt taken.chunk p.count) 1 0 (λ (n : ℕ). n ≤ 1) (λ _. omega arith) (λ _. omega arith) in
     let none : copies taken.chunk l.core.chain ≡ 0 = omega (arith, free, most, one) in
     record {
-      count = ap (λ (q : Pool). q.count) keeps;
-      words = ap (λ (q : Pool). q.words) keeps;
+      shape = taken_for-shape p need taken e;
       same = λ other there j.
           header_other taken.pool taken.chunk tp_now sp_now other j (λ same. let nothing : copies other l.core.chain ≡ 0 = ap (λ (k : ℕ). copies k l.core.chain) same ∙ none in omega (arith, nothing, there))
           ∙ ap (λ (q : Pool). pool_word q other j) keeps;

@@ -1,10 +1,10 @@
 -- A thread at any place at which its running frame lies in the front chunk: at a function's first words, in its prologue,
 -- within an operation and at a return. What one instruction there needs, and what a store in the frame leaves.
-use Rattle.std.proofs.Common.{◌≡◌, ℕ, ◌+◌, ◌*◌, ◌%◌, ◌^◌, ◌<◌, ◌≤◌, List, ◌∷◌, length, pos, Ok, refl, sym, ap, subst, ◌∙◌, arith, inl}
+use Rattle.std.proofs.Common.{◌≡◌, ℕ, ◌+◌, ◌%◌, ◌^◌, ◌<◌, ◌≤◌, List, ◌∷◌, length, pos, Ok, refl, sym, ap, subst, ◌∙◌, arith, inl}
 use Rattle.cap_word.specs.Word as word
 use Rattle.cap_word.specs.Word.{word_of}
 use Rattle.cap_word.specs.Runs.{Goes}
-use Rattle.chunk_pool.specs.Pool.{Pool, with_word as with_pool_word, place_of, payload_place_of}
+use Rattle.chunk_pool.specs.Pool.{Pool, with_word as with_pool_word, place_of, payload_place_of, end_of}
 use Rattle.chunk_pool.proofs.AddressLaws.{place_of-aligned, place_of-bounded}
 use Rattle.rv_code.specs.declared.instructions.Instr.{Instr}
 use Rattle.rv_machine.specs.Access.{accessed}
@@ -115,9 +115,9 @@ InFrame-standing c code l place row frame below offset facts is bytes there alig
     let bytes_aligned : frame.bytes % 16 ≡ 0 = ap (λ (n : ℕ). n % 16) bytes ∙ fact.aligned in
     let low_aligned : frame.low % 16 ≡ 0 = stack_aligned c code l.areas.pool l.core.chain frame below facts sound bytes_aligned is.stack in
     let place_is = place_of-aligned l.areas.pool frame.chunk sound in
-    let bounded : place_of l.areas.pool frame.chunk + 4 * l.areas.pool.words ≤ 0x8400_0000 = place_of-bounded l.areas.pool frame.chunk sound frame_is.chunk in
+    let bounded : end_of l.areas.pool frame.chunk ≤ 0x8400_0000 = place_of-bounded l.areas.pool frame.chunk sound frame_is.chunk in
     let lowest : place_of l.areas.pool frame.chunk + 16 ≤ frame.low = frame_is.lowest in
-    let highest : frame.low + frame.bytes ≤ place_of l.areas.pool frame.chunk + 4 * l.areas.pool.words = frame_is.highest in
+    let highest : frame.low + frame.bytes ≤ end_of l.areas.pool frame.chunk = frame_is.highest in
     let inside : frame.low + offset + 4 ≤ frame.low + frame.bytes = omega (arith, bytes, fits) in
     let small : offset < 2 ^ 32 = omega (arith, inside, highest, bounded) in
     let sum : read l.core.x 2 + offset < 2 ^ 32 = omega (arith, is.sp_is, inside, highest, bounded) in

@@ -1,12 +1,12 @@
 -- A return from the first frame of a chunk: UNLINK gives the chunk back, and the caller goes on in the chunk below.
-use Rattle.std.proofs.Common.{◌≡◌, ℕ, suc, ◌+◌, ◌*◌, ◌<◌, Bool, true, cond, List, ◌∷◌, length, pos, Option, Some, None, Ok, slice_get, refl, sym, ap, subst, ◌∙◌, arith, lit<}
+use Rattle.std.proofs.Common.{◌≡◌, ℕ, suc, ◌+◌, ◌*◌, ◌<◌, Bool, true, cond, List, ◌∷◌, length, get_or, pos, Option, Some, None, Ok, slice_get, refl, sym, ap, subst, ◌∙◌, arith, lit<}
 use Rattle.std.specs.Prelude.{nat_eq, ◌||◌}
 use Rattle.std.proofs.lemmas.Bool.{eq-eqb, ne_eqb, eqb-true}
 use Rattle.std.proofs.lemmas.List.{length-set}
 use Rattle.cap_word.specs.Word as word
 use Rattle.cap_word.specs.Word.{word_of}
 use Rattle.cap_word.specs.Runs.{Goes, Stops}
-use Rattle.chunk_pool.specs.Pool.{Pool, after_give, first_or, end_of, payload_place_of}
+use Rattle.chunk_pool.specs.Pool.{Pool, after_give, end_of, payload_place_of}
 use Rattle.chunk_pool.proofs.AddressLaws.{chunk_at-some}
 use Rattle.rv_code.specs.declared.instructions.Instr.{Instr}
 use Rattle.rv_machine.specs.Access.{accessed}
@@ -39,9 +39,11 @@ use Rattle.segment_calls.proofs.PlainCalls.{CallFacts}
 use Rattle.segment_laws.proofs.Registers.{read-write_same, read-write_other, add-small, word_of-small, step-is, access-is, with_register, move-sets}
 use Rattle.segment_calls.proofs.Returning.{caller_of, at_flat, HasReturned, gives_result}
 use Rattle.segment_laws.proofs.Simulation.{During, Reaches}
-use Rattle.segment_laws.proofs.Stacks.{IsFront, word_of-other}
+use Rattle.segment_laws.proofs.Stacks.{IsFront}
 use Rattle.segment_calls.proofs.Standing.{once_standing}
 use Rattle.segment_laws.proofs.Ways.{IsGoodState, Leads, Leads-one, Leads-then, HasForm-next}
+use Rattle.chunk_pool.proofs.ShapeLaws.{words_of-payload}
+use Rattle.chunk_pool.proofs.PoolLaws.{KeepsOthers-after_give}
 
 -- ---- the thread between the second call instruction and UNLINK
 
@@ -110,7 +112,7 @@ after_unlink l chunk rest = record {
 found_chunk : (c : Checked) (l : Local) (chunk : ℕ) → HasForm c l → chunk < l.areas.pool.count → chunk_with_payload l.areas.pool (payload_place_of l.areas.pool chunk) ≡ Some chunk
 found_chunk c l chunk form there =
     let p = l.areas.pool in
-    let fits = form.areas.pool.header_fits in
+    let fits = words_of-payload p chunk form.areas.pool there in
     ap (begins_at p (payload_place_of p chunk)) (chunk_at-some p chunk (payload_place_of p chunk) (there, omega arith, omega (arith, fits)))
     ∙ ap (λ (b : Bool). cond b (Some chunk) None) (eq-eqb (payload_place_of p chunk) (payload_place_of p chunk) refl)
 
@@ -127,9 +129,8 @@ unlinked_agrees c l chunk rest form chain =
     let front : copies chunk l.core.chain ≡ 1 + copies chunk rest = ap (copies chunk) chain ∙ copies-cons chunk chunk rest ∙ ap (λ (b : Bool). cond b 1 0 + copies chunk rest) (eq-eqb chunk chunk refl) in
     let none : copies chunk rest ≡ 0 = omega (arith, once, front) in
     record {
-      count = refl;
-      words = refl;
-      same = λ other there j. word_of-other p chunk 0 (first_or p.free p.count) other j (λ same k. let nothing : copies other rest ≡ 0 = ap (λ (m : ℕ). copies m rest) same ∙ none in omega (arith, nothing, there));
+      shape = refl;
+      same = λ other there j. ap (λ (row : List ℕ). get_or row j 0) (KeepsOthers-after_give p chunk other (λ same. let nothing : copies other rest ≡ 0 = ap (λ (m : ℕ). copies m rest) same ∙ none in omega (arith, nothing, there)));
     }
 
 through_true : (c : Checked) (f i : ℕ) (op : Op) (s : CallShape c f i op) (words : ℕ) → words_through_call c true op ≡ Some words → (need : ℕ) × (kind_of c.certificate op ≡ LinkKind.Linked need) × (words ≡ s.before + 9)

@@ -1,5 +1,5 @@
 -- Words of the running frame, loaded and stored.
-use Rattle.std.proofs.Common.{◌≡◌, ℕ, ◌+◌, ◌-◌, ◌*◌, ◌/◌, ◌%◌, ◌^◌, ◌<◌, ◌≤◌, Bool, true, false, List, [], ◌∷◌, length, ℤ, pos, Ok, refl, sym, ap, subst, ◌∙◌, arith, inl}
+use Rattle.std.proofs.Common.{◌≡◌, ℕ, ◌+◌, ◌-◌, ◌/◌, ◌%◌, ◌^◌, ◌<◌, ◌≤◌, Bool, true, false, List, [], ◌∷◌, length, ℤ, pos, Ok, refl, sym, ap, subst, ◌∙◌, arith, inl}
 use Rattle.std.specs.Prelude.{nat_lt}
 use Rattle.std.proofs.lemmas.Bool.{cond_both, eqb-true}
 use Rattle.cap_word.specs.Word as word
@@ -25,6 +25,7 @@ use Rattle.segment_laws.proofs.Registers.{add-small, word_of-small, step-is, wit
 use Rattle.segment_laws.proofs.Stacks.{IsOnce, EndsBy, stack_away, word_of-other, IsStack-with_word, HeadersName-with_word}
 use Rattle.segment_laws.proofs.Ways.{Leads, Leads-one, HasForm-next}
 use Rattle.segment_laws.proofs.Words.{PayloadWord, word_number, loaded-payload, stored-payload, writable-payload}
+use Rattle.chunk_pool.proofs.ShapeLaws.{bytes_of-aligned}
 
 -- ---- the frame
 
@@ -38,8 +39,8 @@ at_end c pool frame is first = eqb-true (frame.low + frame.bytes) (end_of pool f
 end_aligned : (pool : Pool) (chunk : ℕ) → IsPool pool → end_of pool chunk % 16 ≡ 0
 end_aligned pool chunk sound =
     let place = place_of-aligned pool chunk sound in
-    let words = sound.aligned in
-    omega (arith, place, words)
+    let bytes = bytes_of-aligned pool chunk sound in
+    omega (arith, place, bytes)
 
 -- a frame that ends at its chunk's end, or where an aligned one begins
 aligned_by : (c : Checked) (pool : Pool) (frame : Frame) (low : ℕ) (first : Bool) → IsPool pool → IsFrame c pool frame → frame.bytes % 16 ≡ 0 → frame.is_first ≡ first → low ≡ low_below pool first frame → low % 16 ≡ 0 → frame.low % 16 ≡ 0
@@ -81,9 +82,9 @@ InFrame-inside c code l f i w frame below offset facts there is aligned fits =
     let bytes_aligned : frame.bytes % 16 ≡ 0 = ap (λ (n : ℕ). n % 16) bytes ∙ fact.aligned in
     let low_aligned : frame.low % 16 ≡ 0 = stack_aligned c code l.areas.pool l.core.chain frame below facts sound bytes_aligned is.stack in
     let place = place_of-aligned l.areas.pool frame.chunk sound in
-    let bounded : place_of l.areas.pool frame.chunk + 4 * l.areas.pool.words ≤ 0x8400_0000 = place_of-bounded l.areas.pool frame.chunk sound frame_is.chunk in
+    let bounded : end_of l.areas.pool frame.chunk ≤ 0x8400_0000 = place_of-bounded l.areas.pool frame.chunk sound frame_is.chunk in
     let lowest : place_of l.areas.pool frame.chunk + 16 ≤ frame.low = frame_is.lowest in
-    let highest : frame.low + frame.bytes ≤ place_of l.areas.pool frame.chunk + 4 * l.areas.pool.words = frame_is.highest in
+    let highest : frame.low + frame.bytes ≤ end_of l.areas.pool frame.chunk = frame_is.highest in
     let inside : frame.low + offset + 4 ≤ frame.low + frame.bytes = omega (arith, bytes, fits) in
     let small : offset < 2 ^ 32 = omega (arith, inside, highest, bounded) in
     let sum : read l.core.x 2 + offset < 2 ^ 32 = omega (arith, is.sp_is, inside, highest, bounded) in
@@ -101,8 +102,8 @@ InFrame-inside c code l f i w frame below offset facts there is aligned fits =
 pub frame_bounded : (c : Checked) (l : Local) (f i w : ℕ) (frame : Frame) (below : List Frame) → Inside c l f i w frame below → frame.low + frame.bytes ≤ 0x8400_0000
 frame_bounded c l f i w frame below is =
     let frame_is = stack_frame c l.areas.pool l.core.chain frame below is.stack in
-    let bounded : place_of l.areas.pool frame.chunk + 4 * l.areas.pool.words ≤ 0x8400_0000 = place_of-bounded l.areas.pool frame.chunk is.form.areas.pool frame_is.chunk in
-    let highest : frame.low + frame.bytes ≤ place_of l.areas.pool frame.chunk + 4 * l.areas.pool.words = frame_is.highest in
+    let bounded : end_of l.areas.pool frame.chunk ≤ 0x8400_0000 = place_of-bounded l.areas.pool frame.chunk is.form.areas.pool frame_is.chunk in
+    let highest : frame.low + frame.bytes ≤ end_of l.areas.pool frame.chunk = frame_is.highest in
     omega (arith, bounded, highest)
 
 -- the access of a load or store at a word of the frame, whatever register and immediate give its address

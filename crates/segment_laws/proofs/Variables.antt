@@ -2,7 +2,7 @@
 use Rattle.std.proofs.Common.{◌≡◌, ℕ, ◌+◌, ◌*◌, ◌<◌, ◌≤◌, List, length, get_or, set, Some, None, sym, ap, subst, ◌∙◌, arith, ⊎_elim, get_or-set_same, get_or-set_other}
 use Rattle.std.proofs.lemmas.Bool.{cases_eq, cases_lt}
 use Rattle.std.proofs.lemmas.List.{length-set, get_or_past}
-use Rattle.chunk_pool.specs.Pool.{Pool, word_of as pool_word, with_word as with_pool_word, place_of, IsPool}
+use Rattle.chunk_pool.specs.Pool.{Pool, word_of as pool_word, with_word as with_pool_word, IsPool, end_of}
 use Rattle.chunk_pool.proofs.PoolLaws.{word_of-with_word_same}
 use Rattle.flat_code.specs.Codes.{function_at}
 use Rattle.flat_code.specs.Frames.{FlatFrame, variable, set_to}
@@ -36,7 +36,7 @@ number_of c pool frame y k =
 pub variable_word-same : (c : Checked) (l : Local) (frame : Frame) (x j value : ℕ) → IsPool l.areas.pool → InFrame l frame (offset_of c frame x j) → variable_word c (written_pool c l.areas.pool frame x j value) frame x j ≡ value
 variable_word-same c l frame x j value sound is =
     let pool = l.areas.pool in
-    let high : frame.low + offset_of c frame x j + 4 ≤ place_of pool frame.chunk + 4 * pool.words = is.payload.high in
+    let high : frame.low + offset_of c frame x j + 4 ≤ end_of pool frame.chunk = is.payload.high in
     let low = is.low_in in
     number_of c (written_pool c pool frame x j value) frame x j
     ∙ word_of-with_word_same pool frame.chunk (word_number pool frame.chunk (frame.low + offset_of c frame x j)) value sound is.payload.chunk_below (omega (arith, high, low))

@@ -2,12 +2,13 @@
 use Rattle.std.proofs.Common.{◌≡◌, ℕ, zero, suc, ◌+◌, List, refl, sym, ap, subst, arith, cond}
 use Rattle.std.specs.Prelude.{nat_lt}
 use Rattle.cap_word.specs.Runs.{Goes}
-use Rattle.machine_world.specs.Held.{copies_in, KeepsCopies, KeepsSize, size_of}
+use Rattle.machine_world.specs.Held.{copies_in, KeepsCopies, KeepsShape}
 use Rattle.machine_world.specs.Local.{Local, local_step}
 use Rattle.machine_world.specs.Places.{Checked}
 use Rattle.machine_world.proofs.FormLaws as forms
 use Rattle.machine_world.proofs.FormLaws.{KeepsForm, KeepsForm-step}
-use Rattle.machine_world.proofs.HeldLaws.{KeepsCopies-step, KeepsSize-step}
+use Rattle.machine_world.proofs.HeldLaws.{KeepsCopies-step, KeepsShape-step}
+use Rattle.chunk_pool.specs.Pool.{Shape, shape_of}
 pub use Rattle.segment_laws.specs.Ways.{Owns, HasForm, IsGoodState, WayIn, Leads, ComesTo}
 
 way_joined : (c : Checked) (code : List ℕ) (m n : ℕ) (l middle after : Local) → WayIn c code m l middle → WayIn c code n middle after → WayIn c code (m + n) l after
@@ -37,14 +38,14 @@ pub HasForm-next : (c : Checked) (code : List ℕ) (l next : Local) → HasForm 
 HasForm-next c code l next form e =
     let kept_form : forms.HasForm c l = record { areas = form.areas; core = form.core; owns = record { once = form.owns.once } } in
     let kept : KeepsForm c (Goes next) = subst (KeepsForm c) e (KeepsForm-step c code l kept_form) in
-    let size : size_of next.areas.pool ≡ size_of l.areas.pool = subst (KeepsSize l) e (KeepsSize-step code l) in
+    let shape : shape_of next.areas.pool ≡ shape_of l.areas.pool = subst (KeepsShape l) e (KeepsShape-step code l) in
     record {
       areas = kept.0;
       core = kept.1;
       owns = record {
         once = λ chunk.
             let same : copies_in chunk next ≡ copies_in chunk l = subst (KeepsCopies chunk l) e (KeepsCopies-step code l chunk) in
-            let count : most_once chunk next.areas.pool.count ≡ most_once chunk l.areas.pool.count = ap (λ (s : ℕ × ℕ). most_once chunk s.0) size in
+            let count : most_once chunk next.areas.pool.count ≡ most_once chunk l.areas.pool.count = ap (λ (s : Shape). most_once chunk s.count) shape in
             omega (arith, same, count, form.owns.once chunk);
       };
     }

@@ -4,8 +4,7 @@ use Rattle.std.proofs.Common.{◌≡◌, ℕ, ◌+◌, ◌-◌, ◌*◌, ◌/◌
 use Rattle.std.specs.Prelude.{◌&&◌, nat_le, nat_lt}
 use Rattle.std.proofs.lemmas.Bool.{and_from}
 use Rattle.std.proofs.lemmas.List.{length-set, set-set, set-get_or}
-use Rattle.std.proofs.lemmas.List.Elements.{All-get_or}
-use Rattle.chunk_pool.specs.Pool.{Pool, chunk_of, word_of, contents_with, place_of, end_of, payload_place_of, chunk_at, IsPool, IsChunk}
+use Rattle.chunk_pool.specs.Pool.{Pool, chunk_of, word_of, contents_with, place_of, end_of, payload_place_of, chunk_at, IsPool}
 use Rattle.chunk_pool.specs.Pool as pools
 use Rattle.chunk_pool.proofs.AddressLaws.{place_of-aligned}
 use Rattle.rv_machine.specs.Bytes.{word_at, with_half, with_word, half_is_writable, word_is_writable}
@@ -14,6 +13,7 @@ use Rattle.rv_machine.proofs.WordBytes.{word_at-held, with_word-row}
 use Rattle.machine_world.specs.Areas.{Areas, Spot, InGlobals, InTables, InPayload, globals_place, tables_place, is_within, payload_spot, spot_of, byte_on, byte_at, is_writable_on, is_writable, with_byte_on, with_byte}
 use Rattle.machine_world.proofs.FormLaws.{word-below}
 use Rattle.segment_laws.proofs.Spots.{Fit, spot_of-payload, spot_of-global, spot_of-table}
+use Rattle.chunk_pool.proofs.ShapeLaws.{IsChunk-chunk_of}
 
 -- ---- four bytes of a row of words
 
@@ -69,18 +69,13 @@ spots-at : (areas : Areas) (chunk at offset k address : ℕ) → Fit areas → P
 spots-at areas chunk at offset k address fit is small here there =
     ap (spot_of areas) here ∙ spots areas chunk address k fit is small ∙ ap (λ (o : ℕ). Some (InPayload chunk o)) (sym there)
 
-length-chunk : (pool : Pool) (chunk : ℕ) → IsPool pool → chunk < pool.count → IsChunk pool.words (chunk_of pool chunk)
-length-chunk pool chunk sound below =
-    let in' : chunk < length pool.contents = subst (λ (n : ℕ). chunk < n) (sym sound.count_is) below in
-    All-get_or (IsChunk pool.words) pool.contents chunk [] in' sound.chunks
-
 pub loaded-payload : (areas : Areas) (chunk address : ℕ) → Fit areas → PayloadWord areas.pool chunk address →
     word_at (byte_at areas) address ≡ Some (word_of areas.pool chunk (word_number areas.pool chunk address))
 loaded-payload areas chunk address fit is =
     word_at-row areas address (chunk_of areas.pool chunk) (address - place_of areas.pool chunk) (record {
       bytes = λ k small. ap (byte_on areas) (spots areas chunk address k fit is small);
       aligned = offset_aligned areas.pool chunk address fit.pool is;
-      below = word-below (chunk_of areas.pool chunk) _ (length-chunk areas.pool chunk fit.pool is.chunk_below).fits;
+      below = word-below (chunk_of areas.pool chunk) _ (IsChunk-chunk_of areas.pool chunk fit.pool is.chunk_below).fits;
     })
 
 -- the chunk's words as a row of their own
@@ -126,11 +121,11 @@ stored-payload areas chunk address value fit is below =
     let at1 : spot_of areas (address + 1) ≡ Some (InPayload chunk (offset + 1)) = spots areas chunk address 1 fit is (lit< tt) in
     let at2 : spot_of areas (address + 2) ≡ Some (InPayload chunk (offset + 2)) = spots areas chunk address 2 fit is (lit< tt) in
     let at3 : spot_of areas (address + 2 + 1) ≡ Some (InPayload chunk (offset + 2 + 1)) = spots-at areas chunk (address + 2 + 1) (offset + 2 + 1) 3 address fit is (lit< tt) (omega arith) (omega arith) in
-    let inside : offset / 4 < length row = omega (arith, (length-chunk areas.pool chunk fit.pool is.chunk_below).length, is.high, is.low) in
+    let inside : offset / 4 < length row = omega (arith, (IsChunk-chunk_of areas.pool chunk fit.pool is.chunk_below).length, is.high, is.low) in
     ap (λ (a : Areas). with_half with_byte (with_half with_byte a address (value % 2 ^ 16)) (address + 2) (value / 2 ^ 16)) (sym (with_row-same areas chunk))
     ∙ ap (λ (a : Areas). with_half with_byte a (address + 2) (value / 2 ^ 16)) (half_to_row areas chunk address offset (value % 2 ^ 16) row in' at0 at1)
     ∙ half_to_row areas chunk (address + 2) (offset + 2) (value / 2 ^ 16) (with_half words_with row offset (value % 2 ^ 16)) in' at2 at3
-    ∙ ap (with_row areas chunk) (with_word-row row offset value (offset_aligned areas.pool chunk address fit.pool is) inside (word-below row (offset / 4) (length-chunk areas.pool chunk fit.pool is.chunk_below).fits) below)
+    ∙ ap (with_row areas chunk) (with_word-row row offset value (offset_aligned areas.pool chunk address fit.pool is) inside (word-below row (offset / 4) (IsChunk-chunk_of areas.pool chunk fit.pool is.chunk_below).fits) below)
 
 -- four writable bytes
 all_writable : (areas : Areas) (address : ℕ) → is_writable areas address ≡ true → is_writable areas (address + 1) ≡ true → is_writable areas (address + 2) ≡ true → is_writable areas (address + 2 + 1) ≡ true →

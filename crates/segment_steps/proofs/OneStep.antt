@@ -1,5 +1,5 @@
 -- What the next step of a flat thread comes to, the machine comes to.
-use Rattle.std.proofs.Common.{◌≡◌, ℕ, ◌+◌, ◌<◌, List, [], ◌∷◌, length, Option, Some, None, refl, sym, ap, subst, ◌∙◌, arith}
+use Rattle.std.proofs.Common.{◌≡◌, ℕ, ◌+◌, ◌<◌, List, ◌∷◌, length, Option, Some, None, refl, sym, ap, subst, ◌∙◌, arith}
 use Rattle.std.proofs.lemmas.List.{length-map}
 use Rattle.cap_word.specs.Calls.{Question, Finish}
 use Rattle.cap_word.specs.Runs.{Goes, Asks, Stops}
@@ -21,7 +21,7 @@ use Rattle.segment_laws.proofs.Facts.{CodeFacts, IsOperationAt}
 use Rattle.segment_laws.proofs.FlatSteps.{IsStraight, function_there, step_reaches}
 use Rattle.segment_laws.proofs.Simulation.{Simulates, Reaches}
 use Rattle.segment_laws.proofs.Ways.{IsGoodState, Leads}
-use Rattle.segment_steps.specs.Alike.{AsksTheSame, WaitsAlike, StopsAlike}
+use Rattle.segment_steps.specs.Alike.{AsksTheSame, WaitsAlike, StopsAlike, FindsNoChunk}
 use Rattle.segment_steps.proofs.FlatMoves.{NoQuestion, IsQuestion, asks_nothing, OnlyQuestion, model_asks, spawn_asks, NoFinish, MayStop, call_goes, goes_alone}
 use Rattle.segment_steps.proofs.Needs.{NeedsFit}
 use Rattle.segment_steps.proofs.Rooms.{CallsOrCut, Came, Cut, call_or_cut, table_or_cut}
@@ -29,14 +29,14 @@ use Rattle.segment_steps.proofs.Traps.{TrapsWith, load_local_trap, store_local_t
 
 -- ---- where the machine comes to
 
--- to a LINK where no chunk is free
+-- to a LINK for whose need nothing is taken
 pub record AtCut (c : Checked) (code : List ℕ) (l : Local) : Type 0 where
   pub count : ℕ
   pub at : Local
   pub leads : Leads c code count l at
   pub good : IsGoodState c code at
   pub step : local_step code at ≡ Stops NoRoom
-  pub none : at.areas.pool.free ≡ []
+  pub none : FindsNoChunk c at
 
 -- to the ECALL at which the flat thread waits
 pub record AtQuestion (c : Checked) (code : List ℕ) (l : Local) (asked : Question) (waiting : FlatWaiting) : Type 0 where

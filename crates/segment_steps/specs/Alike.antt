@@ -10,15 +10,16 @@ use Rattle.flat_code.specs.Step.{FlatMove, flat_machine, flat_resume}
 use Rattle.flat_code.specs.declared.operations.Op.{Op}
 use Rattle.stack_certificate.specs.Certificates.{fact_at, need_of}
 use Rattle.stack_certificate.specs.Templates.{kind_of}
-use Rattle.chunk_pool.specs.Pool.{Pool}
+use Rattle.chunk_pool.specs.Pool.{Pool, taken_for, all_free}
 use Rattle.machine_world.specs.Globals.{AreGlobals}
-use Rattle.machine_world.specs.InPlace.{Frame}
+use Rattle.machine_world.specs.InPlace.{Frame, HasFrames}
 use Rattle.machine_world.specs.Local as local
 use Rattle.machine_world.specs.Local.{Core, Local, LocalMove, Ended, Trapped, NoRoom, Wrong, a0, local_step, local_machine}
-use Rattle.machine_world.specs.Places.{Checked}
+use Rattle.machine_world.specs.Places.{Checked, InOperation}
 use Rattle.machine_world.specs.Rests.{IsResting, AtStart, AtCall, PastCall, ecall_word, IsAtCall, AreFlatFrames}
 use Rattle.segment_laws.specs.Simulation.{Simulates}
 use Rattle.segment_laws.specs.Ways.{HasForm, IsGoodState}
+use Rattle.stack_certificate.specs.declared.sites.LinkKind.{LinkKind}
 
 -- ---- what the lowering of a source gives and the rules of a certificate don't
 
@@ -75,13 +76,28 @@ StopsAlike c at Wrong finish = ⊥
 
 -- ---- from the machine to the flat thread
 
--- what a step of the machine leads to, the flat thread comes to; it finds no room only where no chunk is free, and is
--- never wrong
+-- the thread is in place at an operation whose site may be linked, and nothing is taken for the site's need: no chunk is
+-- free
+pub record FindsNoChunk (c : Checked) (l : Local) : Type 0 where
+  pub function : ℕ
+  pub operation : ℕ
+  pub word : ℕ
+  pub op : Op
+  pub need : ℕ
+  pub frames : List Frame
+  pub there : operation_at c.flat function operation ≡ Some op
+  pub linked : kind_of c.certificate op ≡ LinkKind.Linked need
+  pub in_place : HasFrames c l.areas.pool l.core (InOperation function operation word) frames
+  pub nothing : taken_for l.areas.pool need ≡ None
+  pub none : all_free l.areas.pool ≡ []
+
+-- what a step of the machine leads to, the flat thread comes to; it finds no room only at a linked site for whose need
+-- nothing is taken, and is never wrong
 abbrev pub IsStepAlike : Checked → FlatThread → Local → LocalMove → Type 0
 IsStepAlike c t at (Goes next) = Unit {0}
 IsStepAlike c t at (Asks question still) =
     (still ≡ at) × ((n : ℕ) × (asked : Question) × (waiting : FlatWaiting) × (moves (flat_machine c.flat) n t ≡ Asks asked waiting) × WaitsAlike c at question asked waiting)
-IsStepAlike c t at (Stops NoRoom) = at.areas.pool.free ≡ []
+IsStepAlike c t at (Stops NoRoom) = FindsNoChunk c at
 IsStepAlike c t at (Stops end) = (n : ℕ) × (finish : Finish) × (moves (flat_machine c.flat) n t ≡ Stops (Finished finish)) × StopsAlike c at end finish
 
 -- a state on the way: it is in place, its next load or store is good, and so is its next step

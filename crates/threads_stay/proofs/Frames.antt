@@ -2,14 +2,18 @@
 use Rattle.std.proofs.Common.{◌≡◌, ℕ, ◌+◌, ◌-◌, ◌*◌, ◌/◌, ◌<◌, ◌≤◌, Bool, true, false, List, [], ◌∷◌, Some, refl, sym, ap, ◌∙◌, subst, slice_get}
 use Rattle.std.specs.Prelude.{nat_eq, slice_index}
 use Rattle.std.specs.List.{AllByRecursion}
-use Rattle.chunk_pool.specs.Pool.{Pool, chunk_of, word_of, end_of, payload_place_of, first_place}
+use Rattle.chunk_pool.specs.Pool.{Pool, chunk_of, word_of, end_of, payload_place_of, shape_of}
 use Rattle.rv_machine.specs.Registers.{read}
 use Rattle.machine_world.specs.InPlace.{Frame, word_in, return_word, IsFrame, IsAbove, IsStack, IsRunning, FramesAt, HeadersName, TpIsFront, HasFrames, chain_below, low_below}
 use Rattle.machine_world.specs.Local.{Core, ra, sp, tp, saved_sp}
 use Rattle.machine_world.specs.Places.{Checked, Place, Row, NoFrame, Empty, Fresh, Linking, Whole, IsAt, row_of}
 use Rattle.threads_stay.specs.Kept.{KeepsChunks, KeepsStack}
+use Rattle.chunk_pool.proofs.ShapeLaws.{count-same, place_of-same, payload_place_of-same, end_of-same}
 
-module _ (c : Checked) (pool after : Pool) (count : after.count ≡ pool.count) (size : after.words ≡ pool.words) where
+module _ (c : Checked) (pool after : Pool) (shape : shape_of after ≡ shape_of pool) where
+  count : after.count ≡ pool.count
+  count = count-same pool after shape
+
   -- a chunk has its words
   abbrev pub Keeps : ℕ → Type 0
   Keeps chunk = chunk_of after chunk ≡ chunk_of pool chunk
@@ -18,13 +22,13 @@ module _ (c : Checked) (pool after : Pool) (count : after.count ≡ pool.count) 
   word_same chunk k kept = ap (λ (ws : List ℕ). slice_index ws k) kept
 
   pub word_in_same : (chunk address : ℕ) → Keeps chunk → word_in after chunk address ≡ word_in pool chunk address
-  word_in_same chunk address kept = λ i. slice_index (kept i) ((address - (first_place + chunk * (4 * size i))) / 4)
+  word_in_same chunk address kept = λ i. slice_index (kept i) ((address - place_of-same pool after chunk shape i) / 4)
 
   payload_same : (chunk : ℕ) → payload_place_of after chunk ≡ payload_place_of pool chunk
-  payload_same chunk = λ i. first_place + chunk * (4 * size i) + 16
+  payload_same chunk = payload_place_of-same pool after chunk shape
 
   end_same : (chunk : ℕ) → end_of after chunk ≡ end_of pool chunk
-  end_same chunk = λ i. first_place + chunk * (4 * size i) + 4 * size i
+  end_same chunk = end_of-same pool after chunk shape
 
   frame_stays : (frame : Frame) → IsFrame c pool frame → IsFrame c after frame
   frame_stays frame h = record {
@@ -147,13 +151,13 @@ pub record Stays (c : Checked) (pool after : Pool) (core_now : Core) (place : Pl
 
 pub has_frames : (c : Checked) (pool after : Pool) (core core_now : Core) (place : Place) (frames : List Frame) → KeepsChunks pool after core.chain → KeepsStack core core_now → HasFrames c pool core place frames → Stays c pool after core_now place frames
 has_frames c pool after core core_now place frames kept same h =
-    let stay = frames_stay c pool after kept.count kept.size core core_now place (row_of c place) core.chain frames same.returns same.stack kept.words h.frames_are in
+    let stay = frames_stay c pool after kept.shape core core_now place (row_of c place) core.chain frames same.returns same.stack kept.words h.frames_are in
     record {
       in_place = record {
         at = subst (λ (pc : ℕ). IsAt c pc place) (sym same.pc) h.at;
         frames_are = subst (λ (chain : List ℕ). FramesAt c after core_now place (row_of c place) chain frames) (sym same.chain) stay.frames_are;
-        front = subst (λ (chain : List ℕ). TpIsFront after core_now chain) (sym same.chain) (tp_stays c pool after kept.count kept.size core core_now core.chain same.front h.front);
-        headers = subst (λ (chain : List ℕ). HeadersName after chain) (sym same.chain) (headers_stay c pool after kept.count kept.size core.chain kept.words h.headers);
+        front = subst (λ (chain : List ℕ). TpIsFront after core_now chain) (sym same.chain) (tp_stays c pool after kept.shape core core_now core.chain same.front h.front);
+        headers = subst (λ (chain : List ℕ). HeadersName after chain) (sym same.chain) (headers_stay c pool after kept.shape core.chain kept.words h.headers);
       };
       chunks = stay.chunks;
     }

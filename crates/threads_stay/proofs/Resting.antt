@@ -4,7 +4,7 @@ use Rattle.std.specs.List.{AllByRecursion}
 use Rattle.c_mean.specs.Frames as source
 use Rattle.c_mean.specs.Frames.{Place, Nowhere, InLocal, InGlobal, InLocalElement, InGlobalElement, Returned, WaitingFrame, Waiting}
 use Rattle.c_tree.specs.Trees.{ProgramTree}
-use Rattle.chunk_pool.specs.Pool.{Pool, chunk_of}
+use Rattle.chunk_pool.specs.Pool.{Pool, chunk_of, shape_of}
 use Rattle.flat_code.specs.Frames.{FlatFrame}
 use Rattle.flat_code.specs.declared.operations.Op.{Op}
 use Rattle.machine_world.specs.InPlace.{Frame, HasFrames}
@@ -18,7 +18,7 @@ use Rattle.machine_world.specs.StandsForWorld.{IsPast}
 use Rattle.threads_stay.specs.Kept.{KeepsChunks, KeepsStack, RestsOn}
 use Rattle.threads_stay.proofs.Frames.{word_in_same, has_frames}
 
-module _ (c : Checked) (pool after : Pool) (count : after.count ≡ pool.count) (size : after.words ≡ pool.words) where
+module _ (c : Checked) (pool after : Pool) (shape : shape_of after ≡ shape_of pool) where
   abbrev Keeps : ℕ → Type 0
   Keeps chunk = chunk_of after chunk ≡ chunk_of pool chunk
 
@@ -26,7 +26,7 @@ module _ (c : Checked) (pool after : Pool) (count : after.count ≡ pool.count) 
   AllKept frames = AllByRecursion (λ (f : Frame). Keeps f.chunk) frames
 
   variable_same : (frame : Frame) (x k : ℕ) → Keeps frame.chunk → variable_word c after frame x k ≡ variable_word c pool frame x k
-  variable_same frame x k kept = word_in_same c pool after count size frame.chunk _ kept
+  variable_same frame x k kept = word_in_same c pool after shape frame.chunk _ kept
 
   -- ---- registers of a call
 
@@ -127,9 +127,9 @@ abbrev AllStay : Pool → Pool → List Frame → Type 0
 AllStay pool after frames = AllByRecursion (λ (f : Frame). chunk_of after f.chunk ≡ chunk_of pool f.chunk) frames
 
 past_stands : (c : Checked) (pool after : Pool) (core core_now : Core) (f i : ℕ) (op : Op) (word : ℕ) (place : places.Place) (frames : List Frame) (old : IsPastCall c pool core f i op word place frames) (new : IsPastCall c after core_now f i op word place frames)
-    → after.count ≡ pool.count → after.words ≡ pool.words → AllStay pool after frames → (program : ProgramTree) (thread : SourceThread) → StandsFor c program pool core (PastCall f i op word place frames old) thread → StandsFor c program after core_now (PastCall f i op word place frames new) thread
-past_stands c pool after core core_now f i op word place frames old new count size kept program (Starts frame below) h = absurd h
-past_stands c pool after core core_now f i op word place frames old new count size kept program (Waits waiting) h = ask_stays c pool after count size program op frames waiting kept h
+    → shape_of after ≡ shape_of pool → AllStay pool after frames → (program : ProgramTree) (thread : SourceThread) → StandsFor c program pool core (PastCall f i op word place frames old) thread → StandsFor c program after core_now (PastCall f i op word place frames new) thread
+past_stands c pool after core core_now f i op word place frames old new shape kept program (Starts frame below) h = absurd h
+past_stands c pool after core core_now f i op word place frames old new shape kept program (Waits waiting) h = ask_stays c pool after shape program op frames waiting kept h
 
 past_rests : (c : Checked) (pool after : Pool) (core core_now : Core) (f i : ℕ) (op : Op) (word : ℕ) (place : places.Place) (frames : List Frame) (old : IsPastCall c pool core f i op word place frames) → KeepsChunks pool after core.chain → KeepsStack core core_now
     → RestsOn c pool core (PastCall f i op word place frames old) after core_now
@@ -139,19 +139,19 @@ past_rests c pool after core core_now f i op word place frames old kept same =
     record {
       rests = PastCall f i op word place frames new;
       past = λ h. tt;
-      stands = past_stands c pool after core core_now f i op word place frames old new kept.count kept.size stays.chunks;
-      flat = λ flats h. flats_past c pool after kept.count kept.size i frames flats stays.chunks h;
+      stands = past_stands c pool after core core_now f i op word place frames old new kept.shape stays.chunks;
+      flat = λ flats h. flats_past c pool after kept.shape i frames flats stays.chunks h;
     }
 
 call_stands : (c : Checked) (pool after : Pool) (core : Core) (f i : ℕ) (op : Op) (word : ℕ) (frames : List Frame) (old : IsAtCall c pool core f i op word frames) (new : IsAtCall c after core f i op word frames)
-    → after.count ≡ pool.count → after.words ≡ pool.words → AllStay pool after frames → (program : ProgramTree) (thread : SourceThread) → StandsFor c program pool core (AtCall f i op word frames old) thread → StandsFor c program after core (AtCall f i op word frames new) thread
-call_stands c pool after core f i op word frames old new count size kept program (Starts frame below) h = absurd h
-call_stands c pool after core f i op word frames old new count size kept program (Waits waiting) h = ask_stays c pool after count size program op frames waiting kept h
+    → shape_of after ≡ shape_of pool → AllStay pool after frames → (program : ProgramTree) (thread : SourceThread) → StandsFor c program pool core (AtCall f i op word frames old) thread → StandsFor c program after core (AtCall f i op word frames new) thread
+call_stands c pool after core f i op word frames old new shape kept program (Starts frame below) h = absurd h
+call_stands c pool after core f i op word frames old new shape kept program (Waits waiting) h = ask_stays c pool after shape program op frames waiting kept h
 
 start_stands : (c : Checked) (pool after : Pool) (core : Core) (f : ℕ) (frames : List Frame) (old : HasFrames c pool core (InPrologue f 0) frames) (new : HasFrames c after core (InPrologue f 0) frames)
-    → after.count ≡ pool.count → after.words ≡ pool.words → AllStay pool after frames → (program : ProgramTree) (thread : SourceThread) → StandsFor c program pool core (AtStart f frames old) thread → StandsFor c program after core (AtStart f frames new) thread
-start_stands c pool after core f frames old new count size kept program (Starts frame below) h = start_stays c pool after count size program core frames frame below kept h
-start_stands c pool after core f frames old new count size kept program (Waits waiting) h = absurd h
+    → shape_of after ≡ shape_of pool → AllStay pool after frames → (program : ProgramTree) (thread : SourceThread) → StandsFor c program pool core (AtStart f frames old) thread → StandsFor c program after core (AtStart f frames new) thread
+start_stands c pool after core f frames old new shape kept program (Starts frame below) h = start_stays c pool after shape program core frames frame below kept h
+start_stands c pool after core f frames old new shape kept program (Waits waiting) h = absurd h
 
 pub rests_law : (c : Checked) (pool after : Pool) (core : Core) (rests : IsResting c pool core) → KeepsChunks pool after core.chain → RestsOn c pool core rests after core
 rests_law c pool after core (AtStart f frames in_place) kept =
@@ -159,17 +159,17 @@ rests_law c pool after core (AtStart f frames in_place) kept =
     record {
       rests = AtStart f frames stays.in_place;
       past = λ h. absurd h;
-      stands = start_stands c pool after core f frames in_place stays.in_place kept.count kept.size stays.chunks;
-      flat = λ flats h. flats_start c pool after kept.count kept.size core frames flats stays.chunks h;
+      stands = start_stands c pool after core f frames in_place stays.in_place kept.shape stays.chunks;
+      flat = λ flats h. flats_start c pool after kept.shape core frames flats stays.chunks h;
     }
 rests_law c pool after core (AtCall f i op word frames in_place) kept =
     let stays = has_frames c pool after core core (InOperation f i word) frames kept (keeps_self core) in_place.frames_are in
-    let new : IsAtCall c after core f i op word frames = record { operation = in_place.operation; ecall = in_place.ecall; frames_are = stays.in_place; registers = call_stays c pool after kept.count kept.size core frames op stays.chunks in_place.registers } in
+    let new : IsAtCall c after core f i op word frames = record { operation = in_place.operation; ecall = in_place.ecall; frames_are = stays.in_place; registers = call_stays c pool after kept.shape core frames op stays.chunks in_place.registers } in
     record {
       rests = AtCall f i op word frames new;
       past = λ h. absurd h;
-      stands = call_stands c pool after core f i op word frames in_place new kept.count kept.size stays.chunks;
-      flat = λ flats h. flats_stay c pool after kept.count kept.size frames flats stays.chunks h;
+      stands = call_stands c pool after core f i op word frames in_place new kept.shape stays.chunks;
+      flat = λ flats h. flats_stay c pool after kept.shape frames flats stays.chunks h;
     }
 rests_law c pool after core (PastCall f i op word place frames in_place) kept = past_rests c pool after core core f i op word place frames in_place kept (keeps_self core)
 

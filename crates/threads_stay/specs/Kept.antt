@@ -2,7 +2,7 @@
 use Rattle.std.specs.Prelude.{◌≡◌, ℕ, List}
 use Rattle.std.specs.List.{AllByRecursion}
 use Rattle.c_tree.specs.Trees.{ProgramTree}
-use Rattle.chunk_pool.specs.Pool.{Pool, chunk_of}
+use Rattle.chunk_pool.specs.Pool.{Pool, chunk_of, shape_of}
 use Rattle.flat_code.specs.Frames.{FlatFrame}
 use Rattle.rv_machine.specs.Registers.{read}
 use Rattle.machine_world.specs.Local.{Core, ra, sp, tp}
@@ -11,10 +11,9 @@ use Rattle.machine_world.specs.Rests.{IsResting, StandsForFlat}
 use Rattle.machine_world.specs.StandsFor.{SourceThread, StandsFor}
 use Rattle.machine_world.specs.StandsForWorld.{IsPast}
 
--- a pool has as many chunks as another, of as many words, and each of these chunks has its words
+-- a pool has another's shape, and each of these chunks has its words
 pub record KeepsChunks (pool after : Pool) (chunks : List ℕ) : Type 0 where
-  pub count : after.count ≡ pool.count
-  pub size : after.words ≡ pool.words
+  pub shape : shape_of after ≡ shape_of pool
   pub words : AllByRecursion (λ chunk. chunk_of after chunk ≡ chunk_of pool chunk) chunks
 
 -- a thread stands where it stood, on the same chunks, with the same return address, stack and chunk pointers

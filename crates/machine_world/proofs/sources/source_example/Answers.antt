@@ -12,12 +12,14 @@ use Rattle.machine_world.specs.StandsFor.{HoldsNames, IsWaitingFrame, IsStarting
 use Rattle.machine_world.specs.Descending.{entry_frame}
 use Rattle.machine_world.proofs.DescendingFrames.{entered_frames}
 use Rattle.machine_world.proofs.sources.source_example.Goals as goal
+use Rattle.chunk_pool.specs.Pool.{start_in}
 
 pub returns-clause-entered : goal.returns-clause-entered
 unfolding sub slt flag signed word_of
 returns-clause-entered c = refl
 
 names_of_f : HoldsNames checked at_entry.pool caller_frame waiting_f.frame.names call_in_f.scope
+unfolding start_in
 names_of_f zero zero in_scope inside = refl
 names_of_f zero (suc k) in_scope inside = absurd (omega arith)
 names_of_f (suc zero) zero in_scope inside = refl
@@ -25,11 +27,13 @@ names_of_f (suc zero) (suc k) in_scope inside = absurd (omega arith)
 names_of_f (suc (suc x)) k in_scope inside = absurd (omega arith)
 
 names_of_main : HoldsNames checked at_entry.pool main_frame waiting_main.frame.names call_in_main.scope
+unfolding start_in
 names_of_main zero zero in_scope inside = refl
 names_of_main zero (suc k) in_scope inside = absurd (omega arith)
 names_of_main (suc x) k in_scope inside = absurd (omega arith)
 
 waits_f : IsWaitingFrame checked recursion at_entry.pool caller_frame (standing checked caller_frame) waiting_f
+unfolding start_in
 waits_f = record {
   function = refl;
   site = refl;
@@ -41,6 +45,7 @@ waits_f = record {
 }
 
 waits_main : IsWaitingFrame checked recursion at_entry.pool main_frame (standing checked main_frame) waiting_main
+unfolding start_in
 waits_main = record {
   function = refl;
   site = refl;

@@ -2,7 +2,7 @@ use Rattle.std.proofs.Common.{ℕ, ◌<◌, List, ◌∙◌, ap, sym, subst, Som
 use Rattle.chunk_pool.specs.Pool.{Pool, word_of, first_free, after_take, IsFree, IsHeld}
 use Rattle.chunk_pool.specs.Chunks.{pool_of}
 use Rattle.chunk_pool.proofs.FreeLaws.{IsTaken-after_take, taken_is_held}
-use Rattle.chunk_pool.proofs.Kept.{first_within, taken_from, taken}
+use Rattle.chunk_pool.proofs.Kept.{none_taken, first_within, taken_from, taken}
 use Rattle.chunk_pool.proofs.pool.ChunkPool.take.Goals as goal
 
 pub read-self-inside-requires-clause-id_in_range : goal.read-self-inside-requires-clause-id_in_range
@@ -41,3 +41,7 @@ returns-clause-needed c need each = IsTaken-after_take c.args.self.now need (Som
 
 pub returns-clause-sound : goal.returns-clause-sound
 returns-clause-sound c = (invariant_of-self c).pool
+
+pub returns-then-self-eq0-clause-needed : goal.returns-then-self-eq0-clause-needed
+returns-then-self-eq0-clause-needed c need each =
+    none_taken c.self.inside c.args.self.now need c.self.view_is c.if-self-eq0.true each

@@ -1,0 +1,69 @@
+-- How long a chunk is and where it stands: what holds of every pool, and that pools of one shape agree on it.
+use Rattle.std.proofs.Common.{◌≡◌, ℕ, ◌+◌, ◌*◌, ◌/◌, ◌%◌, ◌<◌, nat_eq, [], length, refl, sym, ◌∙◌, ap, subst, arith, cond, count_by}
+use Rattle.std.proofs.lemmas.List.Elements.{All-get_or}
+use Rattle.std.proofs.lemmas.Nat.{mod-mul-add}
+use Rattle.chunk_pool.specs.Pool.{Pool, Shape, shape_of, words_of, chunk_of, all_free, after_give, first_place, bytes_of, first_bytes, place_of, end_of, payload_place_of, chunk_at, IsFree, IsChunk, IsPool, start_pool, chunk_in, first_bytes_in, start_in, words_in}
+use Rattle.chunk_pool.proofs.FreeLaws.{copies-cons}
+
+-- ---- how long a chunk is
+
+-- the words of a chunk are as many as it has
+pub IsChunk-chunk_of : (p : Pool) (id : ℕ) → IsPool p → id < p.count → IsChunk (words_of p id) (chunk_of p id)
+unfolding words_in
+IsChunk-chunk_of p id s within =
+    let in' : id < length p.contents = subst (λ (n : ℕ). id < n) (sym s.count_is) within in
+    All-get_or (IsChunk p.words) p.contents id [] in' s.chunks
+
+-- a chunk has a payload
+pub words_of-payload : (p : Pool) (id : ℕ) → IsPool p → id < p.count → 4 < words_of p id
+unfolding words_in
+words_of-payload p id s within = omega (arith, s.header_fits)
+
+pub bytes_of-aligned : (p : Pool) (id : ℕ) → IsPool p → bytes_of p id % 16 ≡ 0
+unfolding words_in
+bytes_of-aligned p id s =
+    let quarter = p.words / 4 in
+    let words : p.words ≡ 4 * quarter = omega (arith, s.aligned) in
+    let sixteens : 4 * p.words ≡ quarter * 16 + 0 = omega arith in
+    ap (λ (n : ℕ). n % 16) sixteens ∙ mod-mul-add quarter 16 0 (omega arith)
+
+-- all chunks have the first size
+pub bytes_of-first : (p : Pool) (id : ℕ) → id < p.count → bytes_of p id ≡ first_bytes p
+unfolding words_in first_bytes_in
+bytes_of-first p id within = refl
+
+pub first_bytes-start : (count words : ℕ) → first_bytes (start_pool count words) ≡ 4 * words
+unfolding first_bytes_in
+first_bytes-start count words = refl
+
+-- ---- pools of one shape
+
+pub count-same : (p q : Pool) → shape_of q ≡ shape_of p → q.count ≡ p.count
+count-same p q same = ap (λ (s : Shape). s.count) same
+
+pub words_of-same : (p q : Pool) (id : ℕ) → shape_of q ≡ shape_of p → words_of q id ≡ words_of p id
+words_of-same p q id same = ap (λ (s : Shape). words_in s id) same
+
+pub first_bytes-same : (p q : Pool) → shape_of q ≡ shape_of p → first_bytes q ≡ first_bytes p
+first_bytes-same p q same = ap first_bytes_in same
+
+pub place_of-same : (p q : Pool) (id : ℕ) → shape_of q ≡ shape_of p → place_of q id ≡ place_of p id
+place_of-same p q id same = ap (λ (s : Shape). first_place + 4 * start_in s id) same
+
+pub payload_place_of-same : (p q : Pool) (id : ℕ) → shape_of q ≡ shape_of p → payload_place_of q id ≡ payload_place_of p id
+payload_place_of-same p q id same = ap (λ (place : ℕ). place + 16) (place_of-same p q id same)
+
+pub end_of-same : (p q : Pool) (id : ℕ) → shape_of q ≡ shape_of p → end_of q id ≡ end_of p id
+end_of-same p q id same = λ i. place_of-same p q id same i + 4 * words_in (same i) id
+
+pub chunk_at-same : (p q : Pool) (address : ℕ) → shape_of q ≡ shape_of p → chunk_at q address ≡ chunk_at p address
+chunk_at-same p q address same = ap (λ (s : Shape). chunk_in s address) same
+
+-- ---- free chunks
+
+pub free_below_count : (p : Pool) (id : ℕ) → IsPool p → IsFree p id → id < p.count
+free_below_count p id s free = subst (λ (k : ℕ). k < p.count) free.2 (s.free_below free.0 id free.1)
+
+-- a give makes one number more free
+pub copies-after_give : (p : Pool) (given id : ℕ) → count_by (λ other. nat_eq other id) (all_free (after_give p given)) ≡ cond (nat_eq given id) 1 0 + count_by (λ other. nat_eq other id) (all_free p)
+copies-after_give p given id = copies-cons given (all_free p) id (nat_eq given id) refl
