@@ -28,7 +28,7 @@ pub enum Verdict {
         /// The number of the function.
         function: u32,
         /// What the index means depends on the rule.
-        index: u64,
+        index: u32,
     },
 }
 

@@ -9,3 +9,4 @@ pub mod RuleLemmas
 pub mod FrameLemmas
 pub mod BelowLemmas
 pub mod FitLemmas
+pub mod CodeListLemmas

@@ -4,3 +4,4 @@ pub mod Marks
 pub mod LeastSite
 pub mod Acceptance
 pub mod Accepting
+pub mod CodeLists

@@ -1,10 +1,17 @@
-ghost use Rattle.std.specs.Prelude.{IfOk, IfErr};
+ghost use Rattle.std.specs.Prelude.{◌≡◌, ◌^◌, ◌≤◌, IfOk, IfErr, length};
+ghost use Rattle.c_lower.specs.ProgramCode.{lowered};
+ghost use Rattle.c_tree.specs.ProgramView.{program_tree};
 ghost use Rattle.certificate_check.specs.Accepting.{Accepts, IsRefusalOf};
+ghost use Rattle.certificate_rules.specs.Validity.{IsFirstFailure, IsValid};
+ghost use Rattle.flat_code.specs.ProgramView.{program_code};
 
 use crate::accepted::Accepted;
+use crate::code_lists::code_lists;
+use crate::failures::Failure;
 use crate::first::first_failure;
 use c_lower::lower;
 use c_tree::Program;
+use flat_code::FlatProgram;
 use stack_certificate::Certificate;
 use stack_image::Image;
 use std::alloc::Global;
@@ -17,7 +24,7 @@ pub enum CheckError {
     Rejected {
         rule: u32,
         function: u32,
-        index: u64,
+        index: u32,
         program: Program,
         image: Image,
         certificate: Certificate,
@@ -32,7 +39,7 @@ pub enum CheckError {
 
 /// Accepts a program with an image and a certificate exactly where every rule holds of them, V1 to V12, unless
 /// memory runs out. Else it names the first failure: the least rule, in it the least function, and in it the
-/// least index.
+/// least index. An index that is no word, of a program that no memory holds, counts as a want of memory.
 pub fn check(
     alloc: Global,
     program: Program,
@@ -40,6 +47,7 @@ pub fn check(
     certificate: Certificate,
 ) -> Result<Accepted, CheckError>
     ensures accepted { IfOk result (λ accepted. Accepts accepted program image certificate) }
+    ensures valid { IfOk result (λ accepted. IsValid (lowered (program_tree program)) image certificate) }
     ensures refused { IfErr result (λ error. IsRefusalOf program image certificate error) }
 {
     let Ok(flat) = lower(alloc, &program) else {
@@ -50,17 +58,10 @@ pub fn check(
         });
     };
     match first_failure(alloc, &flat, &image, &certificate) {
-        Ok(None) => Ok(Accepted::new(program, image, certificate, flat)),
+        Ok(None) => accept(alloc, program, image, certificate, flat),
         Ok(Some(failure)) => {
             drop(flat);
-            Err(CheckError::Rejected {
-                rule: failure.rule,
-                function: failure.function,
-                index: failure.index,
-                program,
-                image,
-                certificate,
-            })
+            Err(refusal(failure, program, image, certificate))
         }
         Err(_) => {
             drop(flat);
@@ -70,5 +71,54 @@ pub fn check(
                 certificate,
             })
         }
+    }
+}
+
+// Accepts a program of whose image and certificate every rule holds, unless memory runs out.
+fn accept(
+    alloc: Global,
+    program: Program,
+    image: Image,
+    certificate: Certificate,
+    flat: FlatProgram,
+) -> Result<Accepted, CheckError>
+    requires lowers { program_code flat ≡ lowered (program_tree program) }
+    requires few { length (program_code flat).functions ≤ 2 ^ 32 }
+    requires valid { IsValid (program_code flat) image certificate }
+    ensures accepted { IfOk result (λ accepted. Accepts accepted program image certificate) }
+    ensures refused { IfErr result (λ error. IsRefusalOf program image certificate error) }
+{
+    match code_lists(alloc, &flat, &image, &certificate) {
+        Ok(lists) => Ok(Accepted::new(program, image, certificate, flat, lists)),
+        Err(_) => {
+            drop(flat);
+            Err(CheckError::Memory {
+                program,
+                image,
+                certificate,
+            })
+        }
+    }
+}
+
+// The refusal of a program for its first failure.
+fn refusal(failure: Failure, program: Program, image: Image, certificate: Certificate) -> CheckError
+    requires { IsFirstFailure (lowered (program_tree program)) image certificate failure.rule failure.function failure.index }
+    ensures { IsRefusalOf program image certificate result }
+{
+    match u32::try_from(failure.index) {
+        Ok(index) => CheckError::Rejected {
+            rule: failure.rule,
+            function: failure.function,
+            index,
+            program,
+            image,
+            certificate,
+        },
+        Err(_) => CheckError::Memory {
+            program,
+            image,
+            certificate,
+        },
     }
 }

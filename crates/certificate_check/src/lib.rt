@@ -9,6 +9,7 @@
 
 mod accepted;
 mod checking;
+mod code_lists;
 mod failures;
 mod first;
 mod fit;

@@ -68,7 +68,7 @@ fn first_astray(
 }
 
 // How many words stand in a function before each of its operations, and last, before its end.
-fn words_before_each(
+pub(crate) fn words_before_each(
     alloc: Global,
     flat: &FlatProgram,
     certificate: &Certificate,

@@ -104,7 +104,7 @@ pub fn put_rejected(
     line: &mut Vec<u8>,
     rule: u32,
     function: u32,
-    index: u64,
+    index: u32,
 ) -> Result<(), AllocError>
     ensures { OnOk result (line.new.items ≡ line.old.items ++ rejected_words rule function index) }
 {
@@ -113,7 +113,7 @@ pub fn put_rejected(
     put_text(line, b" function ")?;
     put_number(line, u64::from(function))?;
     put_text(line, b" index ")?;
-    put_number(line, index)
+    put_number(line, u64::from(index))
 }
 
 fn put_source(line: &mut Vec<u8>, error: &SourceError) -> Result<(), AllocError>

@@ -31,7 +31,7 @@ pub enum Cause {
         /// The number of the function.
         function: u32,
         /// What the index means depends on the rule.
-        index: u64,
+        index: u32,
     },
     /// The frame of the function of this name has so many bytes, too many.
     Frame {

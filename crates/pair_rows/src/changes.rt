@@ -41,7 +41,7 @@ pub(crate) enum Change {
 pub(crate) enum Answer {
     Accepted,
     /// The rule, the function and the index that fail first.
-    Rejected(u32, u32, u64),
+    Rejected(u32, u32, u32),
     /// The source or the certificate isn't read.
     Unread,
 }

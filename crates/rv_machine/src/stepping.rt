@@ -11,7 +11,7 @@ use rv_code::{Instr, decode};
 use stack_image::Image;
 
 // The first byte of the code.
-const CODE_START: u32 = 4096;
+pub(crate) const CODE_START: u32 = 4096;
 
 /// One step: the instruction at pc, by the table of the RISC-V unprivileged manual, chapters "RV32I" and
 /// "M". The code stands from 0x1000, one word after another. Any image is taken, and no memory.

@@ -1,0 +1,6 @@
+use Rattle.std.proofs.Common.{◌≡◌, map, take}
+use Rattle.rv_code.specs.Decoding.{decoding}
+use Rattle.decoded_code.proofs.lists.decode_all.Given as goal
+
+abbrev pub invariant-loop-word : goal.invariant-loop-word
+invariant-loop-word l = l.decoded.items ≡ map decoding (take l.word-index l.words)
