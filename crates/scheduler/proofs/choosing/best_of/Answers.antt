@@ -6,7 +6,7 @@ use Rattle.std.specs.Ordering.{nat_cmp}
 use Rattle.std.proofs.lemmas.Map.Iter.{btree_map_turn, rest_more}
 use Rattle.scheduler.specs.LawfulChoice.{is_eligible}
 use Rattle.scheduler.specs.Scores.{score}
-use Rattle.scheduler.proofs.ChoiceLemmas.{IsBestBut-taken, IsBestBut-ineligible}
+use Rattle.scheduler.proofs.ChoiceLemmas.{IsBestBut-taken, IsBestBut-passed, IsBestBut-ineligible}
 use Rattle.scheduler.proofs.choosing.best_of.Goals as goal
 
 pub rank_of-rank-requires : goal.rank_of-rank-requires
@@ -39,3 +39,14 @@ loop-node-preserved-in_default g c =
     IsBestBut-ineligible eligible (score c.args.monitor.now c.args.graph.now.edges) (slice_index c.args.lasts.now) c.args.queues.now c.in-Some.node.now c.in-Some.queue.now
     c.loop-node.node-iterator c.next.new.self c.loop-node.best c.rank_of-rank.result turn.1 next c.loop-node.invariant c.rank_of-rank.ensures.rank c.rank_of-rank.ensures.node
     (sym (rw c.gate.ensures at c.first_eligible.ensures) ∙ c.in_default.is)
+
+pub loop-node-preserved : goal.loop-node-preserved
+loop-node-preserved g c =
+    let gives = c.into_iter-node-iterator.ensures.into_iter_gives in
+    let turn = btree_map_turn deref_pair c.loop-node.yielded c.into_iter-node-iterator.result c.loop-node.node-iterator c.next.new.self c.next.result (c.in-Some.node, c.in-Some.queue)
+    c.loop-node.yielded_by c.in-Some.is c.next.ensures.steps nat_cmp_total c.args.queues.now gives.0 gives.5 in
+    let next = rest_more deref_pair c.loop-node.node-iterator c.next.new.self c.next.result (c.in-Some.node, c.in-Some.queue) c.in-Some.is c.next.ensures.steps in
+    let eligible = is_eligible (g.R.Ready.is_ready c.args.ready.now) (g.R.Ready.at_accept c.args.ready.now) (g.R.Ready.any_elsewhere c.args.ready.now) c.args.monitor.now.is_open in
+    IsBestBut-passed eligible (score c.args.monitor.now c.args.graph.now.edges) (slice_index c.args.lasts.now) c.args.queues.now c.in-Some.node.now c.in-Some.queue.now
+    c.loop-node.node-iterator c.next.new.self c.loop-node.best c.rank_of-rank.result turn.1 next c.loop-node.invariant c.rank_of-rank.ensures.rank c.rank_of-rank.ensures.node
+    (sym c.is_below_best.ensures ∙ c.if-is_below_best.false)
