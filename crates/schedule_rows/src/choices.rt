@@ -1,6 +1,6 @@
 // Threads that wait, and which of them goes on next.
 
-ghost use Rattle.std.specs.Prelude.{◌≡◌, ◌==◌, ◌+◌, ◌^◌, ◌<◌, ◌≤◌, true};
+ghost use Rattle.std.specs.Prelude.{◌≡◌, ◌==◌, ◌+◌, ◌^◌, ◌<◌, ◌≤◌, true, OnOk};
 ghost use Rattle.blocking_graph.specs.Graph.{empty_graph, IsSegment};
 ghost use Rattle.scheduler.specs.State.{started};
 ghost use Rattle.resource_monitor.specs.Pressure.{AnswersCurve, IsReading, curve_value};
@@ -133,6 +133,111 @@ fn arrivals_wait<C: Measure>(
     Ok(is_of(held, 3, 4) && is_of(alone, 9, 2) && is_of(behind, 3, 4))
 }
 
+// Takes the next choice, and tells whether it is of this thread at this node.
+fn takes<C: Measure>(
+    scheduler: &mut Scheduler,
+    graph: &Graph,
+    monitor: &Monitor<C>,
+    number: u32,
+    node: u32,
+) -> bool
+    requires { scheduler.old.noted < 2 ^ 40 }
+    ensures { scheduler.new.noted ≤ scheduler.old.noted + 1 }
+{
+    let taken = take_next(scheduler, graph, monitor, &one_arrival(true));
+    is_of(taken, number, node)
+}
+
+// Two threads at each of three nodes, joined in turns: 1 and 2 at node 4, 3 and 4 at node 2, 5 and 6 at node 3.
+fn two_at_each(scheduler: &mut Scheduler) -> Result<(), AllocError>
+    requires { scheduler.old ≡ started }
+    ensures { OnOk result (scheduler.new.noted ≡ 0) }
+{
+    scheduler.enqueue(4, thread(1))?;
+    scheduler.enqueue(2, thread(3))?;
+    scheduler.enqueue(3, thread(5))?;
+    scheduler.enqueue(4, thread(2))?;
+    scheduler.enqueue(3, thread(6))?;
+    scheduler.enqueue(2, thread(4))?;
+    Ok(())
+}
+
+// Whether three nodes of one score go in turns, each queue from its front.
+fn go_in_rounds<C: Measure>(
+    scheduler: &mut Scheduler,
+    graph: &Graph,
+    monitor: &Monitor<C>,
+) -> Result<bool, AllocError>
+    requires { scheduler.old ≡ started }
+{
+    two_at_each(scheduler)?;
+    let first = takes(scheduler, graph, monitor, 3, 2)
+        && takes(scheduler, graph, monitor, 5, 3)
+        && takes(scheduler, graph, monitor, 1, 4);
+    let second = takes(scheduler, graph, monitor, 4, 2)
+        && takes(scheduler, graph, monitor, 6, 3)
+        && takes(scheduler, graph, monitor, 2, 4);
+    let none = scheduler.choose(graph, monitor, &one_arrival(true));
+    Ok(first && second && none.is_none())
+}
+
+// Whether a node that releases is served before the others until its queue is empty.
+fn releasing_go_first<C: Measure>(
+    scheduler: &mut Scheduler,
+    graph: &mut Graph,
+    monitor: &Monitor<C>,
+) -> Result<bool, AllocError>
+    requires scheduler { scheduler.old ≡ started }
+    requires graph { graph.old ≡ empty_graph }
+{
+    two_at_each(scheduler)?;
+    graph.note(releasing())?;
+    Ok(
+        takes(scheduler, graph, monitor, 1, 4)
+            && takes(scheduler, graph, monitor, 2, 4)
+            && takes(scheduler, graph, monitor, 3, 2)
+            && takes(scheduler, graph, monitor, 5, 3)
+            && takes(scheduler, graph, monitor, 4, 2)
+            && takes(scheduler, graph, monitor, 6, 3),
+    )
+}
+
+// Whether an arrival that is held back lets the thread behind it pass, and keeps its place.
+fn arrival_is_passed<C: Measure>(
+    scheduler: &mut Scheduler,
+    graph: &Graph,
+    monitor: &Monitor<C>,
+) -> Result<bool, AllocError>
+    requires { scheduler.old ≡ started }
+{
+    scheduler.enqueue(2, thread(9))?;
+    scheduler.enqueue(2, thread(3))?;
+    let behind = takes(scheduler, graph, monitor, 3, 2);
+    let held = scheduler.choose(graph, monitor, &one_arrival(true));
+    let alone = scheduler.choose(graph, monitor, &one_arrival(false));
+    Ok(behind && held.is_none() && is_of(alone, 9, 2))
+}
+
+// The rows on three nodes and on a queue whose front is held back, each with a scheduler of its own.
+fn go_by_queues<C: Measure + Copy>(alloc: Global, call: C) -> Result<bool, AllocError>
+    requires { AnswersCurve (C.can_measure call) (C.measure_gives call) Linear }
+{
+    let monitor = full_monitor(alloc, call)?;
+    let mut graph = Graph::new(alloc);
+    let mut three = Scheduler::new(alloc);
+    let rounds = go_in_rounds(&mut three, &graph, &monitor);
+    let mut one = Scheduler::new(alloc);
+    let passed = arrival_is_passed(&mut one, &graph, &monitor);
+    let mut other = Scheduler::new(alloc);
+    let released = releasing_go_first(&mut other, &mut graph, &monitor);
+    drop(three);
+    drop(one);
+    drop(other);
+    drop(graph);
+    drop(monitor);
+    Ok(rounds? && passed? && released?)
+}
+
 // Both, each with a scheduler of its own.
 fn go_in_turn<C: Measure + Copy>(alloc: Global, call: C) -> Result<bool, AllocError>
     requires { AnswersCurve (C.can_measure call) (C.measure_gives call) Linear }
@@ -157,5 +262,6 @@ fn choices(rt: HostRuntime) -> Result<(), Fail> {
         ensures { result ≡ curve_value Linear used cap }
     { 1000 * used / cap };
     assert!(rt; go_in_turn(rt.alloc(), linear)? && gate_follows(rt.alloc(), linear)?);
+    assert!(rt; go_by_queues(rt.alloc(), linear)?);
     Ok(())
 }

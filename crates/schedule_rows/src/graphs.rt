@@ -81,6 +81,49 @@ fn is_weighted(graph: &mut Graph) -> Result<bool, AllocError>
     Ok(graph.predicted(4, 1) == -192 && graph.predicted(4, 0) == 0)
 }
 
+// An edge with a change of resource 1.
+fn edge(from: u32, to: u32, count: u64, cost: i128, change: i128) -> EdgeLine {
+    EdgeLine {
+        from,
+        to,
+        count,
+        cost,
+        change: [0, change, 0, 0, 0, 0, 0, 0],
+    }
+}
+
+// Whether the edges are these three.
+fn has_edges(graph: &Graph, wanted: &[EdgeLine; 3]) -> Result<bool, AllocError> {
+    let edges = graph.edges()?;
+    let is_so = edges.as_slice() == wanted.as_slice();
+    drop(edges);
+    Ok(is_so)
+}
+
+// Whether pairs that are met out of order, and met again, stand in order with their averages, and whether each node's
+// prediction is of its own edges.
+fn is_in_order(graph: &mut Graph) -> Result<bool, AllocError>
+    requires { graph.old ≡ empty_graph }
+{
+    note(graph, 4, 2, 8, -1)?;
+    note(graph, 2, 4, 4, 2)?;
+    note(graph, 4, 2, 16, 0)?;
+    note(graph, 2, 2, 1, 1)?;
+    note(graph, 2, 4, 4, -2)?;
+    let wanted = [
+        edge(2, 2, 1, 256, 256),
+        edge(2, 4, 2, 1024, 384),
+        edge(4, 2, 2, 2304, -224),
+    ];
+    let is_so = has_edges(graph, &wanted)?;
+    Ok(
+        is_so
+            && graph.predicted(2, 1) == 341
+            && graph.predicted(4, 1) == -224
+            && graph.predicted(3, 1) == 0,
+    )
+}
+
 fn graphs_are_right(alloc: Global) -> Result<bool, AllocError> {
     let mut of_keys = Graph::new(alloc);
     let numbers = numbers_in(&mut of_keys);
@@ -91,7 +134,10 @@ fn graphs_are_right(alloc: Global) -> Result<bool, AllocError> {
     let mut of_two = Graph::new(alloc);
     let weighted = is_weighted(&mut of_two);
     drop(of_two);
-    Ok(numbers? == [2, 3, 2, 4] && averages? && weighted?)
+    let mut of_three = Graph::new(alloc);
+    let ordered = is_in_order(&mut of_three);
+    drop(of_three);
+    Ok(numbers? == [2, 3, 2, 4] && averages? && weighted? && ordered?)
 }
 
 #[test]

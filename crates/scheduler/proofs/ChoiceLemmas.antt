@@ -1,13 +1,20 @@
--- The best of a list, from the last to the first, is the lawful choice.
-use Rattle.std.proofs.Common.{◌≡◌, ◌≢◌, ℕ, zero, suc, ◌-◌, ◌<◌, ◌≤◌, ◌==◌, ◌&&◌, Bool, true, false, IsSome, ℤ, Option, Some, None, option_map, find, Contains, IfSome, List, [], ◌∷◌, length, get_or, drop, drop-cons, refl, sym, ◌∙◌, subst, arith, rules}
+-- A search through the queues finds the lawful choice.
+use Rattle.std.proofs.Common.{◌≡◌, ◌≢◌, ℕ, suc, Bool, true, false, IsSome, ℤ, Option, Some, None, find, Contains, IfSome, List, [], ◌∷◌, refl, sym, ap, ◌∙◌, subst, arith, rules, ⊎_elim}
+use Rattle.std.specs.BTreeMap.{BTreeMap, get, is_at}
+use Rattle.std.specs.Map.{lookup}
+use Rattle.std.specs.Ordering.{nat_cmp}
+use Rattle.std.specs.declared.alloc.Global.{Global}
+use Rattle.std.specs.declared.collections.VecDeque.{VecDeque}
+use Rattle.std.proofs.lemmas.Bool.{cases_eq}
 use Rattle.std.proofs.lemmas.Bool.Decides.{nat_tests}
-use Rattle.std.specs.List.{AllByRecursion}
 use Rattle.cap_word.specs.declared.threads.ThreadId.{ThreadId}
 use Rattle.scheduler.specs.declared.choices.Choice.{Choice}
-use Rattle.scheduler.specs.Scores.{comes_before}
-use Rattle.scheduler.specs.Queues.{threads_at}
+use Rattle.scheduler.specs.declared.choosing.Candidate.{Candidate}
+use Rattle.scheduler.specs.declared.scores.Rank.{Rank}
 use Rattle.scheduler.specs.LawfulChoice.{IsLawfulChoice}
-use Rattle.scheduler.specs.Search.{IsBest, IsBestAt, best_comes_before}
+use Rattle.scheduler.specs.Queues.{queue_in, threads_of}
+use Rattle.scheduler.specs.Scores.{comes_before}
+use Rattle.scheduler.specs.Search.{IsBestBut, IsNoBetter, IsRankOf, is_rank_below, is_rank_below_best, choice_of}
 use Rattle.scheduler.proofs.OrderLemmas.{comes_before-self, comes_before-asym, comes_before-total, comes_before-cotrans}
 
 -- a test is true or false
@@ -15,123 +22,100 @@ pub by_test : (b : Bool) (P : Type 0) → (b ≡ true → P) → (b ≡ false �
 by_test true P first second = first refl
 by_test false P first second = second refl
 
-pub same_node : (a b : ℕ) → (a == b) ≡ true → a ≡ b
-same_node a b h = grind (arith, nat_tests)
+none_if : {X : Type 0} (o : Option X) → (IsSome o → ⊥) → o ≡ None
+none_if None h = refl
+none_if (Some x) h = absurd (h (search rules))
 
-pub itself : (a : ℕ) → (a == a) ≡ true
-itself a = grind (arith, nat_tests)
+not_none : {X : Type 0} (o : Option X) → o ≡ None → IsSome o → ⊥
+not_none None e some = search rules
+not_none (Some x) e some = cc
 
-other_node : (a b : ℕ) → a ≢ b → (a == b) ≡ false
-other_node a b h = grind (arith, nat_tests)
+not_at : (node other : ℕ) → node ≢ other → is_at (nat_cmp node) other ≡ false
+not_at node other ne = grind (arith, nat_tests)
 
--- what holds of each element holds of the one at an index
-pub at_index : {X : Type 0} (P : X → Type 0) (xs : List X) (i : ℕ) (d : X) → AllByRecursion P xs → i < length xs → P (get_or xs i d)
-at_index P [] i d all h = absurd (omega arith)
-at_index P (x ∷ xs) zero d all h = all.0
-at_index P (x ∷ xs) (suc i) d all h = at_index P xs i d all.1 (omega arith)
+not_there : (node : ℕ) (queue : VecDeque ThreadId Global) (rest : List (ℕ × VecDeque ThreadId Global)) (other : ℕ) → node ≢ other →
+    lookup (is_at (nat_cmp other)) rest ≡ None → lookup (is_at (nat_cmp other)) ((node, queue) ∷ rest) ≡ None
+not_there node queue rest other ne none = rw (not_at other node (λ e. ne (sym e))) none
 
--- the rest from one place earlier
-pub drop-before : (ws : List Choice) (place : ℕ) (d : Choice) → 0 < place → place ≤ length ws → drop (place - 1) ws ≡ get_or ws (place - 1) d ∷ drop place ws
-drop-before ws zero d some h = absurd (omega arith)
-drop-before ws (suc n) d some h = let lt : n < length ws = omega arith in let e : suc n - 1 ≡ n = omega arith in rw (e, drop-cons ws n d) refl
+module _ (eligible : ThreadId → Bool) (score : ℕ → ℤ) (last : ℕ → ℕ) (queues : BTreeMap ℕ (VecDeque ThreadId Global)) where
+  -- ---- before any node was looked at
 
--- what stands past the end of a list
-abbrev pub no_choice : Choice
-no_choice = record { thread = record { slot = 0; number = 0 }; node = 0 }
-
-module _ (eligible : ThreadId → Bool) (score : ℕ → ℤ) (last : ℕ → ℕ) where
-  -- ---- one thread more, at the front
-
-  none_before : (ws : List Choice) (w : Choice) → AllByRecursion (λ x. eligible x.thread ≡ false) ws →
-      AllByRecursion (λ x. eligible x.thread ≡ true → comes_before score last x.node w.node ≡ false) ws
-  none_before [] w all = tt
-  none_before (x ∷ ws) w all = ((λ h. absurd (let e : false ≡ true = sym all.0 ∙ h in cc)), none_before ws w all.1)
-
-  least_before : (ws : List Choice) (best w : Choice) → comes_before score last best.node w.node ≡ false →
-      AllByRecursion (λ x. eligible x.thread ≡ true → comes_before score last x.node best.node ≡ false) ws →
-      AllByRecursion (λ x. eligible x.thread ≡ true → comes_before score last x.node w.node ≡ false) ws
-  least_before [] best w h all = tt
-  least_before (x ∷ ws) best w h all =
-      ((λ e. comes_before-cotrans score last x.node best.node w.node (all.0 e) h), least_before ws best w h all.1)
-
-  taken_first : (w : Choice) (ws : List Choice) → eligible w.thread ≡ true →
-      find (λ x. eligible x.thread && (x.node == w.node)) (w ∷ ws) ≡ Some w
-  taken_first w ws e = rw (e, itself w.node) refl
-
-  pub IsBest-taken : (w : Choice) (ws : List Choice) (best : Option Choice) → IsBest eligible score last ws best →
-      eligible w.thread ≡ true → best_comes_before score last best w.node ≡ false → IsBestAt eligible score last (w ∷ ws) w
-  IsBest-taken w ws None all e h = record {
-    first = taken_first w ws e;
-    least = ((λ _. comes_before-self score last w.node), none_before ws w all);
-  }
-  IsBest-taken w ws (Some best) at e h = record {
-    first = taken_first w ws e;
-    least = ((λ _. comes_before-self score last w.node), least_before ws best w h at.least);
+  pub IsBestBut-none : IsBestBut eligible score last queues queues.entries None
+  IsBestBut-none = record {
+    ranked = tt;
+    first = tt;
+    least = λ node some none.
+        not_none (find eligible (queue_in queues node)) (ap (λ (o : Option (VecDeque ThreadId Global)). find eligible (threads_of o)) none) some;
   }
 
-  pub IsBest-ineligible : (w : Choice) (ws : List Choice) (best : Option Choice) → IsBest eligible score last ws best →
-      eligible w.thread ≡ false → IsBest eligible score last (w ∷ ws) best
-  IsBest-ineligible w ws None all e = (e, all)
-  IsBest-ineligible w ws (Some best) at e = record {
-    first = rw e at.first;
-    least = ((λ h. absurd (let x : false ≡ true = sym e ∙ h in cc)), at.least);
-  }
+  -- ---- one node more
 
-  passed_over : (w best : Choice) (ws : List Choice) → (w.node == best.node) ≡ false → (b : Bool) → eligible w.thread ≡ b →
-      find (λ x. eligible x.thread && (x.node == best.node)) ws ≡ Some best →
-      find (λ x. eligible x.thread && (x.node == best.node)) (w ∷ ws) ≡ Some best
-  passed_over w best ws other true e h = rw (e, other) h
-  passed_over w best ws other false e h = rw e h
+  below_by_rank : (a b : Rank) → IsRankOf score last a → IsRankOf score last b → is_rank_below a b ≡ comes_before score last a.node b.node
+  below_by_rank a b p q = rw (p.score, p.last, q.score, q.last) refl
 
-  differs : (w best : Choice) → comes_before score last best.node w.node ≡ true → w.node ≢ best.node
-  differs w best h e =
-      let self : comes_before score last best.node best.node ≡ true = rw e at h in
-      let x : true ≡ false = sym self ∙ comes_before-self score last best.node in
-      absurd cc
+  no_better_new : (best : Option Candidate) (rank : Rank) (node : ℕ) → IfSome best (λ candidate. IsRankOf score last candidate.rank) → IsRankOf score last rank →
+      is_rank_below_best rank best ≡ true → IsNoBetter score last best node → comes_before score last node rank.node ≡ false
+  no_better_new None rank node ranked own below late = absurd late
+  no_better_new (Some b) rank node ranked own below late =
+      let before : comes_before score last rank.node b.rank.node ≡ true = sym (below_by_rank rank b.rank own ranked) ∙ below in
+      comes_before-cotrans score last node b.rank.node rank.node late (comes_before-asym score last rank.node b.rank.node before)
 
-  pub IsBest-kept : (w : Choice) (ws : List Choice) (best : Option Choice) → IsBest eligible score last ws best →
-      best_comes_before score last best w.node ≡ true → IsBest eligible score last (w ∷ ws) best
-  IsBest-kept w ws None all h = absurd (let x : false ≡ true = h in cc)
-  IsBest-kept w ws (Some best) at h = record {
-    first = passed_over w best ws (other_node w.node best.node (differs w best h)) (eligible w.thread) refl at.first;
-    least = ((λ _. comes_before-asym score last best.node w.node h), at.least);
-  }
+  no_better_passed : (best : Option Candidate) (rank : Rank) → IfSome best (λ candidate. IsRankOf score last candidate.rank) → IsRankOf score last rank →
+      is_rank_below_best rank best ≡ false → IsNoBetter score last best rank.node
+  no_better_passed None rank ranked own below = absurd (let e : true ≡ false = below in cc)
+  no_better_passed (Some b) rank ranked own below = sym (below_by_rank rank b.rank own ranked) ∙ below
 
-  -- ---- a queue's first eligible thread
+  module _ (node : ℕ) (queue : VecDeque ThreadId Global) (left rest : List (ℕ × VecDeque ThreadId Global)) (best : Option Candidate) (rank : Rank)
+      (there : get nat_cmp queues node ≡ Some queue) (next : left ≡ (node, queue) ∷ rest) (at : IsBestBut eligible score last queues left best)
+      (own : IsRankOf score last rank) (of_node : rank.node ≡ node) where
+    found : find eligible (queue_in queues node) ≡ find eligible queue.items
+    found = ap (λ (o : Option (VecDeque ThreadId Global)). find eligible (threads_of o)) there
 
-  find-threads_at : (ws : List Choice) (node : ℕ) →
-      find eligible (threads_at ws node) ≡ option_map (λ (w : Choice). w.thread) (find (λ w. eligible w.thread && (w.node == node)) ws)
-  find-threads_at [] node = refl
-  find-threads_at (w ∷ ws) node =
-      let rest = find-threads_at ws node in
-      by_test (w.node == node) _
-      (λ same. by_test (eligible w.thread) _ (λ e. rw (same, e) refl) (λ e. rw (same, e) rest))
-      (λ other. by_test (eligible w.thread) _ (λ e. rw (other, e) rest) (λ e. rw (other, e) rest))
+    before : (other : ℕ) → IsSome (find eligible (queue_in queues other)) → lookup (is_at (nat_cmp other)) rest ≡ None → node ≢ other → IsNoBetter score last best other
+    before other some none ne =
+        at.least other some (subst (λ es. lookup (is_at (nat_cmp other)) es ≡ None) (sym next) (not_there node queue rest other ne none))
 
-  none_found : (ws : List Choice) (node : ℕ) → AllByRecursion (λ w. eligible w.thread ≡ false) ws →
-      find (λ w. eligible w.thread && (w.node == node)) ws ≡ None
-  none_found [] node all = refl
-  none_found (w ∷ ws) node all = rw all.0 (none_found ws node all.1)
+    pub IsBestBut-taken : (thread : ThreadId) → is_rank_below_best rank best ≡ true → find eligible queue.items ≡ Some thread →
+        IsBestBut eligible score last queues rest (Some (record { rank = rank; thread = thread }))
+    IsBestBut-taken thread below first = record {
+      ranked = own;
+      first = ap (λ (n : ℕ). find eligible (queue_in queues n)) of_node ∙ found ∙ first;
+      least = λ other some none.
+          ⊎_elim
+          (λ same. subst (λ n. comes_before score last n rank.node ≡ false) (of_node ∙ same) (comes_before-self score last rank.node))
+          (λ ne. no_better_new best rank other at.ranked own below (before other some none ne))
+          (cases_eq node other);
+    }
 
-  -- what holds of the node of each eligible thread holds of a node with one
-  holds_found : (P : ℕ → Type 0) (ws : List Choice) (node : ℕ) → AllByRecursion (λ w. eligible w.thread ≡ true → P w.node) ws →
-      IsSome (option_map (λ (w : Choice). w.thread) (find (λ w. eligible w.thread && (w.node == node)) ws)) → P node
-  holds_found P [] node all some = absurd (search rules)
-  holds_found P (w ∷ ws) node all some =
-      by_test (eligible w.thread) (P node)
-      (λ e. by_test (w.node == node) (P node)
-      (λ same. subst P (same_node w.node node same) (all.0 e))
-      (λ other. holds_found P ws node all.1 (rw (e, other) at some)))
-      (λ e. holds_found P ws node all.1 (rw e at some))
+    pub IsBestBut-passed : is_rank_below_best rank best ≡ false → IsBestBut eligible score last queues rest best
+    IsBestBut-passed below = record {
+      ranked = at.ranked;
+      first = at.first;
+      least = λ other some none.
+          ⊎_elim
+          (λ same. subst (λ n. IsNoBetter score last best n) (of_node ∙ same) (no_better_passed best rank at.ranked own below))
+          (λ ne. before other some none ne)
+          (cases_eq node other);
+    }
 
-  pub IsLawfulChoice-best : (ws : List Choice) (best : Option Choice) → IsBest eligible score last ws best →
-      IsLawfulChoice (threads_at ws) eligible score last best
-  IsLawfulChoice-best ws None all = λ node. rw (find-threads_at ws node, none_found ws node all) refl
-  IsLawfulChoice-best ws (Some best) at = record {
-    first = rw (find-threads_at ws best.node, at.first) refl;
-    least = λ other ne some.
-        comes_before-total score last other best.node ne
-        (holds_found (λ n. comes_before score last n best.node ≡ false) ws other at.least (rw find-threads_at at some));
+    pub IsBestBut-ineligible : find eligible queue.items ≡ None → IsBestBut eligible score last queues rest best
+    IsBestBut-ineligible nobody = record {
+      ranked = at.ranked;
+      first = at.first;
+      least = λ other some none.
+          ⊎_elim
+          (λ same. absurd (not_none (find eligible (queue_in queues other)) (ap (λ (n : ℕ). find eligible (queue_in queues n)) (sym same) ∙ found ∙ nobody) some))
+          (λ ne. before other some none ne)
+          (cases_eq node other);
+    }
+
+  -- ---- when no node is left
+
+  pub IsLawfulChoice-best : (best : Option Candidate) → IsBestBut eligible score last queues [] best → IsLawfulChoice (queue_in queues) eligible score last (choice_of best)
+  IsLawfulChoice-best None at = λ node. none_if (find eligible (queue_in queues node)) (λ some. at.least node some refl)
+  IsLawfulChoice-best (Some b) at = record {
+    first = at.first;
+    least = λ other ne some. comes_before-total score last other b.rank.node ne (at.least other some refl);
   }
 
 -- what `find` gives is an element

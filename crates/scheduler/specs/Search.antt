@@ -1,21 +1,45 @@
--- The best of a list of waiting threads.
-use Rattle.std.specs.Prelude.{ℕ, ◌≡◌, ◌==◌, ◌&&◌, Bool, true, false, ℤ, Option, Some, None, find, List}
-use Rattle.std.specs.List.{AllByRecursion}
+-- The best node so far, in a search through the queues.
+use Rattle.std.specs.Prelude.{ℕ, ◌≡◌, Bool, true, false, IsSome, IfSome, ℤ, Option, Some, None, find, List}
+use Rattle.std.specs.BTreeMap.{BTreeMap, is_at}
+use Rattle.std.specs.Map.{lookup}
+use Rattle.std.specs.Ordering.{nat_cmp}
+use Rattle.std.specs.declared.alloc.Global.{Global}
+use Rattle.std.specs.declared.collections.VecDeque.{VecDeque}
 use Rattle.cap_word.specs.declared.threads.ThreadId.{ThreadId}
 use Rattle.scheduler.specs.declared.choices.Choice.{Choice}
-use Rattle.scheduler.specs.Scores.{comes_before}
+use Rattle.scheduler.specs.declared.scores.Rank.{Rank}
+use Rattle.scheduler.specs.declared.choosing.Candidate.{Candidate}
+use Rattle.scheduler.specs.Queues.{queue_in}
+use Rattle.scheduler.specs.Scores.{ranks_below, comes_before}
 
--- the first eligible thread of its node, where no node of an eligible thread comes before
-pub record IsBestAt (eligible : ThreadId → Bool) (score : ℕ → ℤ) (last : ℕ → ℕ) (waiting : List Choice) (best : Choice) : Type 0 where
-  pub first : find (λ w. eligible w.thread && (w.node == best.node)) waiting ≡ Some best
-  pub least : AllByRecursion (λ w. eligible w.thread ≡ true → comes_before score last w.node best.node ≡ false) waiting
+-- a rank has its node's score and last choice
+pub record IsRankOf (score_of : ℕ → ℤ) (last_of : ℕ → ℕ) (rank : Rank) : Type 0 where
+  pub score : rank.score ≡ score_of rank.node
+  pub last : rank.last ≡ last_of rank.node
 
--- the best of a list, and none where no thread is eligible
-abbrev pub IsBest : (ThreadId → Bool) → (ℕ → ℤ) → (ℕ → ℕ) → List Choice → Option Choice → Type 0
-IsBest eligible score last waiting None = AllByRecursion (λ w. eligible w.thread ≡ false) waiting
-IsBest eligible score last waiting (Some best) = IsBestAt eligible score last waiting best
+-- whether one rank is below another
+abbrev pub is_rank_below : Rank → Rank → Bool
+is_rank_below rank other = ranks_below rank.score rank.last rank.node other.score other.last other.node
 
--- whether the best so far comes before a node
-abbrev pub best_comes_before : (ℕ → ℤ) → (ℕ → ℕ) → Option Choice → ℕ → Bool
-best_comes_before score last None node = false
-best_comes_before score last (Some best) node = comes_before score last best.node node
+-- whether a rank is below that of the best so far, or there is none
+abbrev pub is_rank_below_best : Rank → Option Candidate → Bool
+is_rank_below_best rank None = true
+is_rank_below_best rank (Some best) = is_rank_below rank best.rank
+
+-- a node doesn't come before the best so far, which there is
+abbrev pub IsNoBetter : (ℕ → ℤ) → (ℕ → ℕ) → Option Candidate → ℕ → Type 0
+IsNoBetter score last None node = ⊥
+IsNoBetter score last (Some best) node = comes_before score last node best.rank.node ≡ false
+
+-- the best of the nodes that aren't among those left: its thread is the first eligible one of its queue, and no node
+-- with an eligible thread comes before it
+pub record IsBestBut (eligible : ThreadId → Bool) (score : ℕ → ℤ) (last : ℕ → ℕ) (queues : BTreeMap ℕ (VecDeque ThreadId Global))
+    (left : List (ℕ × VecDeque ThreadId Global)) (best : Option Candidate) : Type 0 where
+  pub ranked : IfSome best (λ candidate. IsRankOf score last candidate.rank)
+  pub first : IfSome best (λ candidate. find eligible (queue_in queues candidate.rank.node) ≡ Some candidate.thread)
+  pub least : (node : ℕ) → IsSome (find eligible (queue_in queues node)) → lookup (is_at (nat_cmp node)) left ≡ None → IsNoBetter score last best node
+
+-- the choice of a candidate
+abbrev pub choice_of : Option Candidate → Option Choice
+choice_of None = None
+choice_of (Some candidate) = Some (record { thread = candidate.thread; node = candidate.rank.node })

@@ -1,6 +1,9 @@
 -- What a scheduler means: the queue of each node, the choice that last took each node, and the number of choices.
-use Rattle.std.specs.Prelude.{ℕ, ◌≡◌, ◌≢◌, ◌+◌, ◌^◌, ◌<◌, ◌≤◌, List, [], ◌∷◌, ◌++◌, length, slice_index, slice_index_or}
-use Rattle.std.specs.List.{AllByRecursion}
+use Rattle.std.specs.Prelude.{ℕ, ◌≡◌, ◌≢◌, ◌+◌, ◌^◌, ◌<◌, ◌≤◌, IsSome, List, [], ◌∷◌, ◌++◌, length, slice_index, slice_index_or}
+use Rattle.std.specs.BTreeMap.{BTreeMap, get}
+use Rattle.std.specs.Ordering.{nat_cmp}
+use Rattle.std.specs.declared.alloc.Global.{Global}
+use Rattle.std.specs.declared.collections.VecDeque.{VecDeque}
 use Rattle.cap_word.specs.declared.threads.ThreadId.{ThreadId}
 use Rattle.scheduler.specs.declared.choices.Choice.{Choice}
 use Rattle.scheduler.specs.Queues.{without}
@@ -38,7 +41,7 @@ pub record IsNoted (old new : SchedulerState) (choice : Choice) : Type 0 where
   pub other_lasts : (other : ℕ) → other ≢ choice.node → last_of new other ≡ last_of old other
   pub noted : new.noted ≡ old.noted + 1
 
--- what a scheduler keeps of its list of all that wait: each of their nodes has a place for its last choice
-pub record IsKept (waiting : List Choice) (lasts : List ℕ) (count : ℕ) : Type 0 where
-  pub placed : AllByRecursion (λ w. w.node < length lasts) waiting
+-- what a scheduler keeps of its queues: each of their nodes has a place for its last choice
+pub record IsKept (queues : BTreeMap ℕ (VecDeque ThreadId Global)) (lasts : List ℕ) (count : ℕ) : Type 0 where
+  pub placed : (node : ℕ) → IsSome (get nat_cmp queues node) → node < length lasts
   pub counted : count ≤ 2 ^ 40

@@ -4,18 +4,19 @@ ghost use Rattle.scheduler.specs.Scores.{score};
 
 use crate::choices::Choice;
 use crate::choosing::best_of;
-use crate::queues::{make_place, take_out};
+use crate::queues::{NodeQueues, join, leave, make_place};
 use blocking_graph::Graph;
 use cap_word::{Ready, ThreadId};
 use resource_monitor::{Measure, Monitor};
 use std::alloc::{AllocError, Global};
+use std::collections::BTreeMap;
 use std::marker::Model;
 
 /// The threads that wait at the nodes of the blocking graph. What it means is the queue of each node, the
 /// number of the choice that last took each node, and the number of choices.
 #[derive(Drop)]
 pub struct Scheduler {
-    waiting: Vec<Choice>,
+    queues: NodeQueues,
     lasts: Vec<u64>,
     noted: u64,
 }
@@ -27,9 +28,9 @@ impl Model for Scheduler {
 
     ghost Value = { SchedulerState };
 
-    ghost view = { λ s. record { queues = queues_of s.waiting.items (length s.lasts.items); lasts = s.lasts.items; noted = s.noted } };
+    ghost view = { λ s. record { queues = queues_of s.queues (length s.lasts.items); lasts = s.lasts.items; noted = s.noted } };
 
-    ghost invariant = { λ s. IsKept s.waiting.items s.lasts.items s.noted };
+    ghost invariant = { λ s. IsKept s.queues s.lasts.items s.noted };
 }
 
 impl Scheduler {
@@ -40,7 +41,7 @@ impl Scheduler {
         ensures { result ≡ started }
     {
         Scheduler {
-            waiting: Vec::new(alloc),
+            queues: BTreeMap::new(alloc),
             lasts: Vec::new(alloc),
             noted: 0,
         }
@@ -51,10 +52,16 @@ impl Scheduler {
         ensures ok { OnOk result (IsJoined self.old self.new node thread) }
         ensures err { OnErr result (self.new ≡ self.old) }
     {
-        self.waiting.reserve(1)?;
+        let places = self.lasts.len();
         make_place(&mut self.lasts, node)?;
-        self.waiting.push(Choice { thread, node })?;
-        Ok(())
+        let alloc = *self.lasts.allocator();
+        match join(&mut self.queues, alloc, node, thread) {
+            Ok(()) => Ok(()),
+            Err(refusal) => {
+                self.lasts.truncate(places);
+                Err(refusal)
+            }
+        }
     }
 
     /// The thread to go on next, with its node, or none where no thread that waits is eligible. A thread is
@@ -71,13 +78,7 @@ impl Scheduler {
         ensures queued { IfSome result (λ choice. Contains (queue_of self.now choice.node) choice.thread) }
         ensures lawful { IsLawfulChoice (queue_of self.now) (is_eligible (R.is_ready ready.now) (R.at_accept ready.now) (R.any_elsewhere ready.now) monitor.now.is_open) (score monitor.now graph.now.edges) (last_of self.now) result }
     {
-        best_of(
-            self.waiting.as_slice(),
-            self.lasts.as_slice(),
-            graph,
-            monitor,
-            ready,
-        )
+        best_of(&self.queues, self.lasts.as_slice(), graph, monitor, ready)
     }
 
     /// Takes the chosen thread out of its queue, and notes that its node was taken. It takes no memory.
@@ -86,7 +87,7 @@ impl Scheduler {
         requires room { self.old.noted < 2 ^ 40 }
         ensures { IsNoted self.old self.new choice.now }
     {
-        take_out(&mut self.waiting, choice);
+        leave(&mut self.queues, choice);
         self.noted += 1;
         self.lasts[choice.node as usize] = self.noted;
     }

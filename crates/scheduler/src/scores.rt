@@ -1,10 +1,22 @@
 ghost use Rattle.std.specs.Prelude.{◌≡◌, ◌≤◌, ◌<◌, ◌^◌, pos, ◌*ℤ◌, unsigned_abs, slice_index, ◌*◌, length};
 ghost use Rattle.blocking_graph.specs.Edges.{prediction};
 ghost use Rattle.resource_monitor.specs.Monitor.{pressure_at};
-ghost use Rattle.scheduler.specs.Scores.{score, comes_before, ranks_below};
+ghost use Rattle.scheduler.specs.Scores.{score};
+ghost use Rattle.scheduler.specs.Search.{IsRankOf, is_rank_below};
 
 use blocking_graph::Graph;
 use resource_monitor::{Measure, Monitor};
+
+/// What nodes are ordered by: the score, then the choice that last took the node, then its number.
+#[derive(Clone, Copy)]
+pub struct Rank {
+    /// The node's score.
+    pub score: i128,
+    /// The number of the choice that last took the node, or 0.
+    pub last: u64,
+    /// The node's number.
+    pub node: u32,
+}
 
 /// The pressure on a resource times the change of it that is expected of a segment from the node.
 fn expected_strain<C: Measure>(
@@ -35,40 +47,29 @@ fn score_of<C: Measure>(graph: &Graph, monitor: &Monitor<C>, node: u32) -> i128
     total
 }
 
-fn is_below(
-    score: i128,
-    last: u64,
-    node: u32,
-    other_score: i128,
-    other_last: u64,
-    other: u32,
-) -> bool
-    ensures { result ≡ ranks_below score last node other_score other_last other }
-{
-    score < other_score
-        || score <= other_score && (last < other_last || last == other_last && node < other)
-}
-
-/// Whether a node comes before another: by score, then by the choice that last took it, then by number.
-pub(crate) fn is_before<C: Measure>(
+/// The rank of a node.
+pub(crate) fn rank_of<C: Measure>(
     lasts: &[u64],
     graph: &Graph,
     monitor: &Monitor<C>,
     node: u32,
-    other: u32,
-) -> bool
-    requires node { node < length lasts.now }
-    requires other { other < length lasts.now }
-    ensures { result ≡ comes_before (score monitor.now graph.now.edges) (slice_index lasts.now) node other }
+) -> Rank
+    requires { node < length lasts.now }
+    ensures rank { IsRankOf (score monitor.now graph.now.edges) (slice_index lasts.now) result }
+    ensures node { result.node ≡ node }
 {
-    let score = score_of(graph, monitor, node);
-    let other_score = score_of(graph, monitor, other);
-    is_below(
-        score,
-        lasts[node as usize],
+    Rank {
+        score: score_of(graph, monitor, node),
+        last: lasts[node as usize],
         node,
-        other_score,
-        lasts[other as usize],
-        other,
-    )
+    }
+}
+
+/// Whether a rank is below another.
+pub(crate) fn is_below(rank: &Rank, other: &Rank) -> bool
+    ensures { result ≡ is_rank_below rank.now other.now }
+{
+    rank.score < other.score
+        || rank.score <= other.score
+            && (rank.last < other.last || rank.last == other.last && rank.node < other.node)
 }

@@ -1,48 +1,52 @@
-use Rattle.std.proofs.Common.{◌≡◌, ◌<◌, ◌-◌, true, false, length, get_or, drop, slice_index, sym, ◌∙◌, arith}
+use Rattle.std.proofs.Common.{◌≡◌, Some, IsSome, slice_index, sym, ◌∙◌, subst, rules}
+use Rattle.std.specs.BTreeMap.{get}
+use Rattle.std.specs.Cmp.{nat_cmp_total}
+use Rattle.std.specs.Map.Iter.{deref_pair}
+use Rattle.std.specs.Ordering.{nat_cmp}
+use Rattle.std.proofs.lemmas.Map.Iter.{btree_map_turn, rest_more}
 use Rattle.scheduler.specs.LawfulChoice.{is_eligible}
 use Rattle.scheduler.specs.Scores.{score}
-use Rattle.scheduler.specs.Search.{best_comes_before}
-use Rattle.scheduler.proofs.ChoiceLemmas.{IsBest-taken, IsBest-kept, IsBest-ineligible, drop-before, at_index, no_choice}
+use Rattle.scheduler.proofs.ChoiceLemmas.{IsBestBut-taken, IsBestBut-passed, IsBestBut-ineligible}
 use Rattle.scheduler.proofs.choosing.best_of.Goals as goal
-use Rattle.scheduler.proofs.choosing.best_of.Goals.{else-may_go_on-via-then-may_go_on+else-not-best_is_before, else-may_go_on-via-else-may_go_on}
 
-pub loop-place-preserved-then-not-best_is_before : goal.loop-place-preserved-then-not-best_is_before
-loop-place-preserved-then-not-best_is_before g c =
-    let place = c.loop-place.place in
-    let w = get_or c.args.waiting.now (place - 1) no_choice in
-    let eligible = is_eligible (g.R.Ready.is_ready c.args.ready.now) (g.R.Ready.at_accept c.args.ready.now) (g.R.Ready.any_elsewhere c.args.ready.now) c.args.monitor.now.is_open in
-    let yes : eligible w.thread ≡ true = sym (rw c.gate.ensures at c.may_go_on.ensures) ∙ c.if-may_go_on.true in
-    let not_before : best_comes_before (score c.args.monitor.now c.args.graph.now.edges) (slice_index c.args.lasts.now) c.loop-place.best w.node ≡ false = sym c.best_is_before.ensures ∙ c.if-not-best_is_before.true in
-    record {
-      within = omega arith;
-      best = rw (drop-before c.args.waiting.now place no_choice c.loop-place-test.true c.loop-place.invariant.within)
-          (IsBest-taken eligible (score c.args.monitor.now c.args.graph.now.edges) (slice_index c.args.lasts.now) w (drop place c.args.waiting.now)
-          c.loop-place.best c.loop-place.invariant.best yes not_before);
-      placed = at_index (λ x. x.node < length c.args.lasts.now) c.args.waiting.now (place - 1) no_choice c.requires (omega arith);
-    }
+pub rank_of-rank-requires : goal.rank_of-rank-requires
+rank_of-rank-requires g c =
+    let gives = c.into_iter-node-iterator.ensures.into_iter_gives in
+    let turn = btree_map_turn deref_pair c.loop-node.yielded c.into_iter-node-iterator.result c.loop-node.node-iterator c.next.new.self c.next.result (c.in-Some.node, c.in-Some.queue)
+    c.loop-node.yielded_by c.in-Some.is c.next.ensures.steps nat_cmp_total c.args.queues.now gives.0 gives.5 in
+    let there : get nat_cmp c.args.queues.now c.in-Some.node.now ≡ Some c.in-Some.queue.now = turn.1 in
+    c.requires c.in-Some.node.now (subst (λ o. IsSome o) (sym there) (search rules))
 
-pub loop-place-preserved : goal.loop-place-preserved
-loop-place-preserved g c =
-    let place = c.loop-place.place in
-    let w = get_or c.args.waiting.now (place - 1) no_choice in
+pub loop-node-preserved-in-Some-first_eligible : goal.loop-node-preserved-in-Some-first_eligible
+loop-node-preserved-in-Some-first_eligible g c =
+    let gives = c.into_iter-node-iterator.ensures.into_iter_gives in
+    let turn = btree_map_turn deref_pair c.loop-node.yielded c.into_iter-node-iterator.result c.loop-node.node-iterator c.next.new.self c.next.result (c.in-Some.node, c.in-Some.queue)
+    c.loop-node.yielded_by c.in-Some.is c.next.ensures.steps nat_cmp_total c.args.queues.now gives.0 gives.5 in
+    let next = rest_more deref_pair c.loop-node.node-iterator c.next.new.self c.next.result (c.in-Some.node, c.in-Some.queue) c.in-Some.is c.next.ensures.steps in
     let eligible = is_eligible (g.R.Ready.is_ready c.args.ready.now) (g.R.Ready.at_accept c.args.ready.now) (g.R.Ready.any_elsewhere c.args.ready.now) c.args.monitor.now.is_open in
-    elim c.else-may_go_on.branch [
-      | else-may_go_on-via-then-may_go_on+else-not-best_is_before v ↦
-          let before : best_comes_before (score c.args.monitor.now c.args.graph.now.edges) (slice_index c.args.lasts.now) c.loop-place.best w.node ≡ true = sym v.best_is_before.ensures ∙ v.if-not-best_is_before.false in
-          record {
-            within = omega arith;
-            best = rw (drop-before c.args.waiting.now place no_choice c.loop-place-test.true c.loop-place.invariant.within)
-                (IsBest-kept eligible (score c.args.monitor.now c.args.graph.now.edges) (slice_index c.args.lasts.now) w (drop place c.args.waiting.now)
-                c.loop-place.best c.loop-place.invariant.best before);
-            placed = c.loop-place.invariant.placed;
-          }
-      | else-may_go_on-via-else-may_go_on v ↦
-          let no : eligible w.thread ≡ false = sym (rw c.gate.ensures at c.may_go_on.ensures) ∙ v.if-may_go_on.false in
-          record {
-            within = omega arith;
-            best = rw (drop-before c.args.waiting.now place no_choice c.loop-place-test.true c.loop-place.invariant.within)
-                (IsBest-ineligible eligible (score c.args.monitor.now c.args.graph.now.edges) (slice_index c.args.lasts.now) w (drop place c.args.waiting.now)
-                c.loop-place.best c.loop-place.invariant.best no);
-            placed = c.loop-place.invariant.placed;
-          }
-    ]
+    IsBestBut-taken eligible (score c.args.monitor.now c.args.graph.now.edges) (slice_index c.args.lasts.now) c.args.queues.now c.in-Some.node.now c.in-Some.queue.now
+    c.loop-node.node-iterator c.next.new.self c.loop-node.best c.rank_of-rank.result turn.1 next c.loop-node.invariant c.rank_of-rank.ensures.rank c.rank_of-rank.ensures.node
+    c.in-Some-first_eligible.thread (sym c.is_below_best.ensures ∙ c.if-is_below_best.true)
+    (sym (rw c.gate.ensures at c.first_eligible.ensures) ∙ c.in-Some-first_eligible.is)
+
+pub loop-node-preserved-in_default : goal.loop-node-preserved-in_default
+loop-node-preserved-in_default g c =
+    let gives = c.into_iter-node-iterator.ensures.into_iter_gives in
+    let turn = btree_map_turn deref_pair c.loop-node.yielded c.into_iter-node-iterator.result c.loop-node.node-iterator c.next.new.self c.next.result (c.in-Some.node, c.in-Some.queue)
+    c.loop-node.yielded_by c.in-Some.is c.next.ensures.steps nat_cmp_total c.args.queues.now gives.0 gives.5 in
+    let next = rest_more deref_pair c.loop-node.node-iterator c.next.new.self c.next.result (c.in-Some.node, c.in-Some.queue) c.in-Some.is c.next.ensures.steps in
+    let eligible = is_eligible (g.R.Ready.is_ready c.args.ready.now) (g.R.Ready.at_accept c.args.ready.now) (g.R.Ready.any_elsewhere c.args.ready.now) c.args.monitor.now.is_open in
+    IsBestBut-ineligible eligible (score c.args.monitor.now c.args.graph.now.edges) (slice_index c.args.lasts.now) c.args.queues.now c.in-Some.node.now c.in-Some.queue.now
+    c.loop-node.node-iterator c.next.new.self c.loop-node.best c.rank_of-rank.result turn.1 next c.loop-node.invariant c.rank_of-rank.ensures.rank c.rank_of-rank.ensures.node
+    (sym (rw c.gate.ensures at c.first_eligible.ensures) ∙ c.in_default.is)
+
+pub loop-node-preserved : goal.loop-node-preserved
+loop-node-preserved g c =
+    let gives = c.into_iter-node-iterator.ensures.into_iter_gives in
+    let turn = btree_map_turn deref_pair c.loop-node.yielded c.into_iter-node-iterator.result c.loop-node.node-iterator c.next.new.self c.next.result (c.in-Some.node, c.in-Some.queue)
+    c.loop-node.yielded_by c.in-Some.is c.next.ensures.steps nat_cmp_total c.args.queues.now gives.0 gives.5 in
+    let next = rest_more deref_pair c.loop-node.node-iterator c.next.new.self c.next.result (c.in-Some.node, c.in-Some.queue) c.in-Some.is c.next.ensures.steps in
+    let eligible = is_eligible (g.R.Ready.is_ready c.args.ready.now) (g.R.Ready.at_accept c.args.ready.now) (g.R.Ready.any_elsewhere c.args.ready.now) c.args.monitor.now.is_open in
+    IsBestBut-passed eligible (score c.args.monitor.now c.args.graph.now.edges) (slice_index c.args.lasts.now) c.args.queues.now c.in-Some.node.now c.in-Some.queue.now
+    c.loop-node.node-iterator c.next.new.self c.loop-node.best c.rank_of-rank.result turn.1 next c.loop-node.invariant c.rank_of-rank.ensures.rank c.rank_of-rank.ensures.node
+    (sym c.is_below_best.ensures ∙ c.if-is_below_best.false)

@@ -1,16 +1,12 @@
-use Rattle.std.proofs.Common.{◌≡◌, position, Some, None, sym, ◌∙◌}
-use Rattle.scheduler.specs.Queues.{is_choice}
-use Rattle.scheduler.proofs.QueueLemmas.{first_without-found, first_without-none}
+use Rattle.std.proofs.Common.{sym, ◌∙◌}
+use Rattle.scheduler.proofs.QueueLemmas.{position-lt, without-found, without-none}
 use Rattle.scheduler.proofs.queues.take_out.Goals as goal
 
+pub take_at-requires : goal.take_at-requires
+take_at-requires c = position-lt c.args.thread c.args.queue.now.items c.in-Some.place (sym c.place_of.ensures ∙ c.in-Some.is)
+
 pub returns-in-Some : goal.returns-in-Some
-returns-in-Some c =
-    let found : position (λ w. is_choice w c.args.choice.now) c.args.waiting.now.items ≡ Some c.in-Some.place =
-    sym (rw c.as_slice.ensures.value at c.place_of.ensures) ∙ c.in-Some.is in
-    c.remove.ensures.items ∙ first_without-found c.args.choice.now c.args.waiting.now.items c.in-Some.place found
+returns-in-Some c = c.take_at.ensures ∙ without-found c.args.thread c.args.queue.now.items c.in-Some.place (sym c.place_of.ensures ∙ c.in-Some.is)
 
 pub returns-in_default : goal.returns-in_default
-returns-in_default c =
-    let missing : position (λ w. is_choice w c.args.choice.now) c.args.waiting.now.items ≡ None =
-    sym (rw c.as_slice.ensures.value at c.place_of.ensures) ∙ c.in_default.is in
-    first_without-none c.args.choice.now c.args.waiting.now.items missing
+returns-in_default c = without-none c.args.thread c.args.queue.now.items (sym c.place_of.ensures ∙ c.in_default.is)

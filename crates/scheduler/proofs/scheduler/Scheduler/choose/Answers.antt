@@ -1,14 +1,13 @@
 use Rattle.std.proofs.Common.{length}
-use Rattle.scheduler.proofs.ChoiceLemmas.{IsLawfulChoice-best, lawful-queued}
+use Rattle.scheduler.proofs.ChoiceLemmas.{lawful-queued}
 use Rattle.scheduler.proofs.StateLemmas.{lawful_by_queues, queue_at}
 use Rattle.scheduler.proofs.scheduler.Scheduler.choose.Goals as goal
 
 pub returns-clause-lawful : goal.returns-clause-lawful
 returns-clause-lawful g c =
     rw (← c.self.view_is)
-    (lawful_by_queues _ _ _ _ _ c.best_of.result (queue_at c.self.inside.waiting.items (length c.self.inside.lasts.items) c.self.invariant.placed)
-    (IsLawfulChoice-best _ _ _ c.self.inside.waiting.items c.best_of.result
-    (rw (c.as_slice.ensures.value, c.as_slice-2.ensures.value) at c.best_of.ensures)))
+    (lawful_by_queues _ _ _ _ _ c.best_of.result (queue_at c.self.inside.queues (length c.self.inside.lasts.items) c.self.invariant.placed)
+    (rw c.as_slice.ensures.value at c.best_of.ensures))
 
 pub returns-clause-queued : goal.returns-clause-queued
 returns-clause-queued g c = lawful-queued _ _ _ _ c.best_of.result (returns-clause-lawful g c)
