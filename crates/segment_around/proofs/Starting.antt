@@ -4,9 +4,9 @@ use Rattle.std.specs.Prelude.{nat_lt, slice_index}
 use Rattle.std.specs.List.{AllByRecursion}
 use Rattle.std.proofs.lemmas.Bool.{eq-eqb, lt-ltb}
 use Rattle.std.proofs.lemmas.List.Elements.{All-from_recursion}
-use Rattle.chunk_pool.specs.Pool.{Pool, Taken, taken_for, end_of, payload_place_of, IsFree, IsPool}
+use Rattle.chunk_pool.specs.Pool.{Pool, Taken, taken_for, end_of, payload_place_of, IsFree, IsPool, all_free, first_bytes}
 use Rattle.chunk_pool.proofs.FreeLaws.{copies-free, copies-held}
-use Rattle.chunk_pool.proofs.NeedLaws.{taken_for-leaves, taken_for-keeps, taken_for-sound}
+use Rattle.chunk_pool.proofs.NeedLaws.{taken_for-leaves, taken_for-sound, taken_for-count}
 use Rattle.chunk_pool.proofs.PoolLaws.{Contains-cases}
 use Rattle.rv_machine.specs.Registers.{read}
 use Rattle.flat_code.specs.Codes.{function_at}
@@ -26,6 +26,7 @@ use Rattle.segment_around.specs.Around.{new_thread, RestsAtStart}
 use Rattle.segment_calls.specs.Calls.{CallFacts}
 use Rattle.segment_calls.proofs.Linking.{header_tp, header_sp}
 use Rattle.segment_steps.proofs.Needs.{NeedsFit}
+use Rattle.chunk_pool.proofs.ShapeLaws.{free_below_count, bytes_of-first}
 
 -- ---- chunks
 
@@ -33,22 +34,22 @@ abbrev one_if : Bool → ℕ
 one_if b = cond b 1 0
 
 -- each chunk is free at most once, and only where it is one
-free_once : (p : Pool) (chunk : ℕ) → IsPool p → copies chunk p.free ≤ cond (nat_lt chunk p.count) 1 0
+free_once : (p : Pool) (chunk : ℕ) → IsPool p → copies chunk (all_free p) ≤ cond (nat_lt chunk p.count) 1 0
 free_once p chunk sound = ⊎_elim
     (λ (free : IsFree p chunk).
-    let once : copies chunk p.free ≡ 1 = copies-free p chunk sound free in
-    let below : chunk < p.count = subst (λ (k : ℕ). k < p.count) free.2 (sound.free_below free.0 chunk free.1) in
+    let once : copies chunk (all_free p) ≡ 1 = copies-free p chunk sound free in
+    let below = free_below_count p chunk sound free in
     let one : one_if (nat_lt chunk p.count) ≡ one_if true = ap one_if (lt-ltb chunk p.count below) in
     omega (arith, once, one))
-    (λ (held : IsFree p chunk → ⊥). let none : copies chunk p.free ≡ 0 = copies-held p chunk held in omega (arith, none))
-    (Contains-cases p.free chunk)
+    (λ (held : IsFree p chunk → ⊥). let none : copies chunk (all_free p) ≡ 0 = copies-held p chunk held in omega (arith, none))
+    (Contains-cases (all_free p) chunk)
 
 owns_new : (c : Checked) (areas : Areas) (taken : Taken) (need f argument chunk : ℕ) → IsPool areas.pool → taken_for areas.pool need ≡ Some taken → copies_in chunk (new_thread c areas taken f argument) ≤ cond (nat_lt chunk (new_thread c areas taken f argument).areas.pool.count) 1 0
 owns_new c areas taken need f argument chunk sound e =
-    let leaves : copies chunk areas.pool.free ≡ copies chunk (taken.chunk ∷ taken.pool.free) = taken_for-leaves areas.pool need taken e chunk in
-    let split = copies-cons chunk taken.chunk taken.pool.free in
+    let leaves : copies chunk (all_free areas.pool) ≡ copies chunk (taken.chunk ∷ all_free taken.pool) = taken_for-leaves areas.pool need taken e chunk in
+    let split = copies-cons chunk taken.chunk (all_free taken.pool) in
     let alone = copies-cons chunk taken.chunk [] in
-    let count : one_if (nat_lt chunk taken.pool.count) ≡ one_if (nat_lt chunk areas.pool.count) = ap (λ (p : Pool). one_if (nat_lt chunk p.count)) (taken_for-keeps areas.pool need taken e) in
+    let count : one_if (nat_lt chunk taken.pool.count) ≡ one_if (nat_lt chunk areas.pool.count) = ap (λ (n : ℕ). one_if (nat_lt chunk n)) (taken_for-count areas.pool need taken e) in
     let once = free_once areas.pool chunk sound in
     omega (arith, leaves, split, alone, count, once)
 
@@ -76,15 +77,16 @@ starts c code areas taken need f argument arguments globals calls needs form e t
     let entry = calls.entries f there in
     let entry_room = entry.room in
     let bound = needs.bound f there in
-    let chunk_is = well.chunk in
+    let chunk_is : first_bytes taken.pool ≡ c.certificate.chunk = well.chunk in
+    let bytes_is = bytes_of-first taken.pool taken.chunk sound.1.0 in
     let frame : Frame = record { function = f; operation = 0; chunk = taken.chunk; low = end_of taken.pool taken.chunk; bytes = 0; returns = 4096; is_first = true } in
     let end_same : end_of taken.pool taken.chunk + 0 ≡ end_of taken.pool taken.chunk = omega arith in
     let frame_is : IsFrame c pool frame = record {
       function = there;
       chunk = sound.1.0;
-      lowest = (let low : payload_place_of taken.pool taken.chunk ≤ end_of taken.pool taken.chunk = omega (arith, bound, chunk_is) in low);
+      lowest = (let low : payload_place_of taken.pool taken.chunk ≤ end_of taken.pool taken.chunk = omega (arith, bound, chunk_is, bytes_is) in low);
       highest = (let high : end_of taken.pool taken.chunk + 0 ≤ end_of taken.pool taken.chunk = omega arith in high);
-      bound = (let room : payload_place_of taken.pool taken.chunk + (fact_at c.certificate f).bound ≤ end_of taken.pool taken.chunk + 0 = omega (arith, bound, chunk_is) in room);
+      bound = (let room : payload_place_of taken.pool taken.chunk + (fact_at c.certificate f).bound ≤ end_of taken.pool taken.chunk + 0 = omega (arith, bound, chunk_is, bytes_is) in room);
       first = sym (eq-eqb (end_of taken.pool taken.chunk + 0) (end_of taken.pool taken.chunk) end_same);
     } in
     let has : HasFrames c pool l.core (InPrologue f 0) (frame ∷ []) = record {

@@ -3,7 +3,7 @@ use Rattle.std.proofs.Common.{◌≡◌, ℕ, zero, suc, ◌+◌, ◌-◌, ◌*�
 use Rattle.std.specs.Prelude.{Bool, nat_eq}
 use Rattle.std.proofs.lemmas.Bool.{eq-eqb}
 use Rattle.std.proofs.lemmas.Nat.{div-mul-add}
-use Rattle.chunk_pool.specs.Pool.{Pool, first_place, payload_place_of, IsPool}
+use Rattle.chunk_pool.specs.Pool.{Pool, payload_place_of, IsPool, shape_of, words_of, chunk_at}
 use Rattle.rv_machine.specs.Bytes.{Stored, Nothing, Byte, Half, Word, with_half, with_word, with_stored}
 use Rattle.rv_machine.specs.Rows as rows
 use Rattle.rv_machine.specs.Words.{TellsWords}
@@ -15,22 +15,16 @@ use Rattle.machine_world.proofs.AreaLaws.{IsSpot, IsSpot-spot_of, IsPool-with_by
 use Rattle.machine_world.proofs.HeldLaws.{copies-cons}
 use Rattle.segment_laws.proofs.Stacks.{word_of-other}
 use Rattle.segment_run.specs.Contexts.{chunk_below, chain_from}
+use Rattle.chunk_pool.proofs.ShapeLaws.{chunk_at-same}
+use Rattle.chunk_pool.proofs.AddressLaws.{chunk_at-some}
+use Rattle.std.specs.Option.{unwrap_or}
 
 -- ---- what headers name
 
-pub chunk_below-of : (p : Pool) (chunk next : ℕ) → 16 ≤ p.words → saved_tp p chunk ≡ payload_place_of p next → chunk_below p chunk ≡ next
-chunk_below-of p chunk next header named =
-    let size = 4 * p.words in
-    let inside : saved_tp p chunk - first_place ≡ next * size + 16 = omega (arith, named) in
-    ap (λ (n : ℕ). n / size) inside ∙ div-mul-add next size 16 (omega arith)
-
--- a chain whose headers name it is the one that is read from them
-pub chain_from-named : (p : Pool) (chunk : ℕ) (chain : List ℕ) → 16 ≤ p.words → HeadersName p (chunk ∷ chain) → chain_from p chunk (suc (length chain)) ≡ chunk ∷ chain
-chain_from-named p chunk [] header names = refl
-chain_from-named p chunk (next ∷ chain) header names =
-    ap (λ (rest : List ℕ). chunk ∷ rest)
-    (ap (λ (k : ℕ). chain_from p k (suc (length chain))) (chunk_below-of p chunk next header names.0)
-    ∙ chain_from-named p next chain header names.1)
+pub chunk_below-of : (p : Pool) (chunk next : ℕ) → next < p.count → 4 < words_of p next → saved_tp p chunk ≡ payload_place_of p next → chunk_below p chunk ≡ next
+chunk_below-of p chunk next within header named =
+    ap (λ (address : ℕ). unwrap_or (chunk_at p address) chunk) named
+    ∙ ap (λ (found : Option ℕ). unwrap_or found chunk) (chunk_at-some p next (payload_place_of p next) (within, omega arith, omega (arith, header)))
 
 pub length-chain_from : (p : Pool) (chunk n : ℕ) → length (chain_from p chunk n) ≡ n
 length-chain_from p chunk zero = refl
@@ -38,15 +32,16 @@ length-chain_from p chunk (suc n) = ap suc (length-chain_from p (chunk_below p c
 
 -- ---- what keeps it
 
--- pools of chunks of one size, with the same saved tp in each chunk of a chain, have the same chain
-pub chain_from-kept : (p q : Pool) (chunk n : ℕ) → q.words ≡ p.words → ((k : ℕ) → 1 ≤ copies k (chain_from p chunk n) → saved_tp q k ≡ saved_tp p k) →
+-- pools of one shape, with the same saved tp in each chunk of a chain, have the same chain
+pub chain_from-kept : (p q : Pool) (chunk n : ℕ) → shape_of q ≡ shape_of p → ((k : ℕ) → 1 ≤ copies k (chain_from p chunk n) → saved_tp q k ≡ saved_tp p k) →
     chain_from q chunk n ≡ chain_from p chunk n
 chain_from-kept p q chunk zero same saved = refl
 chain_from-kept p q chunk (suc n) same saved =
     let rest = chain_from p (chunk_below p chunk) n in
     let one : ◌≡◌ {A = ℕ} (cond (nat_eq chunk chunk) 1 0) 1 = ap (λ (b : Bool). cond b 1 0) (eq-eqb chunk chunk refl) in
     let first : saved_tp q chunk ≡ saved_tp p chunk = saved chunk (omega (arith, copies-cons chunk chunk rest, one)) in
-    let below : chunk_below q chunk ≡ chunk_below p chunk = (λ i. (first i - first_place) / (4 * same i)) in
+    let below : chunk_below q chunk ≡ chunk_below p chunk =
+    ap (λ (address : ℕ). unwrap_or (chunk_at q address) chunk) first ∙ ap (λ (found : Option ℕ). unwrap_or found chunk) (chunk_at-same p q (saved_tp p chunk) same) in
     ap (λ (chain : List ℕ). chunk ∷ chain)
     (ap (λ (k : ℕ). chain_from q k n) below
     ∙ chain_from-kept p q (chunk_below p chunk) n same (λ k there. saved k (omega (arith, copies-cons k chunk rest, there))))
@@ -88,6 +83,6 @@ saved_tp-stored areas pc chunk x (Word a w) sound told = saved_tp-with_word area
 
 -- a store leaves the chain
 pub chain_from-stored : (areas : Areas) (pc chunk n : ℕ) (x : List ℕ) (stored : Stored) → IsPool areas.pool → TellsWords (rows.Goes pc x stored) →
-    (with_stored with_byte stored areas).pool.words ≡ areas.pool.words → chain_from (with_stored with_byte stored areas).pool chunk n ≡ chain_from areas.pool chunk n
+    shape_of (with_stored with_byte stored areas).pool ≡ shape_of areas.pool → chain_from (with_stored with_byte stored areas).pool chunk n ≡ chain_from areas.pool chunk n
 chain_from-stored areas pc chunk n x stored sound told same =
     chain_from-kept areas.pool (with_stored with_byte stored areas).pool chunk n same (λ k there. saved_tp-stored areas pc k x stored sound told)

@@ -6,7 +6,7 @@ use Rattle.std.proofs.lemmas.List.Concat.{length-flat_map}
 use Rattle.std.proofs.lemmas.List.Sums.{sum_by-cons}
 use Rattle.certificate_rules.specs.Rules.{member_entries, starting_words}
 use Rattle.certificate_rules.specs.Validity.{IsValid}
-use Rattle.chunk_pool.specs.Pool.{IsPool}
+use Rattle.chunk_pool.specs.Pool.{IsPool, first_bytes}
 use Rattle.flat_code.specs.Codes.{FlatCode}
 use Rattle.flat_code.specs.declared.programs.FlatGlobal.{FlatGlobal}
 use Rattle.machine_world.specs.Areas.{Areas}
@@ -31,7 +31,7 @@ sum_widths (g ∷ gs) =
     ∙ (λ i. length-replicate {A = ℕ} g.words g.start i + sum_widths gs i)
     ∙ sym (sum_by-cons (λ (n : ℕ). n) g.words (map (λ (x : FlatGlobal). x.words) gs))
 
-pub areas_formed : (flat : FlatCode) (image : Image) (certificate : Certificate) (areas : Areas) → IsValid flat image certificate → IsPool areas.pool → AreWords areas.globals → 4 * areas.pool.words ≡ certificate.chunk → length areas.globals ≡ length image.globals → areas.tables ≡ image.tables →
+pub areas_formed : (flat : FlatCode) (image : Image) (certificate : Certificate) (areas : Areas) → IsValid flat image certificate → IsPool areas.pool → AreWords areas.globals → first_bytes areas.pool ≡ certificate.chunk → length areas.globals ≡ length image.globals → areas.tables ≡ image.tables →
     AreWellFormed (record { flat = flat; certificate = certificate }) areas
 areas_formed flat image certificate areas valid sound words chunk globals tables = record {
   pool = sound;

@@ -3,7 +3,7 @@ use Rattle.std.proofs.Common.{◌≡◌, ℕ, ◌^◌, ◌<◌, List, Option, So
 use Rattle.std.specs.Prelude.{IfSome}
 use Rattle.cap_word.specs.Runs as runs
 use Rattle.cap_word.specs.Runs.{Stops}
-use Rattle.chunk_pool.specs.Pool.{IsPool}
+use Rattle.chunk_pool.specs.Pool.{IsPool, shape_of}
 use Rattle.rv_machine.specs.Bytes.{with_stored}
 use Rattle.rv_machine.specs.Rows as rows
 use Rattle.rv_machine.specs.Rows.{Outcome}
@@ -13,10 +13,10 @@ use Rattle.rv_machine.specs.declared.registers.Regs.{Regs}
 use Rattle.rv_machine.specs.declared.results.StepResult.TheVariants as results
 use Rattle.rv_machine.proofs.WordLaws.{TellsWords-outcome}
 use Rattle.machine_world.specs.Areas.{Areas, Spot, InGlobals, InTables, InPayload, spot_of, byte_on, with_byte}
-use Rattle.machine_world.specs.Held.{KeepsSize, size_of}
+use Rattle.machine_world.specs.Held.{KeepsShape}
 use Rattle.machine_world.specs.Local.{Local, Wrong, machine_of, local_move, local_step, system_call}
 use Rattle.machine_world.specs.WellFormed.{IsCore}
-use Rattle.machine_world.proofs.HeldLaws.{KeepsSize-step}
+use Rattle.machine_world.proofs.HeldLaws.{KeepsShape-step}
 use Rattle.segment_run.specs.Turns.{thread_of}
 use Rattle.segment_run.specs.declared.running.Thread.{Thread}
 use Rattle.segment_run.proofs.Chains.{chain_from-stored}
@@ -52,8 +52,8 @@ went code areas after thread regs (rows.Goes pc x stored) is sound core answered
     let new : Thread = record thread { regs = record { pc = pc; x = x } } in
     let words : TellsWords (rows.Goes pc x stored) = subst TellsWords is.outcome_is (told code l core) in
     let goes : local_step code l ≡ runs.Goes (record { areas = stored_areas; core = record { pc = pc; x = x; chain = l.core.chain } }) = ap (local_move l) is.outcome_is in
-    let size : size_of stored_areas.pool ≡ size_of areas.pool = subst (KeepsSize l) goes (KeepsSize-step code l) in
-    let chain = chain_from-stored areas pc thread.chunk thread.depth x stored sound words (ap (λ (s : ℕ × ℕ). s.1) size) in
+    let shape : shape_of stored_areas.pool ≡ shape_of areas.pool = subst (KeepsShape l) goes (KeepsShape-step code l) in
+    let chain = chain_from-stored areas pc thread.chunk thread.depth x stored sound words shape in
     goes
     ∙ ap (λ (chain : List ℕ). runs.Goes (record { areas = stored_areas; core = record { pc = pc; x = x; chain = chain } })) (sym chain)
     ∙ (λ i. runs.Goes (thread_of (sym is.memory i) (record thread { regs = sym is.registers i })))

@@ -4,7 +4,7 @@ use Rattle.std.specs.Prelude.{slice_get, nat_eq}
 use Rattle.std.proofs.lemmas.Bool.{cond_both, eq-eqb}
 use Rattle.cap_word.specs.Word as word
 use Rattle.cap_word.specs.Runs.{Goes, Stops}
-use Rattle.chunk_pool.specs.Pool.{Pool, Taken, taken_of, taken_for, fits, after_take, after_give, word_of, place_of, bytes_of, end_of, payload_place_of, chunk_at, IsPool, IsHeld}
+use Rattle.chunk_pool.specs.Pool.{Pool, Taken, taken_for, after_take, after_give, word_of, place_of, bytes_of, end_of, payload_place_of, chunk_at, IsPool, IsHeld, first_free, all_free}
 use Rattle.chunk_pool.proofs.AddressLaws.{chunk_at-some}
 use Rattle.chunk_pool.proofs.PoolLaws.{KeepsOthers-after_give}
 use Rattle.rv_machine.specs.Registers.{read}
@@ -20,6 +20,8 @@ use Rattle.segment_run.specs.Turns.{thread_of}
 use Rattle.segment_run.specs.declared.running.Thread.{Thread}
 use Rattle.segment_run.proofs.Chains.{chunk_below-of, chain_from-kept, length-chain_from}
 use Rattle.segment_run.proofs.Owning.{copies-here, IsHeld-owned, few_chunks}
+use Rattle.chunk_pool.proofs.ShapeLaws.{words_of-payload}
+use Rattle.chunk_pool.proofs.NeedLaws.{taken_for-first}
 
 -- ---- the front chunk
 
@@ -45,21 +47,14 @@ front_held areas thread below owns depth =
     let here = ap (copies thread.chunk) chain ∙ copies-here thread.chunk (chain_from areas.pool (chunk_below areas.pool thread.chunk) below) in
     IsHeld-owned (thread_of areas thread) thread.chunk owns (omega (arith, here))
 
+-- the innermost chunk is held, and has a header
+pub innermost_held : (areas : Areas) (thread : Thread) → Owns (thread_of areas thread) → TpIsFront areas.pool (thread_of areas thread).core (thread_of areas thread).core.chain → IsHeld areas.pool thread.chunk
+innermost_held areas thread owns front = let is = front_of areas thread thread.depth refl front in front_held areas thread is.below owns is.depth
+
 pub depth_below : (areas : Areas) (thread : Thread) → Owns (thread_of areas thread) → thread.depth ≤ areas.pool.count
 depth_below areas thread owns = omega (arith, few_chunks (thread_of areas thread) owns, length-chain_from areas.pool thread.chunk thread.depth)
 
 -- ---- LINK
-
-taken_first : (p : Pool) (need id : ℕ) (free : List ℕ) → slice_get free 0 ≡ Some id → (taken_of p need free ≡ None → free ≡ []) →
-    taken_of p need free ≡ Some (record { chunk = id; pool = record p { free = drop 1 free } })
-taken_first p need id [] first room = absurd (cc)
-taken_first p need id (k ∷ ids) first room =
-    let same : k ≡ id = cc in
-    let taken : ℕ → Taken = λ n. record { chunk = n; pool = record p { free = ids } } in
-    (cond_both (fits p need k) (Some (taken k)) None (λ found. (found ≡ None → k ∷ ids ≡ []) → found ≡ Some (taken k))
-    (λ _ _. refl)
-    (λ _ unless. absurd (let empty : k ∷ ids ≡ [] = unless refl in cc))) room
-    ∙ ap (λ (n : ℕ). Some (taken n)) same
 
 -- the thread after a LINK of that chunk
 abbrev pub linked_thread : Thread → Pool → ℕ → Thread
@@ -72,16 +67,22 @@ linked_thread thread p id = record {
 abbrev pub linked_areas : Areas → Thread → ℕ → Areas
 linked_areas areas thread id = record areas { pool = with_header (after_take areas.pool) id (read thread.regs.x tp) (read thread.regs.x 2) }
 
+some_first : (ids : List ℕ) (id : ℕ) → ids ≡ [] → slice_get ids 0 ≡ Some id → ⊥
+some_first [] id none first = cc
+some_first (x ∷ ids) id none first = cc
+
 pub link_goes : (areas : Areas) (thread : Thread) (id : ℕ) → IsPool (after_take areas.pool) → IsHeld (after_take areas.pool) id → Owns (thread_of areas thread) → HasFront areas.pool thread →
-    slice_get areas.pool.free 0 ≡ Some id → (taken_for areas.pool (read thread.regs.x t1) ≡ None → areas.pool.free ≡ []) →
+    first_free areas.pool ≡ Some id → (taken_for areas.pool (read thread.regs.x t1) ≡ None → all_free areas.pool ≡ []) →
     linked (thread_of areas thread) ≡ Goes (thread_of (linked_areas areas thread id) (linked_thread thread areas.pool id))
 link_goes areas thread id sound held owns front first room =
     let l = thread_of areas thread in
     let p = areas.pool in
     let q = (linked_areas areas thread id).pool in
-    let taken = taken_first p (read thread.regs.x t1) id p.free first room in
+    let taken = taken_for-first p (read thread.regs.x t1) id first
+    (λ none. some_first (all_free p) id (room none) first) in
+    let within = (front_held areas thread front.below owns front.depth).0 in
     let named : saved_tp q id ≡ payload_place_of q thread.chunk = saved_tp-with_header (after_take p) id _ _ sound held.0 ∙ front.tp_is in
-    let below : chunk_below q id ≡ thread.chunk = chunk_below-of q id thread.chunk sound.header_fits named in
+    let below : chunk_below q id ≡ thread.chunk = chunk_below-of q id thread.chunk within (words_of-payload (after_take p) thread.chunk sound within) named in
     let kept : chain_from q thread.chunk thread.depth ≡ chain_from p thread.chunk thread.depth =
     chain_from-kept p q thread.chunk thread.depth refl (λ k there. saved_away k (λ same. not_free k there same)) in
     let chain : chain_from q id (thread.depth + 1) ≡ id ∷ chain_from p thread.chunk thread.depth =
@@ -99,7 +100,7 @@ link_goes areas thread id sound held owns front first room =
         ∙ word_of-other (after_take areas.pool) id 0 _ k 0 (λ same other. apart same)
 
     not_free : (k : ℕ) → 1 ≤ copies k (chain_from areas.pool thread.chunk thread.depth) → k ≡ id → ⊥
-    not_free k there same = (IsHeld-owned (thread_of areas thread) k owns there).1 (free_first areas.pool.free k (first ∙ ap Some (sym same)))
+    not_free k there same = (IsHeld-owned (thread_of areas thread) k owns there).1 (free_first (all_free areas.pool) k (first ∙ ap Some (sym same)))
       where
         free_first : (ids : List ℕ) (n : ℕ) → slice_get ids 0 ≡ Some n → Rattle.std.specs.List.Contains ids n
         free_first [] n e = absurd (cc)
@@ -108,7 +109,7 @@ link_goes areas thread id sound held owns front first room =
 -- ---- UNLINK
 
 payload_found : (p : Pool) (c : ℕ) → IsPool p → c < p.count → chunk_at p (payload_place_of p c) ≡ Some c
-payload_found p c sound within = chunk_at-some p c (payload_place_of p c) (within, omega arith, omega (arith, sound.header_fits))
+payload_found p c sound within = chunk_at-some p c (payload_place_of p c) (within, omega arith, omega (arith, words_of-payload p c sound within))
 
 front_found : (p : Pool) (c : ℕ) → IsPool p → c < p.count → chunk_with_payload p (payload_place_of p c) ≡ Some c
 front_found p c sound within =

@@ -6,7 +6,7 @@ use Rattle.std.proofs.lemmas.Bool.{cases_eq, cases_lt, eq-eqb, eqb-true, eqb-fal
 use Rattle.std.proofs.lemmas.List.Elements.{All-cons, All-head, All-tail}
 use Rattle.std.proofs.lemmas.Map.Steps.{length-le_from_distinct_below}
 use Rattle.std.proofs.lemmas.Map.Views.{Contains-from_any}
-use Rattle.chunk_pool.specs.Pool.{IsPool, IsHeld, IsFree}
+use Rattle.chunk_pool.specs.Pool.{IsPool, IsHeld, IsFree, all_free}
 use Rattle.chunk_pool.proofs.FreeLaws.{copies-free, copies-held, absent_from_copies}
 use Rattle.chunk_pool.proofs.PoolLaws.{Contains-cases}
 use Rattle.machine_world.specs.Held.{copies}
@@ -14,6 +14,7 @@ use Rattle.machine_world.specs.Local.{Local}
 use Rattle.machine_world.proofs.HeldLaws.{copies-cons}
 use Rattle.segment_laws.specs.Ways.{Owns}
 use Rattle.segment_run.specs.Contexts.{IsOwned}
+use Rattle.chunk_pool.proofs.ShapeLaws.{free_below_count}
 
 abbrev pub one_if : Bool → ℕ
 one_if b = cond b 1 0
@@ -95,10 +96,10 @@ IsOwned-owns l owns = record {
 
 pub Owns-owned : (l : Local) → IsPool l.areas.pool → IsOwned l.areas.pool l.core.chain → Owns l
 Owns-owned l sound owned = record {
-  once = λ k. elim (Contains-cases l.areas.pool.free k) [
+  once = λ k. elim (Contains-cases (all_free l.areas.pool) k) [
     | inl free ↦
         let one = copies-free l.areas.pool k sound free in
-        let within : k < l.areas.pool.count = below_count k free in
+        let within : k < l.areas.pool.count = free_below_count l.areas.pool k sound free in
         let count : one_if (nat_lt k l.areas.pool.count) ≡ one_if true = ap one_if (lt-ltb k l.areas.pool.count within) in
         ⊎_elim
         (λ (none : copies k l.core.chain < 1). omega (arith, one, count, none))
@@ -115,9 +116,7 @@ Owns-owned l sound owned = record {
         omega (arith, none, once, count))
         (cases_lt (copies k l.core.chain) 1)
   ];
-} where
-  below_count : (k : ℕ) → IsFree l.areas.pool k → k < l.areas.pool.count
-  below_count k free = subst (λ (n : ℕ). n < l.areas.pool.count) free.2 (sound.free_below free.0 k free.1)
+}
 
 -- it has no more chunks than there are
 pub few_chunks : (l : Local) → Owns l → length l.core.chain ≤ l.areas.pool.count

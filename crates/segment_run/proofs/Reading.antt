@@ -8,7 +8,7 @@ use Rattle.c_lower.specs.ProgramCode.{lowered}
 use Rattle.c_tree.specs.Trees.{ProgramTree}
 use Rattle.c_tree.specs.WellScoped.{IsWellScoped}
 use Rattle.certificate_rules.specs.Validity.{IsValid}
-use Rattle.chunk_pool.specs.Pool.{Pool, chunk_of, payload_of, place_of, end_of, payload_place_of, chunk_at, IsPool, IsChunk}
+use Rattle.chunk_pool.specs.Pool.{Pool, chunk_of, payload_of, place_of, end_of, payload_place_of, chunk_at, IsPool, words_of}
 use Rattle.chunk_pool.proofs.AddressLaws.{chunk_at-some}
 use Rattle.lowered_facts.proofs.Formed.{formed}
 use Rattle.lowered_facts.proofs.Zeroes.{program_zeroes}
@@ -22,6 +22,7 @@ use Rattle.stack_image.specs.declared.images.Image.{Image}
 use Rattle.segment_run.specs.Walking.{IsReadOf}
 use Rattle.segment_run.specs.declared.walking.Frame.{Frame as ReadFrame}
 use Rattle.segment_run.proofs.Calls.{as_many}
+use Rattle.chunk_pool.proofs.ShapeLaws.{IsChunk-chunk_of, words_of-payload}
 
 pub frame_in : (c : Checked) (pool : Pool) (chain : List ℕ) (at : Frame) (below : List Frame) → IsStack c pool chain at below → IsFrame c pool at
 frame_in c pool chain at [] stack = stack.0
@@ -54,10 +55,9 @@ lies program image certificate pool frame chain at below scoped valid is =
 
 -- ---- the return address
 
-pub payload_length : (p : Pool) (chunk : ℕ) → IsPool p → chunk < p.count → length (payload_of p chunk) ≡ p.words - 4
+pub payload_length : (p : Pool) (chunk : ℕ) → IsPool p → chunk < p.count → length (payload_of p chunk) ≡ words_of p chunk - 4
 payload_length p chunk sound within =
-    let in' : chunk < length p.contents = subst (λ (n : ℕ). chunk < n) (sym sound.count_is) within in
-    length-drop 4 (chunk_of p chunk) ∙ ap (λ (n : ℕ). n - 4) (All-get_or (IsChunk p.words) p.contents chunk [] in' sound.chunks).length
+    length-drop 4 (chunk_of p chunk) ∙ ap (λ (n : ℕ). n - 4) (IsChunk-chunk_of p chunk sound within).length
 
 pub returns_is : (c : Checked) (pool : Pool) (frame : ReadFrame) (chain : List ℕ) (at : Frame) (below : List Frame) (offset : ℕ) → IsReadOf c pool frame chain at below →
     offset ≡ frame.low + (fact_at c.certificate frame.function).ra - place_of pool frame.chunk → 16 ≤ offset → get_or (payload_of pool frame.chunk) (offset / 4 - 4) 0 ≡ at.returns
@@ -106,7 +106,7 @@ next_chunk c pool frame chain at next below sound is first =
     let within : next.chunk < pool.count = (frame_in c pool (chain_below at.is_first chain) next below is.stack.2).chunk in
     record {
       low = above.low ∙ (λ i. low_below pool (first i) at) ∙ ap (saved_sp pool) is.chunk;
-      found = ap (λ (k : ℕ). chunk_at pool (saved_tp pool k)) (sym is.chunk) ∙ ap (chunk_at pool) names.0 ∙ chunk_at-some pool next.chunk (payload_place_of pool next.chunk) (within, omega arith, omega (arith, sound.header_fits));
+      found = ap (λ (k : ℕ). chunk_at pool (saved_tp pool k)) (sym is.chunk) ∙ ap (chunk_at pool) names.0 ∙ chunk_at-some pool next.chunk (payload_place_of pool next.chunk) (within, omega arith, omega (arith, words_of-payload pool next.chunk sound within));
       headers = subst (HeadersName pool) (sym (chain_is ∙ second.1)) names.1;
     }
 

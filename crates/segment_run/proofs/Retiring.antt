@@ -115,7 +115,7 @@ all_same pool [] = tt
 all_same pool (chunk ∷ chain) = (refl, all_same pool chain)
 
 chunks_kept : (pool : Pool) (chain : List ℕ) → KeepsChunks pool pool chain
-chunks_kept pool chain = record { count = refl; size = refl; words = all_same pool chain }
+chunks_kept pool chain = record { shape = refl; words = all_same pool chain }
 
 stack_kept : (core : Core) (value : ℕ) → KeepsStack core (replied core value)
 stack_kept core value = record {

@@ -1,7 +1,7 @@
 -- Words and bytes at a spot, as memory by bytes has them.
 use Rattle.std.proofs.Common.{◌≡◌, ℕ, ◌+◌, ◌-◌, ◌*◌, ◌/◌, ◌%◌, ◌^◌, ◌<◌, ◌≤◌, Bool, true, false, length, get_or, set, Option, Some, None, sym, ap, ◌∙◌, arith}
 use Rattle.std.specs.Prelude.{◌&&◌}
-use Rattle.chunk_pool.specs.Pool.{Pool, place_of, IsPool}
+use Rattle.chunk_pool.specs.Pool.{Pool, place_of, IsPool, bytes_of}
 use Rattle.chunk_pool.proofs.AddressLaws.{place_of-aligned}
 use Rattle.rv_machine.specs.Bytes.{half_at, word_at, joined, with_word, half_is_writable, word_is_writable, put_byte}
 use Rattle.rv_machine.specs.WordBytes.{word_with}
@@ -23,7 +23,7 @@ in_payload : (areas : Areas) (address chunk offset : ℕ) → Fit areas → addr
 in_payload areas address chunk offset fit aligned on =
     let place : address ≡ place_of areas.pool chunk + offset = on.place in
     let sixteen = place_of-aligned areas.pool chunk fit.pool in
-    let high : offset < 4 * areas.pool.words = on.of.2 in
+    let high : offset < bytes_of areas.pool chunk = on.of.2 in
     let low : 16 ≤ offset = on.of.0 in
     record { chunk_below = on.of.1; low = omega (arith, place, low); high = omega (arith, place, high, sixteen, aligned); aligned = aligned }
 

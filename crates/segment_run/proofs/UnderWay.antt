@@ -3,12 +3,12 @@ use Rattle.std.proofs.Common.{◌≡◌, ℕ, zero, suc, ◌+◌, List, [], refl
 use Rattle.cap_word.specs.Runs as runs
 use Rattle.cap_word.specs.Runs.{Goes, Stops, moves}
 use Rattle.machine_world.specs.Alone.{KeepsChunk}
-use Rattle.machine_world.specs.Held.{copies_in, KeepsCopies, KeepsSize, size_of}
+use Rattle.machine_world.specs.Held.{copies_in, KeepsCopies, KeepsShape}
 use Rattle.machine_world.specs.Local.{Local, Ended, local_step, local_machine}
 use Rattle.machine_world.specs.Places.{Checked}
 use Rattle.machine_world.proofs.FormLaws as forms
 use Rattle.machine_world.proofs.FormLaws.{KeepsForm, KeepsForm-step}
-use Rattle.machine_world.proofs.HeldLaws.{KeepsCopies-step, KeepsSize-step}
+use Rattle.machine_world.proofs.HeldLaws.{KeepsCopies-step, KeepsShape-step}
 use Rattle.segment_laws.specs.Ways.{HasForm, IsGoodState, WayIn, Leads}
 use Rattle.segment_laws.proofs.Ways.{Leads-none, Leads-one, Leads-then, HasForm-next}
 use Rattle.flat_code.specs.WellFormed.{IsWellFormed}
@@ -17,6 +17,7 @@ use Rattle.segment_run.specs.Safe.{IsSafe, StaysSafe}
 use Rattle.segment_run.specs.Segments.{IsEnd, IsSegment}
 use Rattle.segment_run.specs.declared.segments.Segment.{Segment}
 use Rattle.segment_run.specs.Turns.{KeepsCounts}
+use Rattle.chunk_pool.specs.Pool.{all_free}
 
 -- good steps are silent steps
 moves_way : (c : Checked) (code : List ℕ) (n : ℕ) (l after : Local) → WayIn c code n l after → moves (local_machine code) n l ≡ Goes after
@@ -27,12 +28,12 @@ moves_way c code (suc n) l after way =
 -- ---- one step
 
 pub counts_none : (c : Checked) (l : Local) → HasForm c l → KeepsCounts c l l
-counts_none c l form = record { areas = form.areas; size = refl; copies = λ chunk. refl; others = λ chunk away. refl }
+counts_none c l form = record { areas = form.areas; shape = refl; copies = λ chunk. refl; others = λ chunk away. refl }
 
 pub counts_goes : (c : Checked) (code : List ℕ) (start l next : Local) → IsWellFormed c.flat → KeepsCounts c start l → HasForm c l → IsGoodState c code l → local_step code l ≡ Goes next → KeepsCounts c start next
 counts_goes c code start l next formed kept form good e = record {
   areas = (HasForm-next c code l next form e).areas;
-  size = subst (KeepsSize l) e (KeepsSize-step code l) ∙ kept.size;
+  shape = subst (KeepsShape l) e (KeepsShape-step code l) ∙ kept.shape;
   copies = λ chunk. subst (KeepsCopies chunk l) e (KeepsCopies-step code l chunk) ∙ kept.copies chunk;
   others = λ chunk away.
       subst (KeepsChunk chunk l) e (keeps_step c code l chunk formed form good (kept.copies chunk ∙ away)) ∙ kept.others chunk away;
@@ -72,10 +73,10 @@ counts_ended c code start now after formed kept form good e none =
     let kept_form : forms.HasForm c now = record { areas = form.areas; core = form.core; owns = record { once = form.owns.once } } in
     record {
       areas = subst (KeepsForm c) e (KeepsForm-step c code now kept_form);
-      size = subst (KeepsSize now) e (KeepsSize-step code now) ∙ kept.size;
+      shape = subst (KeepsShape now) e (KeepsShape-step code now) ∙ kept.shape;
       copies = λ chunk.
           let free = subst (KeepsCopies chunk now) e (KeepsCopies-step code now chunk) in
-          let empty = ap (λ (chain : List ℕ). Rattle.machine_world.specs.Held.copies chunk chain + Rattle.machine_world.specs.Held.copies chunk after.areas.pool.free) none in
+          let empty = ap (λ (chain : List ℕ). Rattle.machine_world.specs.Held.copies chunk chain + Rattle.machine_world.specs.Held.copies chunk (all_free after.areas.pool)) none in
           omega (arith, free, empty, kept.copies chunk);
       others = λ chunk away. subst (KeepsChunk chunk now) e (keeps_step c code now chunk formed form good (kept.copies chunk ∙ away)) ∙ kept.others chunk away;
     }

@@ -9,7 +9,7 @@ use Rattle.certificate_rules.specs.Validity.{IsValid}
 use Rattle.flat_code.specs.Codes.{result_place}
 use Rattle.stack_certificate.specs.declared.certificates.Certificate.{Certificate}
 use Rattle.stack_image.specs.declared.images.Image.{Image}
-use Rattle.chunk_pool.specs.Pool.{Pool}
+use Rattle.chunk_pool.specs.Pool.{Pool, Shape}
 use Rattle.rv_code.specs.declared.instructions.Instr.{Instr}
 use Rattle.rv_machine.specs.Registers.{read}
 use Rattle.rv_machine.specs.Step.{instruction_at}
@@ -45,12 +45,13 @@ form_of accepted areas context valid kept of owned pc count words = record {
 owns_after : (c : Checked) (before after : Local) → Owns before → KeepsCounts c before after → Owns after
 owns_after c before after owns counts = record {
   once = λ chunk.
-      let count : one_if (nat_lt chunk after.areas.pool.count) ≡ one_if (nat_lt chunk before.areas.pool.count) = ap (λ (s : ℕ × ℕ). one_if (nat_lt chunk s.0)) counts.size in
+      let count : one_if (nat_lt chunk after.areas.pool.count) ≡ one_if (nat_lt chunk before.areas.pool.count) = ap (λ (s : Shape). one_if (nat_lt chunk s.count)) counts.shape in
       omega (arith, owns.once chunk, counts.copies chunk, count);
 }
 
 pub keeps_chunks : (c : Checked) (before after : Local) → Owns before → KeepsCounts c before after → KeepsChunks before after
 keeps_chunks c before after owns counts = record {
+  shape = counts.shape;
   others = counts.others;
   copies = counts.copies;
   owned = IsOwned-owns after (owns_after c before after owns counts);

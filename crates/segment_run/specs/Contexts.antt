@@ -3,7 +3,7 @@ use Rattle.std.specs.Prelude.{◌≡◌, ◌≢◌, ℕ, zero, suc, ◌-◌, ◌
 use Rattle.std.specs.List.{IsDistinct}
 use Rattle.rv_code.specs.declared.instructions.Instr.{Instr}
 use Rattle.rv_machine.specs.Step.{instruction_at}
-use Rattle.chunk_pool.specs.Pool.{Pool, first_place, IsHeld}
+use Rattle.chunk_pool.specs.Pool.{Pool, IsHeld, chunk_at, first_bytes}
 use Rattle.c_lower.specs.ProgramCode.{lowered}
 use Rattle.certificate_check.specs.Accepting.{accepted_tree}
 use Rattle.certificate_check.specs.declared.accepted.Accepted.{Accepted}
@@ -12,6 +12,7 @@ use Rattle.machine_world.specs.Local.{Core, Local, saved_tp}
 use Rattle.machine_world.specs.Places.{Checked}
 use Rattle.machine_world.specs.Rests.{IsResting}
 use Rattle.segment_run.specs.declared.contexts.Context.{Context}
+use Rattle.std.specs.Option.{unwrap_or}
 
 -- the flat code of an accepted program with its certificate, and its machine code
 abbrev pub checked_of : Accepted → Checked
@@ -20,9 +21,9 @@ checked_of accepted = record { flat = lowered (accepted_tree accepted); certific
 abbrev pub code_of : Accepted → List ℕ
 code_of accepted = accepted.image.code
 
--- the chunk that the saved tp in a chunk's header names
+-- the chunk that has the saved tp in a chunk's header; the chunk itself where none has
 abbrev pub chunk_below : Pool → ℕ → ℕ
-chunk_below pool chunk = (saved_tp pool chunk - first_place) / (4 * pool.words)
+chunk_below pool chunk = unwrap_or (chunk_at pool (saved_tp pool chunk)) chunk
 
 -- so many chunks from one on, as the headers name them
 abbrev pub chain_from : Pool → ℕ → ℕ → List ℕ
@@ -37,9 +38,9 @@ abbrev pub local_of : Areas → Context → Local
 local_of areas context = record { areas = areas; core = core_of areas.pool context }
 
 -- the areas are of an accepted program: they hold the image's table words and as many global words as the image, and the
--- chunks have the certificate's size
+-- chunks of the first size have the certificate's
 pub record AreOf (accepted : Accepted) (areas : Areas) : Type 0 where
-  pub chunk : 4 * areas.pool.words ≡ accepted.certificate.chunk
+  pub chunk : first_bytes areas.pool ≡ accepted.certificate.chunk
   pub globals : length areas.globals ≡ length accepted.image.globals
   pub tables : areas.tables ≡ accepted.image.tables
 

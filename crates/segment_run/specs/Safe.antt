@@ -9,6 +9,7 @@ use Rattle.machine_world.specs.Local.{Local, LocalMove, Question, Calls, Starts,
 use Rattle.machine_world.specs.Places.{Checked}
 use Rattle.machine_world.specs.Rests.{IsAtCall}
 use Rattle.segment_laws.specs.Ways.{IsGoodState}
+use Rattle.segment_steps.specs.Alike.{FindsNoChunk}
 
 -- the thread rests at the ECALL of an operation
 pub record RestsAtCall (c : Checked) (l : Local) (op : Op) : Type 0 where
@@ -25,13 +26,14 @@ AsksAt c l (Starts entry argument need) =
     (site f x : ℕ) × (d : Option ℕ) × (f < length c.flat.functions) × RestsAtCall c l (Op.Spawn site d f x)
     × (entry ≡ (fact_at c.certificate f).entry) × (need ≡ need_of (kind_of c.certificate (Op.Spawn site d f x)))
 
--- what holds of its step: it isn't wrong, it asks as said, and it finds no room only where no chunk is free
+-- what holds of its step: it isn't wrong, it asks as said, and it finds no room only at a linked
+-- site for whose need nothing is taken
 abbrev pub IsSafeMove : Checked → Local → LocalMove → Type 0
 IsSafeMove c l (Goes after) = Unit {0}
 IsSafeMove c l (Asks question waiting) = AsksAt c l question
 IsSafeMove c l (Stops (Ended areas)) = Unit {0}
 IsSafeMove c l (Stops (Trapped kind)) = Unit {0}
-IsSafeMove c l (Stops NoRoom) = l.areas.pool.free ≡ []
+IsSafeMove c l (Stops NoRoom) = FindsNoChunk c l
 IsSafeMove c l (Stops Wrong) = ⊥
 
 pub record IsSafe (c : Checked) (code : List ℕ) (l : Local) : Type 0 where

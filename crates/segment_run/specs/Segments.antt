@@ -4,7 +4,7 @@ use Rattle.std.specs.Prelude.{◌≡◌, ℕ, ◌+◌, ◌<◌, List, [], length
 use Rattle.cap_word.specs.Calls.{Blocking, Immediate}
 use Rattle.cap_word.specs.Runs.{Asks, Stops}
 use Rattle.cap_word.specs.declared.calls.Ask.{Ask}
-use Rattle.chunk_pool.specs.Pool.{chunk_of}
+use Rattle.chunk_pool.specs.Pool.{chunk_of, all_free, shape_of}
 use Rattle.flat_code.specs.declared.operations.Op.{Op}
 use Rattle.stack_certificate.specs.Certificates.{fact_at, need_of}
 use Rattle.stack_certificate.specs.Templates.{kind_of}
@@ -50,7 +50,7 @@ IsEnd c code answer.Ends at left after left_after =
 IsEnd c code (answer.Traps kind) at left after left_after =
     (0 < left) × (local_step code at ≡ Stops (Trapped kind)) × (after ≡ at) × (left_after ≡ left)
 IsEnd c code answer.NoChunk at left after left_after =
-    (0 < left) × (local_step code at ≡ Stops NoRoom) × (at.areas.pool.free ≡ []) × (after ≡ at) × (left_after ≡ left)
+    (0 < left) × (local_step code at ≡ Stops NoRoom) × (all_free at.areas.pool ≡ []) × (after ≡ at) × (left_after ≡ left)
 IsEnd c code answer.OutOfFuel at left after left_after = (left ≡ 0) × (after ≡ at) × (left_after ≡ 0)
 
 -- a segment from one thread and fuel to another: so many instructions went on, each from a good state, to a good state at
@@ -64,9 +64,10 @@ pub record IsSegment (c : Checked) (code : List ℕ) (segment : Segment) (before
   pub good : IsGoodState c code at
   pub end : IsEnd c code segment at spare after left_after
 
--- no chunk that was neither in the chain nor free has changed; the chain and the free list have the same chunks as before,
+-- the pool has its shape; no chunk that was neither in the chain nor free has changed; the chain and the free list have the same chunks as before,
 -- and those of the chain are held and all different
 pub record KeepsChunks (before after : Local) : Type 0 where
+  pub shape : shape_of after.areas.pool ≡ shape_of before.areas.pool
   pub others : (chunk : ℕ) → copies_in chunk before ≡ 0 → chunk_of after.areas.pool chunk ≡ chunk_of before.areas.pool chunk
   pub copies : (chunk : ℕ) → copies_in chunk after ≡ copies_in chunk before
   pub owned : IsOwned after.areas.pool after.core.chain

@@ -1,6 +1,6 @@
 -- Spots of the map as the code finds them.
 use Rattle.std.specs.Prelude.{◌≡◌, ℕ, ◌+◌, ◌*◌, ◌/◌, ◌<◌, ◌≤◌, length, slice_index, slice_set}
-use Rattle.chunk_pool.specs.Pool.{word_of, with_word, place_of}
+use Rattle.chunk_pool.specs.Pool.{word_of, with_word, place_of, bytes_of}
 use Rattle.machine_world.specs.Areas as world
 use Rattle.machine_world.specs.Areas.{globals_place, tables_place}
 use Rattle.segment_run.specs.declared.areas.Spot.{Spot}
@@ -15,7 +15,7 @@ world_spot (InPayload chunk offset) = world.InPayload chunk offset
 abbrev pub IsSpotOf : world.Areas → Spot → Type 0
 IsSpotOf areas (InGlobals offset) = offset < 4 * length areas.globals
 IsSpotOf areas (InTables offset) = offset < 4 * length areas.tables
-IsSpotOf areas (InPayload chunk offset) = (16 ≤ offset) × (chunk < areas.pool.count) × (offset < 4 * areas.pool.words)
+IsSpotOf areas (InPayload chunk offset) = (16 ≤ offset) × (chunk < areas.pool.count) × (offset < bytes_of areas.pool chunk)
 
 -- and it is that of an address
 abbrev pub IsPlaceOf : world.Areas → ℕ → Spot → Type 0

@@ -3,9 +3,9 @@ use Rattle.std.specs.Prelude.{◌≡◌, ℕ, List, [], ◌∷◌, Bool, true, f
 use Rattle.cap_word.specs.Calls.{Call, Blocking, Immediate, call_of}
 use Rattle.cap_word.specs.Runs as runs
 use Rattle.cap_word.specs.Runs.{Stops}
-use Rattle.chunk_pool.specs.Pool.{chunk_of}
+use Rattle.chunk_pool.specs.Pool.{chunk_of, all_free, shape_of}
 use Rattle.machine_world.specs.Areas.{Areas}
-use Rattle.machine_world.specs.Held.{copies_in, size_of}
+use Rattle.machine_world.specs.Held.{copies_in}
 use Rattle.machine_world.specs.WellFormed.{AreWellFormed}
 use Rattle.machine_world.specs.Local.{Local, Calls, Ended, Trapped, NoRoom, first_of, linked, local_step}
 use Rattle.machine_world.specs.Places.{Checked}
@@ -36,17 +36,17 @@ IsTurn c code before (Blocks block) after = IsAtModel c code before (Calls (Bloc
 IsTurn c code before (Asks ask) after = IsAtAsk c code before ask × (after ≡ before)
 IsTurn c code before Ends after = (local_step code before ≡ Stops (Ended after.areas)) × (after.core.chain ≡ [])
 IsTurn c code before (Traps kind) after = (local_step code before ≡ Stops (Trapped kind)) × (after ≡ before)
-IsTurn c code before NoChunkFree after = (local_step code before ≡ Stops NoRoom) × (before.areas.pool.free ≡ []) × (after ≡ before)
+IsTurn c code before NoChunkFree after = (local_step code before ≡ Stops NoRoom) × (all_free before.areas.pool ≡ []) × (after ≡ before)
 
 -- a LINK, where a chunk is free and where none is
 abbrev pub IsLink : Bool → Local → Local → Type 0
 IsLink true before after = linked before ≡ runs.Goes after
-IsLink false before after = (linked before ≡ Stops NoRoom) × (before.areas.pool.free ≡ []) × (after ≡ before)
+IsLink false before after = (linked before ≡ Stops NoRoom) × (all_free before.areas.pool ≡ []) × (after ≡ before)
 
 -- what a thread keeps along its steps, to its end: the form of the areas, its chunks and the free ones together, and the
 -- words of all others
 pub record KeepsCounts (c : Checked) (before after : Local) : Type 0 where
   pub areas : AreWellFormed c after.areas
-  pub size : size_of after.areas.pool ≡ size_of before.areas.pool
+  pub shape : shape_of after.areas.pool ≡ shape_of before.areas.pool
   pub copies : (chunk : ℕ) → copies_in chunk after ≡ copies_in chunk before
   pub others : (chunk : ℕ) → copies_in chunk before ≡ 0 → chunk_of after.areas.pool chunk ≡ chunk_of before.areas.pool chunk

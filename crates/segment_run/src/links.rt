@@ -1,6 +1,6 @@
 ghost use Rattle.std.specs.Prelude.{◌≡◌, ℕ, [], Some, None};
 ghost use Rattle.cap_word.specs.Runs.{Goes, Stops};
-ghost use Rattle.chunk_pool.specs.Pool.{chunk_at, taken_for};
+ghost use Rattle.chunk_pool.specs.Pool.{chunk_at, taken_for, all_free};
 ghost use Rattle.machine_world.specs.InPlace.{HeadersName, TpIsFront};
 ghost use Rattle.machine_world.specs.Local.{Ended, ended, unlinked};
 ghost use Rattle.rv_machine.specs.Registers.{read};
@@ -25,7 +25,7 @@ const HEADER: u32 = 16;
 pub(crate) fn link(areas: &mut Areas, thread: &mut Thread) -> bool
     requires owns { Owns (thread_of areas.old thread.old) }
     requires front { TpIsFront areas.old.pool (thread_of areas.old thread.old).core (thread_of areas.old thread.old).core.chain }
-    requires room { taken_for areas.old.pool (read thread.old.regs.x 6) ≡ None → areas.old.pool.free ≡ [] }
+    requires room { taken_for areas.old.pool (read thread.old.regs.x 6) ≡ None → all_free areas.old.pool ≡ [] }
     ensures { IsLink result (thread_of areas.old thread.old) (thread_of areas.new thread.new) }
 {
     let Some(chunk) = areas.pool.take() else {

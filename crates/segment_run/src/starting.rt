@@ -1,7 +1,7 @@
-ghost use Rattle.std.specs.Prelude.{◌≡◌, ℕ, ◌<◌, ◌≤◌, ◌↔◌, List, [], length, IsNone, IfSome};
+ghost use Rattle.std.specs.Prelude.{◌≡◌, ℕ, ◌+◌, ◌<◌, ◌≤◌, ◌↔◌, List, [], length, IsNone, IfSome};
 ghost use Rattle.c_mean.specs.Frames.{pushed, function_at};
 ghost use Rattle.certificate_check.specs.Accepting.{accepted_tree};
-ghost use Rattle.chunk_pool.specs.Pool.{taken_for, payload_bytes_of};
+ghost use Rattle.chunk_pool.specs.Pool.{taken_for, all_free, first_bytes};
 ghost use Rattle.machine_world.specs.Globals.{AreGlobals};
 ghost use Rattle.machine_world.specs.StandsFor.{Starts, StandsForThread};
 ghost use Rattle.stack_certificate.specs.Certificates.{fact_at};
@@ -29,10 +29,10 @@ pub fn start(
 ) -> Option<Context>
     requires areas { AreOf accepted.now areas.old }
     requires function { function < length accepted.now.certificate.functions }
-    ensures none { IsNone result ↔ (areas.old.pool.free ≡ []) }
+    ensures none { IsNone result ↔ (all_free areas.old.pool ≡ []) }
 
-    // It is the machine's start of a thread, on a chunk for any need that a chunk's payload has.
-    ensures machine { (need : ℕ) → need ≤ payload_bytes_of areas.old.pool 0 →
+    // It is the machine's start of a thread, on a chunk for any need that a payload of the first size has.
+    ensures machine { (need : ℕ) → need + 16 ≤ first_bytes areas.old.pool →
         IsStarted (taken_for areas.old.pool need) (fact_at accepted.now.certificate function).entry argument result areas.old areas.new }
     ensures areas { AreOf accepted.now areas.new }
     ensures ready { IfSome result (λ context. IsReady (checked_of accepted.now) (code_of accepted.now) (local_of areas.new context)) }

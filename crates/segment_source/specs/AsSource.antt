@@ -19,7 +19,7 @@ use Rattle.machine_world.specs.Rests.{IsResting, PastCall, IsAtCall}
 use Rattle.machine_world.specs.StandsFor.{StandAtCall}
 use Rattle.rv_machine.specs.Registers.{read}
 use Rattle.segment_laws.specs.Ways.{HasForm, IsGoodState}
-use Rattle.segment_steps.specs.Alike.{Comes, FindsNone, StopsAlike}
+use Rattle.segment_steps.specs.Alike.{Comes, FindsNone, StopsAlike, FindsNoChunk}
 use Rattle.stack_certificate.specs.Certificates.{fact_at, need_of}
 use Rattle.stack_certificate.specs.Templates.{kind_of}
 
@@ -62,13 +62,13 @@ pub record WaitsAsSource (c : Checked) (program : ProgramTree) (at : Local) (que
 
 -- ---- from the machine to the source
 
--- what a step of the machine leads to, the source thread comes to; it finds no room only where no chunk is free, and is
--- never wrong
+-- what a step of the machine leads to, the source thread comes to; it finds no room only at a linked site for whose
+-- need nothing is taken, and is never wrong
 abbrev pub IsStepAsSource : Checked → ProgramTree → Running → Local → LocalMove → Type 0
 IsStepAsSource c program running at (Goes next) = Unit {0}
 IsStepAsSource c program running at (Asks question still) =
     (still ≡ at) × ((n : ℕ) × (asked : Question) × (waiting : Waiting) × (moves (source_machine program) n running ≡ Asks asked waiting) × WaitsAsSource c program at question asked waiting)
-IsStepAsSource c program running at (Stops NoRoom) = at.areas.pool.free ≡ []
+IsStepAsSource c program running at (Stops NoRoom) = FindsNoChunk c at
 IsStepAsSource c program running at (Stops end) = (n : ℕ) × (finish : Finish) × (moves (source_machine program) n running ≡ Stops finish) × StopsAlike c at end finish
 
 -- a state on the way: it is in place, its next load or store is good, and so is its next step

@@ -4,7 +4,7 @@ use Rattle.std.specs.List.{AllByRecursion}
 use Rattle.std.proofs.lemmas.Bool.{cond_both, cases_eq, cond-true, cond-false, eq-eqb, ne_eqb, eqb-true}
 use Rattle.std.proofs.lemmas.List.{get_or-set_other}
 use Rattle.std.proofs.lemmas.List.Sums.{sum_by-cons}
-use Rattle.chunk_pool.specs.Pool.{Pool, Taken, chunk_of, with_word, taken_for}
+use Rattle.chunk_pool.specs.Pool.{Pool, Taken, chunk_of, with_word, taken_for, all_free}
 use Rattle.chunk_pool.proofs.NeedLaws.{taken_for-leaves, taken_for-keeps}
 use Rattle.machine_world.specs.Chains.{copies, held_copies}
 use Rattle.machine_world.specs.Counted.{IsCounted}
@@ -77,10 +77,10 @@ header_other : (p : Pool) (chunk tp_now sp_now other : ℕ) → other ≢ chunk 
 header_other p chunk tp_now sp_now other apart = get_or-set_other (with_word p chunk 0 tp_now).contents chunk other _ [] apart ∙ get_or-set_other p.contents chunk other _ [] apart
 
 -- a chunk that was taken was free
-taken_free : (p : Pool) (need : ℕ) (taken : Taken) → taken_for p need ≡ Some taken → 0 < copies taken.chunk p.free
+taken_free : (p : Pool) (need : ℕ) (taken : Taken) → taken_for p need ≡ Some taken → 0 < copies taken.chunk (all_free p)
 taken_free p need taken e =
     let left = taken_for-leaves p need taken e taken.chunk in
-    let first : copies taken.chunk (taken.chunk ∷ taken.pool.free) ≡ cond (nat_eq taken.chunk taken.chunk) 1 0 + copies taken.chunk taken.pool.free = sum_by-cons (λ (other : ℕ). cond (nat_eq other taken.chunk) 1 0) taken.chunk taken.pool.free in
+    let first : copies taken.chunk (taken.chunk ∷ all_free taken.pool) ≡ cond (nat_eq taken.chunk taken.chunk) 1 0 + copies taken.chunk (all_free taken.pool) = sum_by-cons (λ (other : ℕ). cond (nat_eq other taken.chunk) 1 0) taken.chunk (all_free taken.pool) in
     let one : ◌≡◌ {A = ℕ} (cond (nat_eq taken.chunk taken.chunk) 1 0) 1 = cond-true (nat_eq taken.chunk taken.chunk) 1 0 (eq-eqb taken.chunk taken.chunk refl) in
     omega (arith, left, first, one)
 
@@ -93,7 +93,7 @@ start_keeps w other need tp_now sp_now o taken counted found e =
     let all = counted.partition chunk in
     let most = at_most_one (ltb chunk w.areas.pool.count) in
     let free = taken_free w.areas.pool need taken e in
-    let equal : copies chunk w.areas.pool.free ≡ copies taken.chunk w.areas.pool.free = ap (λ (k : ℕ). copies k w.areas.pool.free) same in
+    let equal : copies chunk (all_free w.areas.pool) ≡ copies taken.chunk (all_free w.areas.pool) = ap (λ (k : ℕ). copies k (all_free w.areas.pool)) same in
     omega (arith, held, all, most, free, equal, some)))
     ∙ ap (λ (p : Pool). chunk_of p chunk) (taken_for-keeps w.areas.pool need taken e))
 

@@ -10,7 +10,7 @@ use Rattle.c_tree.specs.WellScoped.{IsWellScoped}
 use Rattle.certificate_check.specs.Acceptance.{Acceptance}
 use Rattle.certificate_check.specs.Accepting.{accepted_tree}
 use Rattle.certificate_rules.specs.Validity.{IsValid}
-use Rattle.chunk_pool.specs.Pool.{Pool, Taken, IsPool, fits, taken_of, start_pool, taken_for, payload_bytes_of}
+use Rattle.chunk_pool.specs.Pool.{Pool, Taken, IsPool, start_pool, taken_for, first_bytes}
 use Rattle.machine_world.specs.Areas.{Areas}
 use Rattle.machine_world.specs.Local.{Core, with_header}
 use Rattle.machine_world.specs.Runs.{start_world, started_on, empty_world}
@@ -35,13 +35,15 @@ use Rattle.world_source.specs.UnderWay.{StandsSettled}
 use Rattle.world_source.proofs.Between.{starts_law}
 use Rattle.thread_core.specs.Kept.{AreAligned, IsKept, HasCome, RunsAt, IsRunningThere}
 use Rattle.thread_core.specs.Waiting.{IsUntrapped}
-use Rattle.thread_core.specs.Making.{IsPolicy}
+use Rattle.thread_core.specs.Making.{IsPolicy, start_areas}
 use Rattle.thread_core.specs.FirstParts.{AreParts}
 use Rattle.thread_core.specs.States.{number_of, numbers_of, number_in, blocked_of, threads_of, machine_of, setting_of, thread_of_record}
 use Rattle.thread_core.specs.declared.making.Parts.{Parts}
 use Rattle.thread_core.specs.declared.policy.WorldPolicy.{WorldPolicy}
 use Rattle.thread_core.specs.declared.records.Record.{Record}
 use Rattle.thread_core.specs.declared.state.State.{State}
+use Rattle.chunk_pool.proofs.ShapeLaws.{first_bytes-start}
+use Rattle.chunk_pool.proofs.NeedLaws.{taken_for-count}
 
 chunk_fours : (chunk : ℕ) → chunk % 16 ≡ 0 → 4 * (chunk / 4) ≡ chunk
 chunk_fours chunk h = omega (arith, h)
@@ -64,7 +66,8 @@ areas_are accepted chunks image certificate pool image_is is started =
 pub areas_start : (accepted : Acceptance) (chunks : ℕ) → IsValid (lowered (accepted_tree accepted)) accepted.image accepted.certificate → IsPool (areas_at accepted chunks).pool → AreWords (areas_at accepted chunks).globals → accepted.certificate.chunk % 16 ≡ 0 →
     AreWellFormed (checked_of accepted) (areas_at accepted chunks)
 areas_start accepted chunks valid pool words aligned =
-    areas_formed (lowered (accepted_tree accepted)) accepted.image accepted.certificate (areas_at accepted chunks) valid pool words (chunk_fours accepted.certificate.chunk aligned) refl refl
+    areas_formed (lowered (accepted_tree accepted)) accepted.image accepted.certificate (areas_at accepted chunks) valid pool words
+    (first_bytes-start chunks (accepted.certificate.chunk / 4) ∙ chunk_fours accepted.certificate.chunk aligned) refl refl
 
 -- the machine world with the first thread is the started one, where it is that on each chunk that may be taken
 started_is : (A : Areas) (entry : ℕ) (context : Context) (after : Areas) (w : World) (found : Option Taken) → IsStarted found entry 0 (Some context) A after →
@@ -73,21 +76,9 @@ started_is : (A : Areas) (entry : ℕ) (context : Context) (after : Areas) (w : 
 started_is A entry context after w None h k = absurd h
 started_is A entry context after w (Some taken) h k = ap Some (k taken h.0 h.1)
 
-abbrev taken_as : Pool → ℕ → List ℕ → Taken
-taken_as p id ids = record { chunk = id; pool = record p { free = ids } }
-
--- a pool that a chunk is taken from keeps its count
-taken_count : (p : Pool) (need : ℕ) (ids : List ℕ) (taken : Taken) → taken_of p need ids ≡ Some taken → taken.pool.count ≡ p.count
-taken_count p need [] taken e = absurd (let x : None ≡ Some taken = e in cc)
-taken_count p need (id ∷ ids) taken e = by_fits (fits p need id) e
-  where
-    by_fits : (b : Bool) → (if b then Some (taken_as p id ids) else None) ≡ Some taken → taken.pool.count ≡ p.count
-    by_fits true is = let same : taken_as p id ids ≡ taken = (let x : Some (taken_as p id ids) ≡ Some taken = is in cc) in sym (ap (λ (t : Taken). t.pool.count) same)
-    by_fits false is = absurd (let x : None ≡ Some taken = is in cc)
-
 started_count : (A : Areas) (entry need : ℕ) (context : Context) (after : Areas) (found : Option Taken) → taken_for A.pool need ≡ found → IsStarted found entry 0 (Some context) A after → after.pool.count ≡ A.pool.count
 started_count A entry need context after None e h = absurd h
-started_count A entry need context after (Some taken) e h = ap (λ (a : Areas). a.pool.count) h.1 ∙ taken_count A.pool need A.pool.free taken e
+started_count A entry need context after (Some taken) e h = ap (λ (a : Areas). a.pool.count) h.1 ∙ taken_for-count A.pool need taken e
 
 -- the number of the record at a place
 numbers_at : (slots : List (Option Record)) (place : ℕ) → slice_index_or (map (option_map number_of) slots) place None ≡ option_map number_of (slice_index_or slots place None)
@@ -101,7 +92,7 @@ pub record IsMade (accepted : Acceptance) (policy : WorldPolicy) (fuel : ℕ) (s
   pub chunks : policy.chunks ≡ st.areas.pool.count
   pub kept : IsKept accepted fuel st
   pub settled : HasCome accepted fuel st st.running
-  pub machine : start_world policy.chunks (accepted.certificate.chunk / 4) accepted.image.globals accepted.image.tables (fact_at accepted.certificate (accepted_tree accepted).main).entry
+  pub machine : start_world (start_areas accepted policy) (fact_at accepted.certificate (accepted_tree accepted).main).entry
       (fact_at accepted.certificate (accepted_tree accepted).main).bound ≡ Some (machine_of fuel st)
   pub stands : StandsForWorld (checked_of accepted) (accepted_tree accepted) (machine_of fuel st) (source.start_world (accepted_tree accepted))
   pub main : slice_index_or (numbers_of st) 0 None ≡ Some 0
@@ -133,7 +124,7 @@ module _ (accepted : Acceptance) (scoped : IsWellScoped (accepted_tree accepted)
 
   module _ (policy : WorldPolicy) (fuel : ℕ) (parts : Parts) (is_policy : IsPolicy accepted policy fuel) (are_parts : AreParts accepted policy parts) (st : State) (main : ℕ) (context : Context)
       (main_is : main ≡ program.main)
-      (machine : (need : ℕ) → need ≤ payload_bytes_of parts.areas.pool 0 → IsStarted (taken_for parts.areas.pool need) (fact_at accepted.certificate main).entry 0 (Some context) parts.areas st.areas)
+      (machine : (need : ℕ) → need + 16 ≤ first_bytes parts.areas.pool → IsStarted (taken_for parts.areas.pool need) (fact_at accepted.certificate main).entry 0 (Some context) parts.areas st.areas)
       (of : AreOf accepted st.areas)
       (updates : Updates parts.records st.records parts.records.vacant_key (Some (record { number = 0; context = context })))
       (waits_are : st.waits ≡ record parts.waits { places = slice_set parts.waits.places parts.records.vacant_key (Some Wait.Fresh) })
@@ -183,8 +174,8 @@ module _ (accepted : Acceptance) (scoped : IsWellScoped (accepted_tree accepted)
     aligned : accepted.certificate.chunk % 16 ≡ 0
     aligned = (((valid.holds 1 0 1).v1 refl).chunk refl).0
 
-    fits_chunk : (fact_at accepted.certificate program.main).bound ≤ payload_bytes_of start.pool 0
-    fits_chunk = let fours = chunk_fours accepted.certificate.chunk aligned in omega (arith, fours, bound_fits)
+    fits_chunk : (fact_at accepted.certificate program.main).bound + 16 ≤ first_bytes start.pool
+    fits_chunk = let fours = chunk_fours accepted.certificate.chunk aligned in omega (arith, fours, bound_fits, first_bytes-start policy.chunks (accepted.certificate.chunk / 4))
 
     on_parts : IsStarted (taken_for parts.areas.pool (fact_at accepted.certificate program.main).bound) (fact_at accepted.certificate main).entry 0 (Some context) parts.areas st.areas
     on_parts = machine (fact_at accepted.certificate program.main).bound (rw are_parts.areas fits_chunk)
@@ -195,7 +186,7 @@ module _ (accepted : Acceptance) (scoped : IsWellScoped (accepted_tree accepted)
     chunks_is : policy.chunks ≡ st.areas.pool.count
     chunks_is = sym (started_count start (fact_at accepted.certificate program.main).entry (fact_at accepted.certificate program.main).bound context st.areas (taken_for start.pool (fact_at accepted.certificate program.main).bound) refl starts)
 
-    machine_is : start_world policy.chunks (accepted.certificate.chunk / 4) accepted.image.globals accepted.image.tables (fact_at accepted.certificate program.main).entry (fact_at accepted.certificate program.main).bound ≡ Some (machine_of fuel st)
+    machine_is : start_world (start_areas accepted policy) (fact_at accepted.certificate program.main).entry (fact_at accepted.certificate program.main).bound ≡ Some (machine_of fuel st)
     unfolding start_world
     machine_is = started_is start (fact_at accepted.certificate program.main).entry context st.areas (machine_of fuel st) (taken_for start.pool (fact_at accepted.certificate program.main).bound) starts
         (λ taken core areas j. record {
@@ -209,7 +200,7 @@ module _ (accepted : Acceptance) (scoped : IsWellScoped (accepted_tree accepted)
         })
 
     settled_is : StandsSettled (checked_of accepted) program (machine_of fuel st) (source.start_world program)
-    settled_is = starts_law program accepted.image accepted.certificate (machine_of fuel st) policy.chunks (accepted.certificate.chunk / 4) scoped valid formed machine_is
+    settled_is = starts_law program accepted.image accepted.certificate (machine_of fuel st) start scoped valid refl formed machine_is
       where
         formed : AreWellFormed (checked_of accepted) start
         formed = subst (AreWellFormed (checked_of accepted)) are_parts.areas are_parts.formed

@@ -6,9 +6,9 @@ use Rattle.std.proofs.lemmas.Bool.{cases_eq}
 use Rattle.cap_word.specs.Runs as runs
 use Rattle.cap_word.specs.declared.threads.ThreadId.{ThreadId}
 use Rattle.certificate_check.specs.Acceptance.{Acceptance}
-use Rattle.chunk_pool.specs.Pool.{chunk_of}
+use Rattle.chunk_pool.specs.Pool.{chunk_of, shape_of}
 use Rattle.machine_world.specs.Areas.{Areas}
-use Rattle.machine_world.specs.Held.{copies_in, size_of, KeepsSize}
+use Rattle.machine_world.specs.Held.{copies_in, KeepsShape}
 use Rattle.machine_world.specs.Local as local
 use Rattle.machine_world.specs.Local.{Core, Local, local_step}
 use Rattle.machine_world.specs.Places.{Checked}
@@ -16,7 +16,7 @@ use Rattle.machine_world.specs.Threads as machine
 use Rattle.machine_world.specs.Threads.{Blocked, Thread, World, Setting, first_with, thread_of, replaced, without, moved, step}
 use Rattle.machine_world.specs.WellFormed.{IsWellFormed, KeepsWellFormed}
 use Rattle.machine_world.proofs.FormWorlds.{KeepsWellFormed-step}
-use Rattle.machine_world.proofs.HeldLaws.{KeepsSize-step}
+use Rattle.machine_world.proofs.HeldLaws.{KeepsShape-step}
 use Rattle.segment_laws.specs.Ways.{WayIn, Leads}
 use Rattle.segment_run.specs.Contexts.{checked_of, code_of, core_of, local_of, chain_from, AreOf}
 use Rattle.segment_run.specs.Segments.{IsSegment, KeepsChunks}
@@ -39,6 +39,7 @@ use Rattle.thread_core.specs.declared.state.State.{State}
 use Rattle.thread_core.proofs.OtherChains.{chain_stays}
 use Rattle.thread_core.proofs.TellingLaws.{found_at, number_at}
 use Rattle.thread_waits.specs.Waiting.{wait_at}
+use Rattle.chunk_pool.proofs.ShapeLaws.{count-same}
 
 -- ---- any steps
 
@@ -46,9 +47,9 @@ formed_on : (c : Checked) (s : Setting) (n : ℕ) (w at : World) → IsWellForme
 formed_on c s zero w at formed e = subst (IsWellFormed c s) (sym e) formed
 formed_on c s (suc n) w at formed h = formed_on c s n h.0 at (subst (KeepsWellFormed c s) h.1 (KeepsWellFormed-step c s w formed)) h.2
 
-size_on : (c : Checked) (code : List ℕ) (n : ℕ) (l at : Local) → WayIn c code n l at → size_of at.areas.pool ≡ size_of l.areas.pool
-size_on c code zero l at e = ap (λ (x : Local). size_of x.areas.pool) (sym e)
-size_on c code (suc n) l at way = size_on c code n way.1.0 at way.1.2 ∙ subst (KeepsSize l) way.1.1 (KeepsSize-step code l)
+size_on : (c : Checked) (code : List ℕ) (n : ℕ) (l at : Local) → WayIn c code n l at → shape_of at.areas.pool ≡ shape_of l.areas.pool
+size_on c code zero l at e = ap (λ (x : Local). shape_of x.areas.pool) (sym e)
+size_on c code (suc n) l at way = size_on c code n way.1.0 at way.1.2 ∙ subst (KeepsShape l) way.1.1 (KeepsShape-step code l)
 
 replaced_length : (t : Thread) (threads : List Thread) → length (replaced t threads) ≡ length threads
 replaced_length t [] = refl
@@ -106,7 +107,7 @@ module _ (accepted : Acceptance) (most : ℕ) (thread : ThreadId) (old : State) 
   goes_at : (steps spare : ℕ) (at : Local) → Leads (checked_of accepted) (code_of accepted) steps (local_of old.areas r.context) at → steps + spare ≡ old.fuel.left → GoesOn setting steps world (after_silent world runner at steps)
   goes_at steps spare at leads sum = goes_on (checked_of accepted) setting world runner at steps kept.formed.counted runs_there found (omega (arith, sum, kept.fuel)) leads
 
-  module _ (areas : Areas) (of : AreOf accepted areas) (others : (chunk : ℕ) → copies_in chunk (local_of old.areas r.context) ≡ 0 → chunk_of areas.pool chunk ≡ chunk_of old.areas.pool chunk)
+  module _ (areas : Areas) (of : AreOf accepted areas) (shape : shape_of areas.pool ≡ shape_of old.areas.pool) (others : (chunk : ℕ) → copies_in chunk (local_of old.areas r.context) ≡ 0 → chunk_of areas.pool chunk ≡ chunk_of old.areas.pool chunk)
       (fuel : Fuel) (records : Slab Record) (rest : (place : ℕ) → place ≢ thread.slot → get records place ≡ get old.records place) where
     abbrev clock : ℕ
     clock = old.waits.clock + (old.fuel.left - fuel.left)
@@ -115,8 +116,7 @@ module _ (accepted : Acceptance) (most : ℕ) (thread : ThreadId) (old : State) 
     kept_thread k s apart e =
         let all : AllByRecursion (λ chunk. chunk_of areas.pool chunk ≡ chunk_of old.areas.pool chunk) (chain_from old.areas.pool s.context.chunk s.context.depth) =
         segment_keeps world r.number s.number runner (thread_of_record old.areas.pool old.waits k s) areas.pool kept.formed.counted found (found_at accepted most old kept k s e) (other_number k s e apart) others in
-        let words : areas.pool.words ≡ old.areas.pool.words = omega (arith, of.chunk, kept.areas.chunk) in
-        ap (with_chain s (blocked_of (wait_at old.waits k))) (chain_stays old.areas.pool areas.pool s.context.chunk s.context.depth words all)
+        ap (with_chain s (blocked_of (wait_at old.waits k))) (chain_stays old.areas.pool areas.pool s.context.chunk s.context.depth shape all)
 
     keeps : KeepsRecords (thread_of_record old.areas.pool old.waits) (thread_of_record areas.pool (record old.waits { clock = clock })) old.records.slots records.slots thread.slot
     keeps = record { records = rest; threads = kept_thread }
@@ -182,13 +182,13 @@ module _ (accepted : Acceptance) (most : ℕ) (thread : ThreadId) (old : State) 
           let whole : steps + fuel.left ≡ old.fuel.left = ap (λ (n : ℕ). steps + n) left ∙ sum in
           let here : Leads (checked_of accepted) (code_of accepted) steps (local_of old.areas r.context) (local_of areas context) = subst (Leads (checked_of accepted) (code_of accepted) steps (local_of old.areas r.context)) (sym is) leads in
           let goes : GoesOn setting steps world (machine_of most went) = subst (GoesOn setting steps world) (world_is steps whole) (goes_at steps fuel.left (local_of areas context) here whole) in
-          let size : size_of areas.pool ≡ size_of old.areas.pool = size_on (checked_of accepted) (code_of accepted) steps (local_of old.areas r.context) (local_of areas context) here.way in
+          let size : shape_of areas.pool ≡ shape_of old.areas.pool = size_on (checked_of accepted) (code_of accepted) steps (local_of old.areas r.context) (local_of areas context) here.way in
           let formed : IsWellFormed (checked_of accepted) setting (machine_of most went) = formed_on (checked_of accepted) setting steps world (machine_of most went) kept.formed goes in
           record {
             steps = steps;
             goes_on = goes;
             runs = record { kept = went_kept steps whole formed; is = may.runs.is; going = may.runs.going };
-            rest = record { caps = refl; backlog = refl; chunks = ap (λ (s : ℕ × ℕ). s.0) size; begun = refl };
+            rest = record { caps = refl; backlog = refl; chunks = count-same old.areas.pool areas.pool size; begun = refl };
             same = λ place. number_by place (cases_eq place thread.slot);
             less = omega (arith, whole);
             next = λ x e.
@@ -260,8 +260,8 @@ module _ (accepted : Acceptance) (most : ℕ) (thread : ThreadId) (old : State) 
           let stepped : step setting before ≡ machine.Ends (machine_of most left_by) = turns ∙ ap (λ (w : World). machine.Ends w) is in
           let formed_before : IsWellFormed (checked_of accepted) setting before = formed_on (checked_of accepted) setting steps world before kept.formed goes in
           let formed : IsWellFormed (checked_of accepted) setting (machine_of most left_by) = subst (KeepsWellFormed (checked_of accepted) setting) stepped (KeepsWellFormed-step (checked_of accepted) setting before formed_before) in
-          let size_at : size_of at.areas.pool ≡ size_of old.areas.pool = size_on (checked_of accepted) (code_of accepted) steps (local_of old.areas r.context) at leads.way in
-          let size : size_of areas.pool ≡ size_of old.areas.pool = subst (KeepsSize at) ends (KeepsSize-step (code_of accepted) at) ∙ size_at in
+          let size_at : shape_of at.areas.pool ≡ shape_of old.areas.pool = size_on (checked_of accepted) (code_of accepted) steps (local_of old.areas r.context) at leads.way in
+          let size : shape_of areas.pool ≡ shape_of old.areas.pool = subst (KeepsShape at) ends (KeepsShape-step (code_of accepted) at) ∙ size_at in
           record {
             steps = steps;
             at = before;
@@ -280,7 +280,7 @@ module _ (accepted : Acceptance) (most : ℕ) (thread : ThreadId) (old : State) 
             };
             is = refl;
             going = may.runs.going;
-            rest = record { caps = refl; backlog = refl; chunks = ap (λ (s : ℕ × ℕ). s.0) size; begun = refl };
+            rest = record { caps = refl; backlog = refl; chunks = count-same old.areas.pool areas.pool size; begun = refl };
             places = places_left;
           }
 
@@ -314,14 +314,14 @@ module _ (accepted : Acceptance) (most : ℕ) (thread : ThreadId) (old : State) 
     (areas : Areas) (context : Context) (fuel : Fuel) (of : AreOf accepted areas) (chunks : KeepsChunks (local_of old.areas r.context) (local_of areas context))
     (records : Slab Record) (rest : (place : ℕ) → place ≢ thread.slot → get records place ≡ get old.records place) where
   pub ran_on : (segment : Segment) → (segment ≡ answer.Ends → ⊥) → IsSegment (checked_of accepted) (code_of accepted) segment (local_of old.areas r.context) old.fuel.left (local_of areas context) fuel.left →
-      (written : get records thread.slot ≡ Some (record r { context = context })) → Ran accepted most thread old segment (went accepted most thread old may r there areas of chunks.others fuel records rest context written)
+      (written : get records thread.slot ≡ Some (record r { context = context })) → Ran accepted most thread old segment (went accepted most thread old may r there areas of chunks.shape chunks.others fuel records rest context written)
   ran_on answer.Ends goes is written = absurd (goes refl)
-  ran_on (answer.Blocks block) goes is written = ran_to accepted most thread old may r there areas of chunks.others fuel records rest context written (answer.Blocks block) is.steps is.spare is.at is.leads is.fuel is.end.3 is.end.2 is.end.1 is.end.0
-  ran_on (answer.Asks ask) goes is written = ran_to accepted most thread old may r there areas of chunks.others fuel records rest context written (answer.Asks ask) is.steps is.spare is.at is.leads is.fuel is.end.3 is.end.2 is.end.1 is.end.0
-  ran_on (answer.Traps kind) goes is written = ran_to accepted most thread old may r there areas of chunks.others fuel records rest context written (answer.Traps kind) is.steps is.spare is.at is.leads is.fuel is.end.3 is.end.2 is.end.1 is.end.0
-  ran_on answer.NoChunk goes is written = ran_to accepted most thread old may r there areas of chunks.others fuel records rest context written answer.NoChunk is.steps is.spare is.at is.leads is.fuel is.end.4 is.end.3 is.end.1 is.end.0
-  ran_on answer.OutOfFuel goes is written = ran_to accepted most thread old may r there areas of chunks.others fuel records rest context written answer.OutOfFuel is.steps is.spare is.at is.leads is.fuel (is.end.2 ∙ sym is.end.0) is.end.1 tt is.end.0
+  ran_on (answer.Blocks block) goes is written = ran_to accepted most thread old may r there areas of chunks.shape chunks.others fuel records rest context written (answer.Blocks block) is.steps is.spare is.at is.leads is.fuel is.end.3 is.end.2 is.end.1 is.end.0
+  ran_on (answer.Asks ask) goes is written = ran_to accepted most thread old may r there areas of chunks.shape chunks.others fuel records rest context written (answer.Asks ask) is.steps is.spare is.at is.leads is.fuel is.end.3 is.end.2 is.end.1 is.end.0
+  ran_on (answer.Traps kind) goes is written = ran_to accepted most thread old may r there areas of chunks.shape chunks.others fuel records rest context written (answer.Traps kind) is.steps is.spare is.at is.leads is.fuel is.end.3 is.end.2 is.end.1 is.end.0
+  ran_on answer.NoChunk goes is written = ran_to accepted most thread old may r there areas of chunks.shape chunks.others fuel records rest context written answer.NoChunk is.steps is.spare is.at is.leads is.fuel is.end.4 is.end.3 is.end.1 is.end.0
+  ran_on answer.OutOfFuel goes is written = ran_to accepted most thread old may r there areas of chunks.shape chunks.others fuel records rest context written answer.OutOfFuel is.steps is.spare is.at is.leads is.fuel (is.end.2 ∙ sym is.end.0) is.end.1 tt is.end.0
 
   pub ran_off : IsSegment (checked_of accepted) (code_of accepted) answer.Ends (local_of old.areas r.context) old.fuel.left (local_of areas context) fuel.left →
-      (gone : get records thread.slot ≡ None) → Ran accepted most thread old answer.Ends (left_by accepted most thread old may r there areas of chunks.others fuel records rest gone)
-  ran_off is gone = ran_out accepted most thread old may r there areas of chunks.others fuel records rest gone is.steps is.spare is.at is.leads is.fuel is.end.2 is.end.0
+      (gone : get records thread.slot ≡ None) → Ran accepted most thread old answer.Ends (left_by accepted most thread old may r there areas of chunks.shape chunks.others fuel records rest gone)
+  ran_off is gone = ran_out accepted most thread old may r there areas of chunks.shape chunks.others fuel records rest gone is.steps is.spare is.at is.leads is.fuel is.end.2 is.end.0

@@ -83,7 +83,7 @@ module _ (accepted : Acceptance) (most : ℕ) (st : State) (thread : ThreadId) (
   chunks_kept k x e = kept_starting (checked_of accepted) s (machine_of most st) x.number _ tk.taken (thread_of_record st.areas.pool st.waits k x) runs.kept.formed tk.is (found_at k x e)
 
   chain_kept : (k : ℕ) (x : Record) → get st.records k ≡ Some x → chain_from pool x.context.chunk x.context.depth ≡ chain_from st.areas.pool x.context.chunk x.context.depth
-  chain_kept k x e = let kept = chunks_kept k x e in chain_stays st.areas.pool pool x.context.chunk x.context.depth kept.size kept.words
+  chain_kept k x e = let kept = chunks_kept k x e in chain_stays st.areas.pool pool x.context.chunk x.context.depth kept.shape kept.words
 
   -- ---- the thread that spawns rests there still
 

@@ -2,15 +2,15 @@
 use Rattle.std.specs.Prelude.{◌≡◌, ◌/◌, ◌≤◌, [], ◌∷◌, None}
 use Rattle.c_mean.specs.World.{empty_exchange}
 use Rattle.certificate_check.specs.Acceptance.{Acceptance}
-use Rattle.chunk_pool.specs.Pool.{start_pool}
 use Rattle.machine_world.specs.WellFormed.{AreWellFormed}
 use Rattle.segment_run.specs.Contexts.{checked_of}
 use Rattle.thread_core.specs.declared.making.Parts.{Parts}
 use Rattle.thread_core.specs.declared.policy.WorldPolicy.{WorldPolicy}
+use Rattle.thread_core.specs.Making.{start_areas}
 
 -- every chunk is free, the globals and tables are the image's, nothing waits and nothing is used, and there is room for a record
 pub record AreParts (accepted : Acceptance) (policy : WorldPolicy) (parts : Parts) : Type 0 where
-  pub areas : parts.areas ≡ record { pool = start_pool policy.chunks (accepted.certificate.chunk / 4); globals = accepted.image.globals; tables = accepted.image.tables }
+  pub areas : parts.areas ≡ start_areas accepted policy
   pub formed : AreWellFormed (checked_of accepted) parts.areas
   pub exchange : parts.exchange ≡ record { caps = policy.caps; backlog = policy.backlog; exchange = empty_exchange }
   pub waits : parts.waits ≡ record { places = None ∷ []; clock = 0 }

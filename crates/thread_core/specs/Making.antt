@@ -17,6 +17,8 @@ use Rattle.thread_core.specs.declared.policy.WorldPolicy.{WorldPolicy}
 use Rattle.thread_core.specs.declared.outside.Delivered.{Delivered}
 use Rattle.thread_core.specs.declared.turns.WorldError.{WorldError}
 use Rattle.thread_core.specs.declared.turns.WorldError.TheVariants.{Memory}
+use Rattle.chunk_pool.specs.Pool.{start_pool}
+use Rattle.machine_world.specs.Areas.{Areas}
 
 -- the policy is in its ranges, and the pool in its limit
 pub record IsPolicy (accepted : Acceptance) (policy : WorldPolicy) (fuel : ℕ) : Type 0 where
@@ -28,13 +30,20 @@ pub record IsPolicy (accepted : Acceptance) (policy : WorldPolicy) (fuel : ℕ) 
   pub most : fuel ≤ 1000000000
   pub pool : policy.chunks * accepted.certificate.chunk ≤ 67108864
 
+-- the areas in which a run of an accepted program under a policy starts: a new pool, and what the image has
+abbrev pub start_areas : Acceptance → WorldPolicy → Areas
+start_areas accepted policy = record {
+  pool = start_pool policy.chunks (accepted.certificate.chunk / 4);
+  globals = accepted.image.globals;
+  tables = accepted.image.tables;
+}
+
 -- what a run of an accepted program under a policy starts with: the machine's start and the source's
 pub record IsStart (accepted : Acceptance) (policy : WorldPolicy) (fuel : ℕ) (held : Held) : Type 0 where
   pub accepted_is : held.accepted ≡ accepted
   pub setting : held.setting ≡ record { code = code_of accepted; fuel = fuel; backlog = policy.backlog; caps = policy.caps }
   pub machine :
-      start_world policy.chunks (accepted.certificate.chunk / 4) accepted.image.globals accepted.image.tables
-      (fact_at accepted.certificate (accepted_tree accepted).main).entry (fact_at accepted.certificate (accepted_tree accepted).main).bound ≡ Some held.machine
+      start_world (start_areas accepted policy) (fact_at accepted.certificate (accepted_tree accepted).main).entry (fact_at accepted.certificate (accepted_tree accepted).main).bound ≡ Some held.machine
   pub formed : IsWellFormed (checked_of accepted) held.setting held.machine
   pub stands : StandsForWorld (checked_of accepted) (accepted_tree accepted) held.machine (source.start_world (accepted_tree accepted))
   pub main : IsThread held (record { slot = 0; number = 0 })

@@ -6,6 +6,7 @@ use Rattle.certificate_check.specs.Acceptance.{Acceptance}
 use Rattle.cap_word.specs.declared.threads.ThreadId.{ThreadId}
 use Rattle.machine_world.specs.Threads.{World, Setting, thread_of}
 use Rattle.thread_core.specs.declared.turns.Turn.{Turn}
+use Rattle.chunk_pool.specs.Pool.{free_count}
 
 pub record Held : Type 0 where
   pub accepted : Acceptance
@@ -34,7 +35,7 @@ segment_cost held = held.machine.cost - held.begun
 
 -- the use of a resource; of resource 0 it is the number of held chunks
 abbrev pub used_in : World → ℕ → ℕ
-used_in w r = if nat_eq r 0 then w.areas.pool.count - length w.areas.pool.free else use_of w.exchange r
+used_in w r = if nat_eq r 0 then w.areas.pool.count - free_count w.areas.pool else use_of w.exchange r
 
 -- its cap; of resource 0 it is the number of chunks
 abbrev pub cap_in : Held → ℕ → ℕ

@@ -1,5 +1,5 @@
 ghost use Rattle.std.specs.Prelude.{◌≡◌, ◌<◌, ◌≤◌, length};
-ghost use Rattle.chunk_pool.specs.Pool.{word_of};
+ghost use Rattle.chunk_pool.specs.Pool.{word_of, free_count, words_of};
 ghost use Rattle.thread_core.specs.Ready.{is_ready_in, is_at_accept_in, any_ready_in, any_elsewhere_in, IsWake};
 ghost use Rattle.thread_core.specs.Worlds.{used_in, cap_in};
 
@@ -58,7 +58,7 @@ impl World {
 
     /// How many chunks are free.
     pub fn free(&self) -> u32
-        ensures { result ≡ length self.now.machine.areas.pool.free }
+        ensures { result ≡ free_count self.now.machine.areas.pool }
     {
         self.state.areas.pool().free()
     }
@@ -104,7 +104,7 @@ impl World {
 
     /// How many words a chunk has.
     pub fn chunk_words(&self) -> u32
-        ensures { result ≡ self.now.machine.areas.pool.words }
+        ensures { (chunk : ℕ) → chunk < self.now.machine.areas.pool.count → result ≡ words_of self.now.machine.areas.pool chunk }
     {
         self.accepted.certificate().chunk / 4
     }
@@ -112,7 +112,7 @@ impl World {
     /// A word of a chunk.
     pub fn word_at(&self, chunk: u32, word: u32) -> u32
         requires chunk { chunk < self.now.machine.areas.pool.count }
-        requires word { word < self.now.machine.areas.pool.words }
+        requires word { word < words_of self.now.machine.areas.pool chunk }
         ensures { result ≡ word_of self.now.machine.areas.pool chunk word }
     {
         self.state.areas.pool().read(chunk, word)

@@ -15,7 +15,7 @@ use Rattle.c_tree.specs.Trees.{ProgramTree}
 use Rattle.c_tree.specs.WellScoped.{IsWellScoped}
 use Rattle.certificate_rules.specs.Rules.{starting_words}
 use Rattle.certificate_rules.specs.Validity.{IsValid}
-use Rattle.chunk_pool.specs.Pool.{Pool, Taken, taken_for, start_pool}
+use Rattle.chunk_pool.specs.Pool.{Pool, Taken, taken_for}
 use Rattle.lower_meaning.proofs.Steps.{params_at}
 use Rattle.machine_world.specs.Areas.{Areas}
 use Rattle.machine_world.specs.Globals.{AreGlobals}
@@ -96,27 +96,24 @@ globals_start program image certificate valid = record {
   joined = starts_joined program.globals ∙ sym (same_words image.globals (starting_words (lowered program)) (λ i. ((valid.holds 12 0 i).v12 refl).word));
 }
 
-abbrev start_areas : Image → ℕ → ℕ → Areas
-start_areas image chunks words = record { pool = start_pool chunks words; globals = image.globals; tables = image.tables }
-
 -- a world of one thread
 first_thread : (P : Option Thread → Option Rest → Type 0) (thread : Thread) (rest : Rest) → thread.number ≡ 0 → P (Some thread) (Some rest) → P None None → (n : ℕ) → P (first_with n (thread ∷ [])) (slice_get (rest ∷ []) n)
 first_thread P thread rest is some none zero = subst (λ (o : Option Thread). P o (Some rest)) (sym (cond-true (nat_eq thread.number 0) (Some thread) None (eq-eqb thread.number 0 is))) some
 first_thread P thread rest is some none (suc n) = subst (λ (o : Option Thread). P o None) (sym (cond-false (nat_eq thread.number (suc n)) (Some thread) None (ne_eqb thread.number (suc n) (λ e. omega (arith, e, is))))) none
 
-starts_on : (program : ProgramTree) (image : Image) (certificate : Certificate) (w : World) (chunks words : ℕ) (found : Option Taken) → IsWellScoped program → IsValid (lowered program) image certificate → AreWellFormed (record { flat = lowered program; certificate = certificate }) (start_areas image chunks words)
-    → taken_for (start_pool chunks words) (fact_at certificate program.main).bound ≡ found → started_on (empty_world (start_areas image chunks words)) (fact_at certificate program.main).entry found ≡ Some w
+starts_on : (program : ProgramTree) (image : Image) (certificate : Certificate) (w : World) (areas : Areas) (found : Option Taken) → IsWellScoped program → IsValid (lowered program) image certificate → areas.globals ≡ image.globals → AreWellFormed (record { flat = lowered program; certificate = certificate }) areas
+    → taken_for areas.pool (fact_at certificate program.main).bound ≡ found → started_on (empty_world areas) (fact_at certificate program.main).entry found ≡ Some w
     → StandsSettled (record { flat = lowered program; certificate = certificate }) program w (source.start_world program)
-starts_on program image certificate w chunks words None scoped valid formed taken e = absurd (let none : no_world ≡ Some w = e in cc)
-starts_on program image certificate w chunks words (Some taken) scoped valid formed found e =
+starts_on program image certificate w areas None scoped valid same_globals formed taken e = absurd (let none : no_world ≡ Some w = e in cc)
+starts_on program image certificate w areas (Some taken) scoped valid same_globals formed found e =
     let c : Checked = record { flat = lowered program; certificate = certificate } in
-    let first = with_thread (empty_world (start_areas image chunks words)) taken (fact_at certificate program.main).entry 0 in
+    let first = with_thread (empty_world areas) taken (fact_at certificate program.main).entry 0 in
     let same : first ≡ w = cc in
     let there : program.main < length (lowered program).functions = (let main = scoped.main_defined in omega (arith, main, length-map program.functions lowered_function)) in
     let signed = (let main = scoped.main_defined in params_at program program.main (omega (arith, main, length-map program.functions Rattle.c_tree.specs.WellScoped.signature_of))) in
     let params : length {A = ℕ} [] ≡ (function_at program program.main).params = sym (sym signed ∙ scoped.main_params) in
-    let globals = globals_start program image certificate valid in
-    let new = new_stands program image certificate scoped valid (start_areas image chunks words) taken (fact_at certificate program.main).bound program.main 0 [] (start_globals program) formed found there (omega arith) params (λ k lt. absurd (omega (arith, lt))) globals in
+    let globals = subst (AreGlobals (lowered program) (start_globals program)) (sym same_globals) (globals_start program image certificate valid) in
+    let new = new_stands program image certificate scoped valid areas taken (fact_at certificate program.main).bound program.main 0 [] (start_globals program) formed found there (omega arith) params (λ k lt. absurd (omega (arith, lt))) globals in
     let thread : Thread = record { number = 0; core = start_core taken (fact_at certificate program.main).entry 0; blocked = None } in
     subst (λ (v : World). StandsSettled c program v (source.start_world program)) same (record {
       stands = record {
@@ -129,10 +126,10 @@ starts_on program image certificate w chunks words (Some taken) scoped valid for
       settled = record { between = refl; threads = first_thread (λ (o : Option Thread) (rest : Option Rest). IsSettledIf c first.areas.pool o) thread (source.Fresh program.main []) refl (AtStart program.main new.frames new.in_place, new.single) tt };
     })
 
-pub starts_law : (program : ProgramTree) (image : Image) (certificate : Certificate) (w : World) (chunks words : ℕ) → IsWellScoped program → IsValid (lowered program) image certificate → AreWellFormed (record { flat = lowered program; certificate = certificate }) (start_areas image chunks words)
-    → start_world chunks words image.globals image.tables (fact_at certificate program.main).entry (fact_at certificate program.main).bound ≡ Some w → StandsSettled (record { flat = lowered program; certificate = certificate }) program w (source.start_world program)
+pub starts_law : (program : ProgramTree) (image : Image) (certificate : Certificate) (w : World) (areas : Areas) → IsWellScoped program → IsValid (lowered program) image certificate → areas.globals ≡ image.globals → AreWellFormed (record { flat = lowered program; certificate = certificate }) areas
+    → start_world areas (fact_at certificate program.main).entry (fact_at certificate program.main).bound ≡ Some w → StandsSettled (record { flat = lowered program; certificate = certificate }) program w (source.start_world program)
 unfolding start_world
-starts_law program image certificate w chunks words scoped valid formed e = starts_on program image certificate w chunks words (taken_for (start_pool chunks words) (fact_at certificate program.main).bound) scoped valid formed refl e
+starts_law program image certificate w areas scoped valid same_globals formed e = starts_on program image certificate w areas (taken_for areas.pool (fact_at certificate program.main).bound) scoped valid same_globals formed refl e
 
 -- ---- some source world
 

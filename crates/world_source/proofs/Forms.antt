@@ -10,13 +10,13 @@ use Rattle.flat_code.specs.WellFormed as flat
 use Rattle.machine_world.specs.Alone.{KeepsChunk}
 use Rattle.machine_world.specs.Areas.{Areas}
 use Rattle.machine_world.specs.Chains.{copies}
-use Rattle.machine_world.specs.Held.{copies_in, size_of, KeepsSize}
+use Rattle.machine_world.specs.Held.{copies_in, KeepsShape}
 use Rattle.machine_world.specs.Local.{Local, Ended, local_step}
 use Rattle.machine_world.specs.Places.{Checked}
 use Rattle.machine_world.specs.StandsForWorld.{StandsForRest}
 use Rattle.machine_world.specs.Threads.{Thread, World, Setting, first_with, thread_of}
 use Rattle.machine_world.specs.WellFormed.{IsCore, IsWellFormed}
-use Rattle.machine_world.proofs.HeldLaws.{KeepsSize-step}
+use Rattle.machine_world.proofs.HeldLaws.{KeepsShape-step}
 use Rattle.segment_around.proofs.Untouched.{keeps_step}
 use Rattle.segment_laws.specs.Ways.{HasForm, IsGoodState}
 use Rattle.threads_stay.specs.Kept.{KeepsChunks}
@@ -58,20 +58,12 @@ elsewhere c s w number other t v chunk formed found too apart some =
 
 -- ---- a step leaves the chunks of the others
 
-size_count : (one other : Pool) → size_of one ≡ size_of other → one.count ≡ other.count
-size_count one other e = ap (λ (s : ℕ × ℕ). s.0) e
-
-size_words : (one other : Pool) → size_of one ≡ size_of other → one.words ≡ other.words
-size_words one other e = ap (λ (s : ℕ × ℕ). s.1) e
-
 pub kept_going : (c : Checked) (s : Setting) (w : World) (number other : ℕ) (t v : Thread) (next : Local) → flat.IsWellFormed c.flat → IsWellFormed c s w → IsGoodState c s.code (local_in w t) → thread_of w number ≡ Some t → thread_of w other ≡ Some v → other ≢ number
     → local_step s.code (local_in w t) ≡ Goes next → KeepsChunks w.areas.pool next.areas.pool v.core.chain
 kept_going c s w number other t v next well formed good found too apart e =
     let l = local_in w t in
-    let size : KeepsSize l (Goes next) = subst (KeepsSize l) e (KeepsSize-step s.code l) in
     record {
-      count = size_count next.areas.pool w.areas.pool size;
-      size = size_words next.areas.pool w.areas.pool size;
+      shape = subst (KeepsShape l) e (KeepsShape-step s.code l);
       words = each_chunk (λ chunk. chunk_of next.areas.pool chunk ≡ chunk_of w.areas.pool chunk) v.core.chain
           (λ chunk some. subst (KeepsChunk chunk l) e (keeps_step c s.code l chunk well (has_form c s w number t formed found) good (elsewhere c s w number other t v chunk formed found too apart some)));
     }
@@ -80,10 +72,8 @@ pub kept_ending : (c : Checked) (s : Setting) (w : World) (number other : ℕ) (
     → local_step s.code (local_in w t) ≡ Stops (Ended areas) → KeepsChunks w.areas.pool areas.pool v.core.chain
 kept_ending c s w number other t v areas well formed good found too apart e =
     let l = local_in w t in
-    let size : KeepsSize l (Stops (Ended areas)) = subst (KeepsSize l) e (KeepsSize-step s.code l) in
     record {
-      count = size_count areas.pool w.areas.pool size;
-      size = size_words areas.pool w.areas.pool size;
+      shape = subst (KeepsShape l) e (KeepsShape-step s.code l);
       words = each_chunk (λ chunk. chunk_of areas.pool chunk ≡ chunk_of w.areas.pool chunk) v.core.chain
           (λ chunk some. subst (KeepsChunk chunk l) e (keeps_step c s.code l chunk well (has_form c s w number t formed found) good (elsewhere c s w number other t v chunk formed found too apart some)));
     }

@@ -9,8 +9,8 @@ use Rattle.c_mean.specs.Frames.{function_at, pushed}
 use Rattle.c_tree.specs.Trees.{ProgramTree}
 use Rattle.c_tree.specs.WellScoped.{IsWellScoped}
 use Rattle.certificate_rules.specs.Validity.{IsValid}
-use Rattle.chunk_pool.specs.Pool.{Pool, Taken, taken_for, chunk_of, with_word}
-use Rattle.chunk_pool.proofs.NeedLaws.{taken_for-leaves, taken_for-keeps}
+use Rattle.chunk_pool.specs.Pool.{Pool, Taken, taken_for, chunk_of, with_word, all_free}
+use Rattle.chunk_pool.proofs.NeedLaws.{taken_for-leaves, taken_for-keeps, taken_for-shape}
 use Rattle.flat_code.specs.Codes as codes
 use Rattle.flat_code.specs.Frames as flats
 use Rattle.flat_code.specs.Frames.{FlatFrame}
@@ -49,10 +49,10 @@ header_other : (p : Pool) (chunk tp_now sp_now other : ℕ) → other ≢ chunk 
 header_other p chunk tp_now sp_now other apart = get_or-set_other (with_word p chunk 0 tp_now).contents chunk other _ [] apart ∙ get_or-set_other p.contents chunk other _ [] apart
 
 -- a chunk that was taken was free
-taken_free : (p : Pool) (need : ℕ) (taken : Taken) → taken_for p need ≡ Some taken → 0 < copies taken.chunk p.free
+taken_free : (p : Pool) (need : ℕ) (taken : Taken) → taken_for p need ≡ Some taken → 0 < copies taken.chunk (all_free p)
 taken_free p need taken e =
     let left = taken_for-leaves p need taken e taken.chunk in
-    let first : copies taken.chunk (taken.chunk ∷ taken.pool.free) ≡ cond (nat_eq taken.chunk taken.chunk) 1 0 + copies taken.chunk taken.pool.free = sum_by-cons (λ (other : ℕ). cond (nat_eq other taken.chunk) 1 0) taken.chunk taken.pool.free in
+    let first : copies taken.chunk (taken.chunk ∷ all_free taken.pool) ≡ cond (nat_eq taken.chunk taken.chunk) 1 0 + copies taken.chunk (all_free taken.pool) = sum_by-cons (λ (other : ℕ). cond (nat_eq other taken.chunk) 1 0) taken.chunk (all_free taken.pool) in
     let one : ◌≡◌ {A = ℕ} (cond (nat_eq taken.chunk taken.chunk) 1 0) 1 = cond-true (nat_eq taken.chunk taken.chunk) 1 0 (eq-eqb taken.chunk taken.chunk refl) in
     omega (arith, left, first, one)
 
@@ -60,15 +60,14 @@ pub kept_starting : (c : Checked) (s : Setting) (w : World) (number need : ℕ) 
 kept_starting c s w number need taken v formed e found =
     let keeps = taken_for-keeps w.areas.pool need taken e in
     record {
-      count = ap (λ (p : Pool). p.count) keeps;
-      size = ap (λ (p : Pool). p.words) keeps;
+      shape = taken_for-shape w.areas.pool need taken e;
       words = each_chunk (λ chunk. chunk_of (with_header taken.pool taken.chunk 0 0) chunk ≡ chunk_of w.areas.pool chunk) v.core.chain
           (λ chunk some. header_other taken.pool taken.chunk 0 0 chunk
           (λ (same : chunk ≡ taken.chunk). (let held = held_one chunk number w.threads v found in
           let all = formed.counted.partition chunk in
           let most = at_most_one (ltb chunk w.areas.pool.count) in
           let free = taken_free w.areas.pool need taken e in
-          let equal : copies chunk w.areas.pool.free ≡ copies taken.chunk w.areas.pool.free = ap (λ (k : ℕ). copies k w.areas.pool.free) same in
+          let equal : copies chunk (all_free w.areas.pool) ≡ copies taken.chunk (all_free w.areas.pool) = ap (λ (k : ℕ). copies k (all_free w.areas.pool)) same in
           omega (arith, held, all, most, free, equal, some)))
           ∙ ap (λ (p : Pool). chunk_of p chunk) keeps);
     }

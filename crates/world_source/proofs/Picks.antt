@@ -93,7 +93,7 @@ kept_stack core result = record {
 }
 
 kept_pool : (pool : Pool) (chain : List ℕ) → KeepsChunks pool pool chain
-kept_pool pool chain = record { count = refl; size = refl; words = all chain }
+kept_pool pool chain = record { shape = refl; words = all chain }
   where
     all : (chain : List ℕ) → AllByRecursion (λ chunk. chunk_of pool chunk ≡ chunk_of pool chunk) chain
     all [] = tt

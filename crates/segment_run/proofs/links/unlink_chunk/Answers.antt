@@ -1,4 +1,4 @@
-use Rattle.std.proofs.Common.{◌≡◌, ◌-◌, ◌≤◌, refl, sym, ap, subst, ◌∙◌, set}
+use Rattle.std.proofs.Common.{◌≡◌, ◌-◌, ◌≤◌, refl, sym, ap, subst, ◌∙◌, set, arith}
 use Rattle.cap_word.specs.Runs.{Goes}
 use Rattle.chunk_pool.specs.Pool.{after_give, chunk_at}
 use Rattle.machine_world.specs.Areas.{Areas}
@@ -8,8 +8,9 @@ use Rattle.segment_laws.specs.Ways.{Owns}
 use Rattle.segment_run.specs.Contexts.{chunk_below}
 use Rattle.segment_run.specs.Kept.{areas_of}
 use Rattle.segment_run.specs.Turns.{thread_of}
-use Rattle.segment_run.proofs.Linking.{HasFront, front_of, front_held, unlink_goes, next_found}
+use Rattle.segment_run.proofs.Linking.{HasFront, front_of, front_held, unlink_goes, next_found, innermost_held}
 use Rattle.segment_run.proofs.links.unlink.Goals as goal
+use Rattle.chunk_pool.proofs.ShapeLaws.{words_of-payload}
 
 pub read-tp-requires-clause-id_in_range : goal.read-tp-requires-clause-id_in_range
 read-tp-requires-clause-id_in_range c =
@@ -54,3 +55,19 @@ returns c =
       chunk = c.chunk_or-thread.result;
       depth = thread.depth - 1;
     })))
+
+pub read-tp-requires-clause-word_in_range : goal.read-tp-requires-clause-word_in_range
+read-tp-requires-clause-word_in_range c =
+    let old = areas_of c.areas.inside in
+    let thread = c.args.thread.now in
+    let owns = subst (λ (a : Areas). Owns (thread_of a thread)) (sym c.areas.view_is) c.requires.owns in
+    let front = subst (λ (a : Areas). TpIsFront a.pool (thread_of a thread).core (thread_of a thread).core.chain) (sym c.areas.view_is) c.requires.front in
+    omega (arith, words_of-payload old.pool thread.chunk c.areas.invariant.pool (innermost_held old thread owns front).0)
+
+pub read-sp-requires-clause-word_in_range : goal.read-sp-requires-clause-word_in_range
+read-sp-requires-clause-word_in_range c =
+    let old = areas_of c.areas.inside in
+    let thread = c.args.thread.now in
+    let owns = subst (λ (a : Areas). Owns (thread_of a thread)) (sym c.areas.view_is) c.requires.owns in
+    let front = subst (λ (a : Areas). TpIsFront a.pool (thread_of a thread).core (thread_of a thread).core.chain) (sym c.areas.view_is) c.requires.front in
+    omega (arith, words_of-payload old.pool thread.chunk c.areas.invariant.pool (innermost_held old thread owns front).0)

@@ -1,7 +1,7 @@
 use Rattle.std.proofs.Common.{◌≡◌, ◌<◌, ◌≤◌, sym, ap, ◌∙◌, arith, length}
 use Rattle.c_lower.specs.ProgramCode.{lowered}
 use Rattle.certificate_check.specs.Accepting.{accepted_tree}
-use Rattle.chunk_pool.specs.Pool.{Pool}
+use Rattle.chunk_pool.specs.Pool.{free_count}
 use Rattle.machine_world.specs.Threads.{most_threads}
 use Rattle.segment_run.proofs.Calls.{as_many}
 use Rattle.cap_word.specs.declared.stops.Stop.{Stop}
@@ -19,14 +19,14 @@ returns-then-self-ge-MOST_THREADS c =
 pub returns-then-free-eq0 : goal.returns-then-free-eq0
 returns-then-free-eq0 c =
     let few : c.args.self.now.live < most_threads = omega (arith, c.if-self-ge-MOST_THREADS.false) in
-    let none : length c.args.self.now.areas.pool.free ≡ 0 = ap (λ (p : Pool). length p.free) (sym c.pool.ensures) ∙ sym c.free.ensures.count ∙ c.if-free-eq0.true in
+    let none : free_count c.args.self.now.areas.pool ≡ 0 = ap free_count (sym c.pool.ensures) ∙ sym c.free.ensures.count ∙ c.if-free-eq0.true in
     let told = stop_told c.args.accepted.now c.args.most c.args.self.now c.args.thread c.requires.runs Stop.NoChunk (spawning.empty c.args.accepted.now c.args.most c.args.self.now c.args.thread c.requires.runs c.requires.fuel c.args.function c.args.argument c.requires.at c.image-image.ensures.valid few none) in
     rw (c.cut-then-free-eq0.ensures.after, c.cut-then-free-eq0.ensures.turn) told
 
 pub returns-in_default : goal.returns-in_default
 returns-in_default c =
     let few : c.args.self.now.live < most_threads = omega (arith, c.if-self-ge-MOST_THREADS.false) in
-    spawned.no_memory c.args.accepted.now c.args.most c.args.self.now c.args.thread c.requires.runs c.requires.fuel c.args.function c.args.argument c.requires.at c.image-image.ensures.valid few (λ e. c.if-free-eq0.false (c.free.ensures.count ∙ ap (λ (p : Pool). length p.free) c.pool.ensures ∙ e)) c.free_place.new.self c.free_place.ensures.more
+    spawned.no_memory c.args.accepted.now c.args.most c.args.self.now c.args.thread c.requires.runs c.requires.fuel c.args.function c.args.argument c.requires.at c.image-image.ensures.valid few (λ e. c.if-free-eq0.false (c.free.ensures.count ∙ ap free_count c.pool.ensures ∙ e)) c.free_place.new.self c.free_place.ensures.more
 
 pub start-requires-clause-function : goal.start-requires-clause-function
 start-requires-clause-function c =
@@ -37,10 +37,10 @@ start-requires-clause-function c =
 pub pass-passed-requires-clause-pc : goal.pass-passed-requires-clause-pc
 pass-passed-requires-clause-pc c =
     let few : c.args.self.now.live < most_threads = omega (arith, c.if-self-ge-MOST_THREADS.false) in
-    spawned.small c.args.accepted.now c.args.most c.args.self.now c.args.thread c.requires.runs c.requires.fuel c.args.function c.args.argument c.requires.at c.image-image.ensures.valid few (λ e. c.if-free-eq0.false (c.free.ensures.count ∙ ap (λ (p : Pool). length p.free) c.pool.ensures ∙ e)) c.free_place.new.self c.free_place.ensures.more c.in-Some.slot c.in-Some.ensures.place c.in-Some-start.context c.start.new.areas c.in-Some-start.ensures.machine c.start.ensures.areas c.add.new.self c.add.ensures
+    spawned.small c.args.accepted.now c.args.most c.args.self.now c.args.thread c.requires.runs c.requires.fuel c.args.function c.args.argument c.requires.at c.image-image.ensures.valid few (λ e. c.if-free-eq0.false (c.free.ensures.count ∙ ap free_count c.pool.ensures ∙ e)) c.free_place.new.self c.free_place.ensures.more c.in-Some.slot c.in-Some.ensures.place c.in-Some-start.context c.start.new.areas c.in-Some-start.ensures.machine c.start.ensures.areas c.add.new.self c.add.ensures
 
 pub returns : goal.returns
 returns c =
     let few : c.args.self.now.live < most_threads = omega (arith, c.if-self-ge-MOST_THREADS.false) in
-    spawned.spawned_told c.args.accepted.now c.args.most c.args.self.now c.args.thread c.requires.runs c.requires.fuel c.args.function c.args.argument c.requires.at c.image-image.ensures.valid few (λ e. c.if-free-eq0.false (c.free.ensures.count ∙ ap (λ (p : Pool). length p.free) c.pool.ensures ∙ e)) c.free_place.new.self c.free_place.ensures.more c.in-Some.slot c.in-Some.ensures.place c.in-Some-start.context c.start.new.areas c.in-Some-start.ensures.machine c.start.ensures.areas c.add.new.self c.add.ensures
+    spawned.spawned_told c.args.accepted.now c.args.most c.args.self.now c.args.thread c.requires.runs c.requires.fuel c.args.function c.args.argument c.requires.at c.image-image.ensures.valid few (λ e. c.if-free-eq0.false (c.free.ensures.count ∙ ap free_count c.pool.ensures ∙ e)) c.free_place.new.self c.free_place.ensures.more c.in-Some.slot c.in-Some.ensures.place c.in-Some-start.context c.start.new.areas c.in-Some-start.ensures.machine c.start.ensures.areas c.add.new.self c.add.ensures
     c.pass-passed.new.self c.pass-passed.result c.pass-passed.ensures.record c.pass-passed.ensures.context c.pass-passed.ensures.rest c.pass-passed.ensures.fuel c.pass-passed.ensures.rests
