@@ -1,10 +1,10 @@
 -- A line that is taken byte by byte.
-use Rattle.std.proofs.Common.{◌≡◌, ℕ, zero, suc, ◌<◌, ◌≤◌, false, List, [], ◌∷◌, ◌++◌, length, take, get_or, refl, ap, sym, ◌∙◌, arith, append_assoc, length-append, Option, Some, None, Ok}
-use Rattle.std.specs.Prelude.{◌==◌, ◌≢◌}
+use Rattle.std.proofs.Common.{◌≡◌, ℕ, ◌<◌, false, List, [], ◌∷◌, ◌++◌, length, refl, subst, ap, sym, ◌∙◌, arith, append_assoc, length-append, Option, Some, None, Ok}
+use Rattle.std.specs.Prelude.{◌==◌}
 use Rattle.std.proofs.lemmas.List.{append-nil}
-use Rattle.std.specs.Io.KnownBytes.{Consumes, IsAtEnd, Keeps}
+use Rattle.std.specs.Io.KnownBytes.{Consumes, IsAtEnd}
 use Rattle.event_trace.specs.declared.gathering.Ending.TheVariants.{Line, End, TooLong}
-use Rattle.event_trace.specs.Lines.{line_of, rest_of}
+use Rattle.event_trace.specs.Lines.{line_of, rest_of, HasWholeLine}
 use Rattle.event_trace.specs.Gathering.{Gathers, LeavesTail}
 
 -- no LF among the bytes
@@ -44,14 +44,6 @@ pub record Gathered (before after : Option (List ℕ)) (line : List ℕ) : Type 
 pub gathered_none : (before : Option (List ℕ)) → Gathered before before []
 gathered_none None = record { given = tt; unended = tt }
 gathered_none (Some bytes) = record { given = refl; unended = tt }
-
--- the byte of a read of one
-pub one_byte : (buf : List ℕ) (n : ℕ) → length buf ≡ 1 → n ≤ length buf → n ≢ 0 → take n buf ≡ get_or buf 0 0 ∷ []
-one_byte [] n one most some = absurd (omega arith)
-one_byte (byte ∷ []) zero one most some = absurd (some refl)
-one_byte (byte ∷ []) (suc zero) one most some = refl
-one_byte (byte ∷ []) (suc (suc n)) one most some = absurd (omega arith)
-one_byte (byte ∷ (next ∷ buf)) n one most some = absurd (omega arith)
 
 pub gathered_more : (before mid after : Option (List ℕ)) (line : List ℕ) (byte : ℕ) → Gathered before mid line → Consumes mid after (byte ∷ [])
     → (byte == 10) ≡ false → Gathered before after (line ++ byte ∷ [])
@@ -102,21 +94,29 @@ gathers_long E (Some a) (Some b) (Some c) line byte g now here full =
     let whole : a ≡ line ++ byte ∷ c = g.given ∙ ap (λ (l : List ℕ). line ++ l) now
     in rw whole (let long = line_long line c byte g.unended here in omega arith)
 
--- what the source has left is a tail of what it had
+-- a whole line is still held while no LF came
 
-pub tail_after : (before mid after : Option (List ℕ)) (line bytes : List ℕ) → Gathered before mid line → Consumes mid after bytes → LeavesTail before after
-tail_after None mid after line bytes g now = tt
-tail_after (Some a) None after line bytes g now = absurd g.given
-tail_after (Some a) (Some b) None line bytes g now = absurd now
-tail_after (Some a) (Some b) (Some c) line bytes g now = (line ++ bytes, g.given ∙ ap (λ (l : List ℕ). line ++ l) now ∙ sym (append_assoc line bytes c))
+pub whole_line_on : (byte : ℕ) (rest : List ℕ) → (byte == 10) ≡ false → HasWholeLine (byte ∷ rest) → HasWholeLine rest
+whole_line_on byte rest here whole = let longer = rw here at whole in omega arith
 
-pub tail_kept : (before mid after : Option (List ℕ)) (line : List ℕ) → Gathered before mid line → Keeps mid after → LeavesTail before after
-tail_kept None mid after line g now = tt
-tail_kept (Some a) None after line g now = absurd g.given
-tail_kept (Some a) (Some b) None line g now = absurd now
-tail_kept (Some a) (Some b) (Some c) line g now = (line, g.given ∙ ap (λ (l : List ℕ). line ++ l) (sym now))
+pub whole_line_some : (bytes : List ℕ) → HasWholeLine bytes → 0 < length bytes
+whole_line_some bytes whole = omega arith
 
-pub tail_same : (before after : Option (List ℕ)) → after ≡ before → LeavesTail before after
-tail_same None after e = tt
-tail_same (Some a) None e = absurd (cc)
-tail_same (Some a) (Some b) e = ([], cc)
+-- the bytes held of a source, which is as it was, begin with a whole line, where they did
+abbrev pub StillWhole : {S : Type 0} → List ℕ → List ℕ → S → S → Type 0
+StillWhole old new before after = HasWholeLine old → (after ≡ before) × HasWholeLine new
+
+pub whole_more : {S : Type 0} (old mid new : List ℕ) (byte : ℕ) (before now after : S) → (byte == 10) ≡ false
+    → StillWhole old mid before now → (0 < length mid → (mid ≡ byte ∷ new) × (after ≡ now)) → StillWhole old new before after
+whole_more old mid new byte before now after here still held = λ whole.
+    let so = still whole
+    in let some : 0 < length mid = whole_line_some mid so.1
+    in let h = held some
+    in (h.1 ∙ so.0, whole_line_on byte new here (subst HasWholeLine h.0 so.1))
+
+-- what is left is a tail of what was left
+pub tail_more : (before mid after : Option (List ℕ)) → LeavesTail before mid → LeavesTail mid after → LeavesTail before after
+tail_more None mid after first now = tt
+tail_more (Some a) None after first now = absurd first
+tail_more (Some a) (Some b) None first now = absurd now
+tail_more (Some a) (Some b) (Some c) first now = (first.0 ++ now.0, first.1 ∙ ap (λ (l : List ℕ). first.0 ++ l) now.1 ∙ sym (append_assoc first.0 now.0 c))

@@ -1,3 +1,3 @@
+pub mod Answered
 pub mod LineTexts
 pub mod Gathered
-pub mod Answered

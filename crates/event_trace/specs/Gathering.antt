@@ -29,6 +29,12 @@ IsShort Line line = length line ≤ 64
 IsShort End line = Unit {0}
 IsShort TooLong line = Unit {0}
 
+-- at the end the bytes held are as they were
+abbrev pub KeepsAtEnd : Ending → List ℕ → List ℕ → Type 0
+KeepsAtEnd Line old new = Unit {0}
+KeepsAtEnd End old new = new ≡ old
+KeepsAtEnd TooLong old new = Unit {0}
+
 -- the count of faults rises where a read failed, and only there
 abbrev pub CountsFaults : {V E : Type 0} → Result V E → ℕ → ℕ → Type 0
 CountsFaults r old new = MatchResult r (λ _. new ≡ old) (λ _. Rose old new)

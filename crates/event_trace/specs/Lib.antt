@@ -1,3 +1,4 @@
+pub mod Blocks
 pub mod Gathering
 pub mod LineFields
 pub mod Lines

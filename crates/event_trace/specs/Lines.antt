@@ -59,3 +59,7 @@ line_of (byte ∷ bytes) = if byte == 10 then [] else byte ∷ line_of bytes
 abbrev pub rest_of : List ℕ → List ℕ
 rest_of [] = []
 rest_of (byte ∷ bytes) = if byte == 10 then bytes else rest_of bytes
+
+-- an LF stands among the bytes, so that they begin with a whole line
+abbrev pub HasWholeLine : List ℕ → Type 0
+HasWholeLine bytes = length (line_of bytes) < length bytes

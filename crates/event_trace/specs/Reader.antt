@@ -58,11 +58,11 @@ NextTold old new None after r = Unit {0}
 NextTold old new (Some before) None r = ⊥
 NextTold old new (Some before) (Some after) r = NextAnswers (old.held ++ before) old.lines old.last r × NextLeaves (old.held ++ before) (new.held ++ after) r
 
--- the reader counts the line of an event and keeps its time; else both stay
+-- the reader counts the line of an event and keeps its time; at the end all is as it was, and else all but the bytes held
 abbrev pub KeepsCount : {E : Type 0} → ReaderState → ReaderState → Result (Option Event) E → Type 0
 KeepsCount old new (Ok None) = new ≡ old
 KeepsCount old new (Ok (Some event)) = (new.lines ≡ old.lines + 1) × (new.last ≡ event.time) × (new.refused ≡ old.refused)
-KeepsCount old new (Err _) = new ≡ old
+KeepsCount old new (Err _) = (new.lines ≡ old.lines) × (new.last ≡ old.last) × (new.refused ≡ old.refused)
 
 -- the same, and the reader keeps the refusal that it gives first; of the bytes that it then holds nothing is said
 abbrev pub KeepsRefusal : ReaderState → ReaderState → Result (Option Event) TraceError → Type 0

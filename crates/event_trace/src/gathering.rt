@@ -1,7 +1,10 @@
 // A line, taken from a source byte by byte.
 ghost use Rattle.std.specs.Prelude.{◌≡◌, ◌≤◌, IfOk, Ok, vec_len, vec_capacity};
-ghost use Rattle.event_trace.specs.Gathering.{Gathers, LeavesTail, IsShort, CountsFaults};
+ghost use Rattle.std.specs.Io.KnownBytes.{prepend_known};
+ghost use Rattle.event_trace.specs.Gathering.{Gathers, LeavesTail, IsShort, KeepsAtEnd, CountsFaults};
+ghost use Rattle.event_trace.specs.Lines.{HasWholeLine};
 
+use crate::blocks::Block;
 use cap_io::{Failed, Source};
 
 /// The most bytes of a line, without its LF.
@@ -18,32 +21,39 @@ pub(crate) enum Ending {
     TooLong,
 }
 
-/// Takes the next line, without its LF, into `line`, in place of what that held and in the room that it has.
-pub(crate) fn read_line<S: Source>(line: &mut Vec<u8>, source: &mut S) -> Result<Ending, Failed>
+/// Takes the next line of the bytes held followed by those that the source has left, without its LF, into `line`, in
+/// place of what that held and in the room that it has. It reads nothing where a whole line is held.
+pub(crate) fn read_line<S: Source>(
+    line: &mut Vec<u8>,
+    block: &mut Block,
+    source: &mut S,
+) -> Result<Ending, Failed>
     requires { 64 ≤ vec_capacity line.old }
     ensures room { 64 ≤ vec_capacity line.new }
     ensures short { IfOk result (λ ending. IsShort ending line.new.items) }
-    ensures told { Gathers (S.left source.old) (S.left source.new) line.new.items result }
+    ensures told { Gathers (prepend_known block.old (S.left source.old)) (prepend_known block.new (S.left source.new))
+        line.new.items result }
+    ensures end { IfOk result (λ ending. KeepsAtEnd ending block.old block.new) }
+    ensures idle { HasWholeLine block.old → source.new ≡ source.old }
     ensures tail { LeavesTail (S.left source.old) (S.left source.new) }
     ensures counts { CountsFaults result (S.faults source.old) (S.faults source.new) }
     ensures never_falls { S.faults source.old ≤ S.faults source.new }
 {
     line.clear();
-    let mut byte = [0u8];
     loop {
-        if source.read(&mut byte)? == 0 {
+        let Some(byte) = block.next_byte(source)? else {
             return Ok(if line.is_empty() {
                 Ending::End
             } else {
                 Ending::Line
             });
-        }
-        if byte[0] == b'\n' {
+        };
+        if byte == b'\n' {
             return Ok(Ending::Line);
         }
         if line.len() == MOST_BYTES {
             return Ok(Ending::TooLong);
         }
-        line.push_reserved(byte[0]);
+        line.push_reserved(byte);
     }
 }

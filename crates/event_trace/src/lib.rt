@@ -7,6 +7,7 @@
 // format of trace lines is described in docs/FORMATS.md.
 #![tactic(auto)]
 
+mod blocks;
 mod events;
 mod gathering;
 mod parsing;

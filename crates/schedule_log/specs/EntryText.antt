@@ -13,6 +13,10 @@ use Rattle.schedule_log.specs.declared.entries.StopLine.TheVariants.{Done, Idle,
 use Rattle.schedule_log.specs.declared.entries.Entry.{Entry}
 use Rattle.schedule_log.specs.declared.entries.Entry.TheVariants.{Event, Dropped, Run, Out, Block, End, Edge, Stop}
 
+-- site numbers, each after `<`
+abbrev pub more_sites : List ℕ → List ℕ
+more_sites sites = flat_map (λ next. 60 ∷ canonical_decimal next) sites
+
 -- a key's field: its site numbers with `<` between, the innermost first
 abbrev pub key_field : List ℕ → List ℕ
 key_field [] = []

@@ -3,3 +3,4 @@ pub mod EntryRanges
 pub mod EntryText
 pub mod Puts
 pub mod Readings
+pub mod Writing

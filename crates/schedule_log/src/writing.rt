@@ -1,15 +1,16 @@
 // Writing a line.
-ghost use Rattle.std.specs.Prelude.{◌≡◌, ◌≤◌, ◌∷◌, [], ◌++◌, OnOk, IfOk, map, codes};
+ghost use Rattle.std.specs.Prelude.{◌≡◌, ◌≤◌, ◌∷◌, [], ◌++◌, map, codes, None};
 ghost use Rattle.cap_io.specs.Writes.{Puts};
 ghost use Rattle.schedule_log.specs.Puts.{CountsPut};
+ghost use Rattle.schedule_log.specs.Writing.{Writes, log_state};
 ghost use Rattle.cap_text.specs.Decimals.{canonical_decimal, canonical_integer};
-ghost use Rattle.schedule_log.specs.EntryText.{after_blanks, cause_fields, entry_text, item_fields, key_field, stop_fields, trap_field};
+ghost use Rattle.schedule_log.specs.EntryText.{after_blanks, cause_fields, entry_text, item_fields, key_field, more_sites, stop_fields, trap_field};
 
-use crate::{Averages, Entry, Item, StopLine};
-use cap_io::{Sink, SinkError, put_all};
-use cap_text::put_dec;
+use crate::{Averages, Entry, Item, LogWriter, StopLine};
+use cap_io::Sink;
 use cap_word::{SiteKey, Stop, TrapKind};
-use std::alloc::{AllocError, Global};
+use itoa::Buffer;
+use std::alloc::Global;
 
 /// Why an entry was not put.
 #[derive(Clone, Copy, PartialEq, Eq)]
@@ -29,302 +30,366 @@ pub fn put_entry<K: Sink>(alloc: Global, out: &mut K, entry: &Entry) -> Result<(
     ensures counts { CountsPut result (K.faults out.old) (K.faults out.new) }
     ensures never_falls { K.faults out.old ≤ K.faults out.new }
 {
-    let Ok(line) = line_of(alloc, entry) else {
-        return Err(PutError::Memory);
-    };
-    let answer = put_all(out, line.as_slice());
-    drop(line);
-    match answer {
-        Ok(()) => Ok(()),
-        Err(SinkError::Failed) => Err(PutError::WriteFault),
-        Err(SinkError::Memory) => Err(PutError::Memory),
+    match LogWriter::new(alloc) {
+        Ok(writer) => put_alone(writer, out, entry),
+        Err(_) => Err(PutError::Memory),
     }
 }
 
-// The line of an entry, with its line feed.
-fn line_of(alloc: Global, entry: &Entry) -> Result<Vec<u8>, AllocError>
-    ensures { IfOk result (λ line. line.items ≡ entry_text entry.now ++ 10 ∷ []) }
+// The same through a new writer.
+fn put_alone<K: Sink>(mut writer: LogWriter, out: &mut K, entry: &Entry) -> Result<(), PutError>
+    requires { writer ≡ record { held = []; refused = None } }
+    ensures bytes { Puts (K.taken out.old) (K.taken out.new) (entry_text entry.now ++ 10 ∷ []) result }
+    ensures counts { CountsPut result (K.faults out.old) (K.faults out.new) }
+    ensures never_falls { K.faults out.old ≤ K.faults out.new }
 {
-    let mut line = Vec::new(alloc);
-    match push_line(&mut line, entry) {
-        Ok(()) => Ok(line),
-        Err(error) => {
-            drop(line);
-            Err(error)
+    match writer.put(out, entry) {
+        Ok(()) => writer.finish(out),
+        Err(refusal) => {
+            drop(writer);
+            Err(refusal)
         }
     }
 }
 
-fn push_line(line: &mut Vec<u8>, entry: &Entry) -> Result<(), AllocError>
-    ensures { OnOk result (line.new.items ≡ line.old.items ++ entry_text entry.now ++ 10 ∷ []) }
+// Writes an entry's line and its line feed, unless the writer gave a refusal. So do those below of parts of a line.
+pub(crate) fn write_line<K: Sink>(writer: &mut LogWriter, out: &mut K, entry: &Entry)
+    ensures { Writes (log_state writer.old (K.taken out.old) (K.faults out.old))
+        (log_state writer.new (K.taken out.new) (K.faults out.new)) (entry_text entry.now ++ 10 ∷ []) }
 {
-    push_entry(line, entry)?;
-    line.push(b'\n')?;
-    Ok(())
+    write_entry(writer, out, entry);
+    writer.write_byte(out, b'\n');
 }
 
 #[tactic(auto, unfolding(crate::specs::EntryText::entry_text))]
-fn push_entry(line: &mut Vec<u8>, entry: &Entry) -> Result<(), AllocError>
-    ensures { OnOk result (line.new.items ≡ line.old.items ++ entry_text entry.now) }
+fn write_entry<K: Sink>(writer: &mut LogWriter, out: &mut K, entry: &Entry)
+    ensures { Writes (log_state writer.old (K.taken out.old) (K.faults out.old))
+        (log_state writer.new (K.taken out.new) (K.faults out.new)) (entry_text entry.now) }
 {
     match entry {
-        Entry::Event { clock, item } => push_event(line, *clock, item),
-        Entry::Dropped { clock, item } => push_dropped(line, *clock, item),
+        Entry::Event { clock, item } => write_event(writer, out, *clock, item),
+        Entry::Dropped { clock, item } => write_dropped(writer, out, *clock, item),
         Entry::Run {
             clock,
             thread,
             node,
-        } => push_run(line, *clock, *thread, *node),
-        Entry::Out { thread, value } => push_out(line, *thread, *value),
+        } => write_run(writer, out, *clock, *thread, *node),
+        Entry::Out { thread, value } => write_out(writer, out, *thread, *value),
         Entry::Block {
             thread,
             node,
             key,
             cost,
             free,
-        } => push_block(line, *thread, *node, key, *cost, *free),
-        Entry::End { thread, cost, free } => push_end(line, *thread, *cost, *free),
+        } => write_block(writer, out, *thread, *node, key, *cost, *free),
+        Entry::End { thread, cost, free } => write_end(writer, out, *thread, *cost, *free),
         Entry::Edge {
             from,
             to,
             count,
             cost,
             changes,
-        } => push_edge(line, *from, *to, *count, *cost, changes),
-        Entry::Stop(stop) => push_last(line, stop),
+        } => write_edge(writer, out, *from, *to, *count, *cost, changes),
+        Entry::Stop(stop) => write_last(writer, out, stop),
     }
 }
 
-fn push_event(line: &mut Vec<u8>, clock: u64, item: &Item) -> Result<(), AllocError>
-    ensures { OnOk result (line.new.items ≡ line.old.items ++ codes "event"
-        ++ after_blanks (canonical_decimal clock ∷ item_fields item.now)) }
+fn write_event<K: Sink>(writer: &mut LogWriter, out: &mut K, clock: u64, item: &Item)
+    ensures { Writes (log_state writer.old (K.taken out.old) (K.faults out.old))
+        (log_state writer.new (K.taken out.new) (K.faults out.new)) (codes "event" ++ after_blanks (canonical_decimal clock ∷ item_fields item.now)) }
 {
-    line.extend_from_slice(b"event")?;
-    push_number(line, clock)?;
-    push_item(line, item)
+    writer.write(out, b"event");
+    write_number(writer, out, clock);
+    write_item(writer, out, item);
 }
 
-fn push_dropped(line: &mut Vec<u8>, clock: u64, item: &Item) -> Result<(), AllocError>
-    ensures { OnOk result (line.new.items ≡ line.old.items ++ codes "drop"
-        ++ after_blanks (canonical_decimal clock ∷ item_fields item.now)) }
+fn write_dropped<K: Sink>(writer: &mut LogWriter, out: &mut K, clock: u64, item: &Item)
+    ensures { Writes (log_state writer.old (K.taken out.old) (K.faults out.old))
+        (log_state writer.new (K.taken out.new) (K.faults out.new)) (codes "drop" ++ after_blanks (canonical_decimal clock ∷ item_fields item.now)) }
 {
-    line.extend_from_slice(b"drop")?;
-    push_number(line, clock)?;
-    push_item(line, item)
+    writer.write(out, b"drop");
+    write_number(writer, out, clock);
+    write_item(writer, out, item);
 }
 
-fn push_out(line: &mut Vec<u8>, thread: u32, value: i32) -> Result<(), AllocError>
-    ensures { OnOk result (line.new.items ≡ line.old.items ++ codes "out"
-        ++ after_blanks (canonical_decimal thread ∷ canonical_integer value ∷ [])) }
-{
-    line.extend_from_slice(b"out")?;
-    push_number(line, u64::from(thread))?;
-    push_signed(line, value)
-}
-
-fn push_end(line: &mut Vec<u8>, thread: u32, cost: u64, free: u32) -> Result<(), AllocError>
-    ensures { OnOk result (line.new.items ≡ line.old.items ++ codes "end"
-        ++ after_blanks (canonical_decimal thread ∷ canonical_decimal cost ∷ canonical_decimal free ∷ [])) }
-{
-    line.extend_from_slice(b"end")?;
-    push_number(line, u64::from(thread))?;
-    push_segment(line, cost, free)
-}
-
-// Appends a stop line.
-fn push_last(line: &mut Vec<u8>, stop: &StopLine) -> Result<(), AllocError>
-    ensures { OnOk result (line.new.items ≡ line.old.items ++ codes "stop" ++ after_blanks (stop_fields stop.now)) }
-{
-    line.extend_from_slice(b"stop")?;
-    push_stop(line, stop)
-}
-
-fn push_run(line: &mut Vec<u8>, clock: u64, thread: u32, node: u32) -> Result<(), AllocError>
-    ensures { OnOk result (line.new.items ≡ line.old.items ++ codes "run"
+fn write_run<K: Sink>(writer: &mut LogWriter, out: &mut K, clock: u64, thread: u32, node: u32)
+    ensures { Writes (log_state writer.old (K.taken out.old) (K.faults out.old))
+        (log_state writer.new (K.taken out.new) (K.faults out.new)) (codes "run"
         ++ after_blanks (canonical_decimal clock ∷ canonical_decimal thread ∷ canonical_decimal node ∷ [])) }
 {
-    line.extend_from_slice(b"run")?;
-    push_number(line, clock)?;
-    push_number(line, u64::from(thread))?;
-    push_number(line, u64::from(node))
+    writer.write(out, b"run");
+    write_number(writer, out, clock);
+    write_word(writer, out, thread);
+    write_word(writer, out, node);
 }
 
-fn push_block(
-    line: &mut Vec<u8>,
+fn write_out<K: Sink>(writer: &mut LogWriter, out: &mut K, thread: u32, value: i32)
+    ensures { Writes (log_state writer.old (K.taken out.old) (K.faults out.old))
+        (log_state writer.new (K.taken out.new) (K.faults out.new)) (codes "out"
+        ++ after_blanks (canonical_decimal thread ∷ canonical_integer value ∷ [])) }
+{
+    writer.write(out, b"out");
+    write_word(writer, out, thread);
+    write_signed(writer, out, value);
+}
+
+fn write_block<K: Sink>(
+    writer: &mut LogWriter,
+    out: &mut K,
     thread: u32,
     node: u32,
     key: &SiteKey,
     cost: u64,
     free: u32,
-) -> Result<(), AllocError>
-    ensures { OnOk result (line.new.items ≡ line.old.items ++ codes "block"
-        ++ after_blanks (canonical_decimal thread ∷ canonical_decimal node ∷ key_field key.now ∷ canonical_decimal cost ∷ canonical_decimal free ∷ [])) }
+)
+    ensures { Writes (log_state writer.old (K.taken out.old) (K.faults out.old))
+        (log_state writer.new (K.taken out.new) (K.faults out.new)) (codes "block"
+        ++ after_blanks (canonical_decimal thread ∷ canonical_decimal node ∷ key_field key.now
+        ∷ canonical_decimal cost ∷ canonical_decimal free ∷ [])) }
 {
-    push_blocked(line, thread, node, key)?;
-    push_segment(line, cost, free)
+    writer.write(out, b"block");
+    write_word(writer, out, thread);
+    write_word(writer, out, node);
+    write_key(writer, out, key);
+    write_segment(writer, out, cost, free);
 }
 
-// Appends a block line as far as its key.
-fn push_blocked(line: &mut Vec<u8>, thread: u32, node: u32, key: &SiteKey) -> Result<(), AllocError>
-    ensures { OnOk result (line.new.items ≡ line.old.items ++ codes "block"
-        ++ after_blanks (canonical_decimal thread ∷ canonical_decimal node ∷ key_field key.now ∷ [])) }
+fn write_end<K: Sink>(writer: &mut LogWriter, out: &mut K, thread: u32, cost: u64, free: u32)
+    ensures { Writes (log_state writer.old (K.taken out.old) (K.faults out.old))
+        (log_state writer.new (K.taken out.new) (K.faults out.new)) (codes "end"
+        ++ after_blanks (canonical_decimal thread ∷ canonical_decimal cost ∷ canonical_decimal free ∷ [])) }
 {
-    line.extend_from_slice(b"block")?;
-    push_number(line, u64::from(thread))?;
-    push_number(line, u64::from(node))?;
-    push_key(line, key)
+    writer.write(out, b"end");
+    write_word(writer, out, thread);
+    write_segment(writer, out, cost, free);
 }
 
-fn push_edge(
-    line: &mut Vec<u8>,
+fn write_edge<K: Sink>(
+    writer: &mut LogWriter,
+    out: &mut K,
     from: u32,
     to: u32,
     count: u64,
     cost: i128,
     changes: &Averages,
-) -> Result<(), AllocError>
-    ensures { OnOk result (line.new.items ≡ line.old.items ++ codes "edge"
-        ++ after_blanks (canonical_decimal from ∷ canonical_decimal to ∷ canonical_decimal count ∷ canonical_integer cost ∷ map canonical_integer changes.now)) }
+)
+    ensures { Writes (log_state writer.old (K.taken out.old) (K.faults out.old))
+        (log_state writer.new (K.taken out.new) (K.faults out.new)) (codes "edge"
+        ++ after_blanks (canonical_decimal from ∷ canonical_decimal to ∷ canonical_decimal count
+        ∷ canonical_integer cost ∷ map canonical_integer changes.now)) }
 {
-    push_counted(line, from, to, count)?;
-    push_integer(line, cost)?;
-    push_averages(line, changes)
+    writer.write(out, b"edge");
+    write_word(writer, out, from);
+    write_word(writer, out, to);
+    write_number(writer, out, count);
+    write_integer(writer, out, cost);
+    write_averages(writer, out, changes);
 }
 
-// Appends an edge line as far as the number of records.
-fn push_counted(line: &mut Vec<u8>, from: u32, to: u32, count: u64) -> Result<(), AllocError>
-    ensures { OnOk result (line.new.items ≡ line.old.items ++ codes "edge"
-        ++ after_blanks (canonical_decimal from ∷ canonical_decimal to ∷ canonical_decimal count ∷ [])) }
+// A stop line.
+fn write_last<K: Sink>(writer: &mut LogWriter, out: &mut K, stop: &StopLine)
+    ensures { Writes (log_state writer.old (K.taken out.old) (K.faults out.old))
+        (log_state writer.new (K.taken out.new) (K.faults out.new)) (codes "stop" ++ after_blanks (stop_fields stop.now)) }
 {
-    line.extend_from_slice(b"edge")?;
-    push_number(line, u64::from(from))?;
-    push_number(line, u64::from(to))?;
-    push_number(line, count)
+    writer.write(out, b"stop");
+    write_stop(writer, out, stop);
 }
 
-// Appends that byte and a number from 0 up.
-fn push_after(line: &mut Vec<u8>, separator: u8, number: u64) -> Result<(), AllocError>
-    ensures { OnOk result (line.new.items ≡ line.old.items ++ separator ∷ canonical_decimal number) }
+// A blank and a field of a number from 0 up.
+fn write_number<K: Sink>(writer: &mut LogWriter, out: &mut K, number: u64)
+    ensures { Writes (log_state writer.old (K.taken out.old) (K.faults out.old))
+        (log_state writer.new (K.taken out.new) (K.faults out.new)) (32 ∷ canonical_decimal number) }
 {
-    line.push(separator)?;
-    put_dec(line, i128::from(number))
+    write_after(writer, out, b' ', number);
 }
 
-// Appends a blank and a field of a number from 0 up.
-fn push_number(line: &mut Vec<u8>, number: u64) -> Result<(), AllocError>
-    ensures { OnOk result (line.new.items ≡ line.old.items ++ 32 ∷ canonical_decimal number) }
+// The same of a number of 32 bits.
+fn write_word<K: Sink>(writer: &mut LogWriter, out: &mut K, number: u32)
+    ensures { Writes (log_state writer.old (K.taken out.old) (K.faults out.old))
+        (log_state writer.new (K.taken out.new) (K.faults out.new)) (32 ∷ canonical_decimal number) }
 {
-    push_after(line, b' ', number)
+    write_number(writer, out, u64::from(number));
 }
 
-// Appends a blank and a field of a whole number.
-fn push_integer(line: &mut Vec<u8>, number: i128) -> Result<(), AllocError>
-    ensures { OnOk result (line.new.items ≡ line.old.items ++ 32 ∷ canonical_integer number) }
+// A `<` and a site.
+fn write_site<K: Sink>(writer: &mut LogWriter, out: &mut K, site: u32)
+    ensures { Writes (log_state writer.old (K.taken out.old) (K.faults out.old))
+        (log_state writer.new (K.taken out.new) (K.faults out.new)) (60 ∷ canonical_decimal site) }
 {
-    line.push(b' ')?;
-    put_dec(line, number)
+    write_after(writer, out, b'<', u64::from(site));
 }
 
-// Appends a blank and a field of a word as a signed number.
-fn push_signed(line: &mut Vec<u8>, value: i32) -> Result<(), AllocError>
-    ensures { OnOk result (line.new.items ≡ line.old.items ++ 32 ∷ canonical_integer value) }
+// That byte and a number from 0 up.
+fn write_after<K: Sink>(writer: &mut LogWriter, out: &mut K, separator: u8, number: u64)
+    ensures { Writes (log_state writer.old (K.taken out.old) (K.faults out.old))
+        (log_state writer.new (K.taken out.new) (K.faults out.new)) (separator ∷ canonical_decimal number) }
 {
-    push_integer(line, i128::from(value))
+    writer.write_byte(out, separator);
+    write_digits(writer, out, i128::from(number));
 }
 
-// Appends a blank and a key: its sites with `<` between.
-fn push_key(line: &mut Vec<u8>, key: &SiteKey) -> Result<(), AllocError>
-    ensures { OnOk result (line.new.items ≡ line.old.items ++ 32 ∷ key_field key.now) }
+// A blank and a field of a whole number.
+fn write_integer<K: Sink>(writer: &mut LogWriter, out: &mut K, number: i128)
+    ensures { Writes (log_state writer.old (K.taken out.old) (K.faults out.old))
+        (log_state writer.new (K.taken out.new) (K.faults out.new)) (32 ∷ canonical_integer number) }
+{
+    writer.write_byte(out, b' ');
+    write_digits(writer, out, number);
+}
+
+// A whole number.
+fn write_digits<K: Sink>(writer: &mut LogWriter, out: &mut K, number: i128)
+    ensures { Writes (log_state writer.old (K.taken out.old) (K.faults out.old))
+        (log_state writer.new (K.taken out.new) (K.faults out.new)) (canonical_integer number) }
+{
+    let mut buffer = Buffer::new();
+    writer.write(out, buffer.format(number).as_bytes());
+}
+
+// A blank and a field of a word as a signed number.
+fn write_signed<K: Sink>(writer: &mut LogWriter, out: &mut K, value: i32)
+    ensures { Writes (log_state writer.old (K.taken out.old) (K.faults out.old))
+        (log_state writer.new (K.taken out.new) (K.faults out.new)) (32 ∷ canonical_integer value) }
+{
+    write_integer(writer, out, i128::from(value));
+}
+
+// A blank and a key: its sites with `<` between.
+fn write_key<K: Sink>(writer: &mut LogWriter, out: &mut K, key: &SiteKey)
+    ensures { Writes (log_state writer.old (K.taken out.old) (K.faults out.old))
+        (log_state writer.new (K.taken out.new) (K.faults out.new)) (32 ∷ key_field key.now) }
 {
     let sites = key.sites();
-    push_number(line, u64::from(sites[0]))?;
-    for site in &sites[1..] {
-        push_after(line, b'<', u64::from(*site))?;
-    }
-    Ok(())
+    write_word(writer, out, sites[0]);
+    write_sites(writer, out, &sites[1..]);
 }
 
-// Appends the averages, each after a blank.
-fn push_averages(line: &mut Vec<u8>, averages: &Averages) -> Result<(), AllocError>
-    ensures { OnOk result (line.new.items ≡ line.old.items ++ after_blanks (map canonical_integer averages.now)) }
+// The sites after the first, each after a `<`.
+fn write_sites<K: Sink>(writer: &mut LogWriter, out: &mut K, sites: &[u32])
+    ensures { Writes (log_state writer.old (K.taken out.old) (K.faults out.old))
+        (log_state writer.new (K.taken out.new) (K.faults out.new)) (more_sites sites.now) }
+{
+    for site in sites {
+        write_site(writer, out, *site);
+    }
+}
+
+// The averages, each after a blank.
+fn write_averages<K: Sink>(writer: &mut LogWriter, out: &mut K, averages: &Averages)
+    ensures { Writes (log_state writer.old (K.taken out.old) (K.faults out.old))
+        (log_state writer.new (K.taken out.new) (K.faults out.new)) (after_blanks (map canonical_integer averages.now)) }
 {
     for value in averages.values() {
-        push_integer(line, *value)?;
+        write_integer(writer, out, *value);
     }
-    Ok(())
 }
 
-fn push_item(line: &mut Vec<u8>, item: &Item) -> Result<(), AllocError>
-    ensures { OnOk result (line.new.items ≡ line.old.items ++ after_blanks (item_fields item.now)) }
+fn write_item<K: Sink>(writer: &mut LogWriter, out: &mut K, item: &Item)
+    ensures { Writes (log_state writer.old (K.taken out.old) (K.faults out.old))
+        (log_state writer.new (K.taken out.new) (K.faults out.new)) (after_blanks (item_fields item.now)) }
 {
     match item {
-        Item::Arrive { value } => {
-            line.extend_from_slice(b" arrive")?;
-            push_signed(line, *value)
-        }
-        Item::Data { channel, value } => {
-            line.extend_from_slice(b" data")?;
-            push_number(line, u64::from(*channel))?;
-            push_signed(line, *value)
-        }
+        Item::Arrive { value } => write_arrival(writer, out, *value),
+        Item::Data { channel, value } => write_message(writer, out, *channel, *value),
     }
 }
 
-// Appends the cost of a segment and the free chunks after it.
-fn push_segment(line: &mut Vec<u8>, cost: u64, free: u32) -> Result<(), AllocError>
-    ensures { OnOk result (line.new.items ≡ line.old.items
-        ++ after_blanks (canonical_decimal cost ∷ canonical_decimal free ∷ [])) }
+fn write_arrival<K: Sink>(writer: &mut LogWriter, out: &mut K, value: i32)
+    ensures { Writes (log_state writer.old (K.taken out.old) (K.faults out.old))
+        (log_state writer.new (K.taken out.new) (K.faults out.new)) (after_blanks (codes "arrive" ∷ canonical_integer value ∷ [])) }
 {
-    push_number(line, cost)?;
-    push_number(line, u64::from(free))
+    writer.write(out, b" arrive");
+    write_signed(writer, out, value);
 }
 
-fn push_stop(line: &mut Vec<u8>, stop: &StopLine) -> Result<(), AllocError>
-    ensures { OnOk result (line.new.items ≡ line.old.items ++ after_blanks (stop_fields stop.now)) }
+fn write_message<K: Sink>(writer: &mut LogWriter, out: &mut K, channel: u32, value: i32)
+    ensures { Writes (log_state writer.old (K.taken out.old) (K.faults out.old))
+        (log_state writer.new (K.taken out.new) (K.faults out.new)) (after_blanks (codes "data" ∷ canonical_decimal channel ∷ canonical_integer value ∷ [])) }
+{
+    writer.write(out, b" data");
+    write_word(writer, out, channel);
+    write_signed(writer, out, value);
+}
+
+// The cost of a segment and the free chunks after it.
+fn write_segment<K: Sink>(writer: &mut LogWriter, out: &mut K, cost: u64, free: u32)
+    ensures { Writes (log_state writer.old (K.taken out.old) (K.faults out.old))
+        (log_state writer.new (K.taken out.new) (K.faults out.new)) (after_blanks (canonical_decimal cost ∷ canonical_decimal free ∷ [])) }
+{
+    write_number(writer, out, cost);
+    write_word(writer, out, free);
+}
+
+fn write_stop<K: Sink>(writer: &mut LogWriter, out: &mut K, stop: &StopLine)
+    ensures { Writes (log_state writer.old (K.taken out.old) (K.faults out.old))
+        (log_state writer.new (K.taken out.new) (K.faults out.new)) (after_blanks (stop_fields stop.now)) }
 {
     match stop {
-        StopLine::Done => line.extend_from_slice(b" done"),
-        StopLine::Idle => line.extend_from_slice(b" idle"),
-        StopLine::Trace { line: number } => {
-            line.extend_from_slice(b" trace")?;
-            push_number(line, *number)
-        }
+        StopLine::Done => writer.write(out, b" done"),
+        StopLine::Idle => writer.write(out, b" idle"),
+        StopLine::Trace { line } => write_refused(writer, out, *line),
         StopLine::Cut {
             thread,
             stop,
             cost,
             free,
-        } => {
-            push_cause(line, *thread, stop)?;
-            push_segment(line, *cost, *free)
-        }
+        } => write_cut(writer, out, *thread, stop, *cost, *free),
     }
 }
 
-// Appends why a segment was cut, and its thread.
-fn push_cause(line: &mut Vec<u8>, thread: u32, stop: &Stop) -> Result<(), AllocError>
-    ensures { OnOk result (line.new.items ≡ line.old.items ++ after_blanks (cause_fields thread stop.now)) }
+fn write_refused<K: Sink>(writer: &mut LogWriter, out: &mut K, line: u64)
+    ensures { Writes (log_state writer.old (K.taken out.old) (K.faults out.old))
+        (log_state writer.new (K.taken out.new) (K.faults out.new)) (after_blanks (codes "trace" ∷ canonical_decimal line ∷ [])) }
+{
+    writer.write(out, b" trace");
+    write_number(writer, out, line);
+}
+
+fn write_cut<K: Sink>(
+    writer: &mut LogWriter,
+    out: &mut K,
+    thread: u32,
+    stop: &Stop,
+    cost: u64,
+    free: u32,
+)
+    ensures { Writes (log_state writer.old (K.taken out.old) (K.faults out.old))
+        (log_state writer.new (K.taken out.new) (K.faults out.new)) (after_blanks (cause_fields thread stop.now
+        ++ (canonical_decimal cost ∷ canonical_decimal free ∷ []))) }
+{
+    write_cause(writer, out, thread, stop);
+    write_segment(writer, out, cost, free);
+}
+
+// Why a segment was cut, and its thread.
+fn write_cause<K: Sink>(writer: &mut LogWriter, out: &mut K, thread: u32, stop: &Stop)
+    ensures { Writes (log_state writer.old (K.taken out.old) (K.faults out.old))
+        (log_state writer.new (K.taken out.new) (K.faults out.new)) (after_blanks (cause_fields thread stop.now)) }
 {
     match stop {
-        Stop::Trap(kind) => {
-            line.extend_from_slice(b" trap")?;
-            push_number(line, u64::from(thread))?;
-            line.push(b' ')?;
-            line.extend_from_slice(trap_word(*kind))
-        }
-        Stop::NoChunk => {
-            line.extend_from_slice(b" nochunk")?;
-            push_number(line, u64::from(thread))
-        }
-        Stop::Fuel => {
-            line.extend_from_slice(b" fuel")?;
-            push_number(line, u64::from(thread))
-        }
-        Stop::Threads => {
-            line.extend_from_slice(b" threads")?;
-            push_number(line, u64::from(thread))
-        }
+        Stop::Trap(kind) => write_trap(writer, out, thread, *kind),
+        Stop::NoChunk => write_name(writer, out, b" nochunk", thread),
+        Stop::Fuel => write_name(writer, out, b" fuel", thread),
+        Stop::Threads => write_name(writer, out, b" threads", thread),
     }
+}
+
+fn write_trap<K: Sink>(writer: &mut LogWriter, out: &mut K, thread: u32, kind: TrapKind)
+    ensures { Writes (log_state writer.old (K.taken out.old) (K.faults out.old))
+        (log_state writer.new (K.taken out.new) (K.faults out.new)) (after_blanks (codes "trap" ∷ canonical_decimal thread ∷ trap_field kind ∷ [])) }
+{
+    write_name(writer, out, b" trap", thread);
+    writer.write_byte(out, b' ');
+    writer.write(out, trap_word(kind));
+}
+
+// That text and a number.
+fn write_name<K: Sink>(writer: &mut LogWriter, out: &mut K, name: &[u8], thread: u32)
+    ensures { Writes (log_state writer.old (K.taken out.old) (K.faults out.old))
+        (log_state writer.new (K.taken out.new) (K.faults out.new)) (name.now ++ 32 ∷ canonical_decimal thread) }
+{
+    writer.write(out, name);
+    write_word(writer, out, thread);
 }
 
 fn trap_word(kind: TrapKind) -> &'static [u8]

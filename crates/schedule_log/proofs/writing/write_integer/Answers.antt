@@ -1,0 +1,12 @@
+use Rattle.std.proofs.Common.{◌∷◌, ap, sym}
+use Rattle.std.specs.Prelude.{ℤ}
+use Rattle.std.specs.Int.{w128}
+use Rattle.std.proofs.lemmas.Int.{to_z-of_z}
+use Rattle.cap_text.specs.Decimals.{canonical_integer}
+use Rattle.schedule_log.proofs.Written.{writes_step}
+use Rattle.schedule_log.proofs.writing.write_integer.Goals as goal
+
+pub returns : goal.returns
+returns g c =
+    writes_step _ _ _ _ _ _ c.write_byte.ensures c.write_digits.ensures
+    (ap (λ (z : ℤ). 32 ∷ canonical_integer z) (sym (to_z-of_z w128 c.args.number c.ranges.number)))
