@@ -5,6 +5,7 @@ use Rattle.c_mean.specs.World as source
 use Rattle.machine_world.specs.Threads.{World}
 use Rattle.lawful_log.specs.Setup.{Setup}
 use Rattle.lawful_log.specs.Trace.{Trace}
+use Rattle.chunk_pool.specs.Pool.{free_count}
 
 -- a thread that waits at a node, and the clock at which it blocked there; at node 0 it hasn't run, and that clock is 0
 pub record Waiter : Type 0 where
@@ -42,7 +43,7 @@ pub record State : Type 0 where
 
 -- how many chunks are held
 abbrev pub held : World → ℕ
-held machine = machine.areas.pool.count - length machine.areas.pool.free
+held machine = machine.areas.pool.count - free_count machine.areas.pool
 
 -- the uses of the eight resources: that of resource 0 is the number of held chunks
 abbrev pub uses_in : World → source.World → List ℕ

@@ -9,6 +9,7 @@ use Rattle.lawful_log.specs.Trace.{IsNext, IsRefused}
 use Rattle.lawful_log.specs.State.{Segment, State}
 use Rattle.lawful_log.specs.Readiness.{any_ready, waking_times}
 use Rattle.lawful_log.specs.Segments.{IsOnTheWay, HasRun, IsCut}
+use Rattle.chunk_pool.specs.Pool.{free_count}
 
 -- every thread has ended
 pub record IsDone (state : State) (machine : World) : Type 0 where
@@ -47,7 +48,7 @@ pub record IsStopped (g : Setup) (state : State) (thread : ℕ) (stop : Stop) (c
   pub stops : step (setting_of g) machine ≡ Stops stop
   pub thread_is : thread ≡ segment.thread
   pub cost_is : cost ≡ segment.cost + steps
-  pub free_is : free ≡ length machine.areas.pool.free
+  pub free_is : free ≡ free_count machine.areas.pool
   pub puts : IsCutBy g state segment stop
 
 abbrev pub IsStop : Setup → State → StopLine → World → Type 0

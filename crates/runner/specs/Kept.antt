@@ -8,6 +8,7 @@ use Rattle.resource_monitor.specs.Monitor.{MonitorState}
 use Rattle.scheduler.specs.State.{SchedulerState}
 use Rattle.runner.specs.declared.course.Under.{Under}
 use Rattle.runner.specs.declared.looking.Next.{Next}
+use Rattle.chunk_pool.specs.Pool.{free_count}
 
 pub record Kept : Type 0 where
   pub scheduler : SchedulerState
@@ -25,4 +26,4 @@ known Next.Over = Some None
 
 -- the uses of the eight resources of a machine world
 abbrev pub machine_uses : World → List ℕ
-machine_uses w = (w.areas.pool.count - length w.areas.pool.free) ∷ drop 1 w.exchange.uses
+machine_uses w = (w.areas.pool.count - free_count w.areas.pool) ∷ drop 1 w.exchange.uses
