@@ -4,26 +4,26 @@ use Rattle.c_lower.specs.ProgramCode.{lowered}
 use Rattle.chunk_pool.specs.Pool.{IsPool, start_pool}
 use Rattle.chunk_pool.proofs.PoolStart.{IsPool-start_bytes}
 use Rattle.lawful_log.specs.Good.{checked_of}
-use Rattle.lawful_log.specs.Setup.{Setup}
-use Rattle.machine_world.specs.Areas.{Areas}
+use Rattle.lawful_log.specs.Setup.{Setup, start_areas}
 use Rattle.machine_world.specs.WellFormed.{AreWellFormed}
 use Rattle.one_log.specs.One.{HasOneLog}
 use Rattle.one_log.proofs.Starting.{one_log}
 use Rattle.segment_run.proofs.Forming.{areas_formed}
 use Rattle.command_outcomes.specs.Outcome.{Outcome}
 use Rattle.capriccio_commands.specs.Runs.{IsAccepted, RunsOn, run_outcome}
+use Rattle.chunk_pool.proofs.ShapeLaws.{first_bytes-start}
 
 fours : (bytes : ℕ) → bytes % 16 ≡ 0 → 4 * (bytes / 4) ≡ bytes
 fours bytes h = omega arith
 
 -- the areas in which an accepted pair starts, where the policy is in its ranges and the pool in its limit
 areas-formed : (g : Setup) → IsAccepted g → 1 ≤ g.policy.chunks → g.policy.chunks ≤ 65536 → g.policy.chunks * g.certificate.chunk ≤ 67108864 →
-    AreWellFormed (checked_of g) (record { pool = start_pool g.policy.chunks (g.certificate.chunk / 4); globals = g.image.globals; tables = g.image.tables })
+    AreWellFormed (checked_of g) (start_areas g)
 areas-formed g ok some few fits =
     let ranges = ((ok.valid.holds 1 0 1).v1 refl).chunk refl in
     let pool : IsPool (start_pool g.policy.chunks (g.certificate.chunk / 4)) = IsPool-start_bytes g.policy.chunks g.certificate.chunk some few ranges.1 ranges.2 ranges.0 fits in
-    let areas : Areas = record { pool = start_pool g.policy.chunks (g.certificate.chunk / 4); globals = g.image.globals; tables = g.image.tables } in
-    areas_formed (lowered g.program) g.image g.certificate areas ok.valid pool ok.globals (fours g.certificate.chunk ranges.0) refl refl
+    areas_formed (lowered g.program) g.image g.certificate (start_areas g) ok.valid pool ok.globals
+    (first_bytes-start g.policy.chunks (g.certificate.chunk / 4) ∙ fours g.certificate.chunk ranges.0) refl refl
 
 -- there is one lawful log of it
 one-run : (g : Setup) (trace : List ℕ) → IsAccepted g → 1 ≤ g.policy.chunks → g.policy.chunks ≤ 65536 → g.policy.fuel ≤ 1000000000 → g.policy.chunks * g.certificate.chunk ≤ 67108864 → HasOneLog g trace

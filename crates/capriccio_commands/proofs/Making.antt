@@ -5,7 +5,7 @@ use Rattle.c_lower.specs.ProgramCode.{lowered}
 use Rattle.certificate_check.specs.Accepting.{accepted_tree}
 use Rattle.certificate_check.specs.Acceptance.{Acceptance}
 use Rattle.certificate_rules.specs.Validity.{IsValid}
-use Rattle.chunk_pool.specs.Pool.{Pool, Taken, taken_for, taken_of, fits, start_pool}
+use Rattle.chunk_pool.specs.Pool.{Taken, taken_for}
 use Rattle.command_words.specs.declared.options.Policy.{Policy as RunOptions}
 use Rattle.machine_world.specs.Areas.{Areas}
 use Rattle.machine_world.specs.Runs.{empty_world, started_on, start_world}
@@ -16,20 +16,12 @@ use Rattle.resource_monitor.specs.declared.curves.Curve.{Curve}
 use Rattle.resource_monitor.specs.declared.curves.Curve.TheVariants.{Linear}
 use Rattle.runner.specs.Answers.{IsAtStart, KeepsRun}
 use Rattle.stack_certificate.specs.Certificates.{fact_at}
-use Rattle.thread_core.specs.Making.{IsPolicy, IsStart}
+use Rattle.thread_core.specs.Making.{IsPolicy, IsStart, start_areas}
 use Rattle.thread_core.specs.Worlds.{Held}
 use Rattle.command_outcomes.specs.Done.{IsWorldOf}
 use Rattle.capriccio_commands.specs.Runs.{IsAccepted}
 use Rattle.capriccio_commands.specs.RunSteps.{IsMade, IsRunPolicy, setup_in, world_policy_of}
-
--- a pool that a chunk is taken from keeps its count
-taken-count : (p : Pool) (need : ℕ) (ids : List ℕ) (taken : Taken) → taken_of p need ids ≡ Some taken → taken.pool.count ≡ p.count
-taken-count p need [] taken e = absurd (let x : None ≡ Some taken = e in cc)
-taken-count p need (id ∷ ids) taken e = by_fits (fits p need id) e
-  where
-    by_fits : (b : Bool) → (let some : Taken = record { chunk = id; pool = record p { free = ids } } in (if b then Some some else None) ≡ Some taken) → taken.pool.count ≡ p.count
-    by_fits true is = let some : Taken = record { chunk = id; pool = record p { free = ids } } in let same : some ≡ taken = (let x : Some some ≡ Some taken = is in cc) in sym (ap (λ (t : Taken). t.pool.count) same)
-    by_fits false is = absurd (let x : None ≡ Some taken = is in cc)
+use Rattle.chunk_pool.proofs.NeedLaws.{taken_for-count}
 
 started : (areas : Areas) (entry : ℕ) (found : Option Taken) (w : World) → ((taken : Taken) → found ≡ Some taken → taken.pool.count ≡ areas.pool.count) → started_on (empty_world areas) entry found ≡ Some w →
     (w.areas.globals ≡ areas.globals) × (w.areas.pool.count ≡ areas.pool.count)
@@ -39,12 +31,10 @@ started areas entry (Some taken) w count e =
     let same : first ≡ w = (let x : Some first ≡ Some w = e in cc) in
     (sym (ap (λ (v : World). v.areas.globals) same), sym (ap (λ (v : World). v.areas.pool.count) same) ∙ count taken refl)
 
--- the world in which a run starts has the image's globals, and so many chunks
-start-keeps : (chunks words : ℕ) (globals tables : List ℕ) (entry need : ℕ) (w : World) → start_world chunks words globals tables entry need ≡ Some w → (w.areas.globals ≡ globals) × (w.areas.pool.count ≡ chunks)
+-- the world in which a run starts has the globals of its areas, and as many chunks
+start-keeps : (areas : Areas) (entry need : ℕ) (w : World) → start_world areas entry need ≡ Some w → (w.areas.globals ≡ areas.globals) × (w.areas.pool.count ≡ areas.pool.count)
 unfolding start_world
-start-keeps chunks words globals tables entry need w e =
-    let areas : Areas = record { pool = start_pool chunks words; globals = globals; tables = tables } in
-    started areas entry (taken_for areas.pool need) w (λ taken is. taken-count areas.pool need areas.pool.free taken is) e
+start-keeps areas entry need w e = started areas entry (taken_for areas.pool need) w (λ taken is. taken_for-count areas.pool need taken is) e
 
 -- the options are those of a world of an accepted pair
 pub policy-ranges : (options : RunOptions) (accepted : Acceptance) → IsRunPolicy options → options.chunks * accepted.certificate.chunk ≤ 67108864 → IsPolicy accepted (world_policy_of options) options.fuel
@@ -74,8 +64,7 @@ one-more (suc n) = rw add-one (ap (λ (curves : List Curve). Linear ∷ curves) 
 
 module _ (options : RunOptions) (held : Held) (made : IsMade options held) where
   kept : (held.machine.areas.globals ≡ held.accepted.image.globals) × (held.machine.areas.pool.count ≡ options.chunks)
-  kept = start-keeps options.chunks (held.accepted.certificate.chunk / 4) held.accepted.image.globals held.accepted.image.tables
-      (fact_at held.accepted.certificate (accepted_tree held.accepted).main).entry (fact_at held.accepted.certificate (accepted_tree held.accepted).main).bound held.machine made.made.machine
+  kept = start-keeps (start_areas held.accepted (world_policy_of options)) (fact_at held.accepted.certificate (accepted_tree held.accepted).main).entry (fact_at held.accepted.certificate (accepted_tree held.accepted).main).bound held.machine made.made.machine
 
   -- the checker accepted its pair
   pub made-accepted : IsAccepted (setup_in held options)

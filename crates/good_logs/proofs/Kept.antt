@@ -5,8 +5,7 @@ use Rattle.c_lower.specs.ProgramCode.{lowered}
 use Rattle.c_mean.specs.World as source
 use Rattle.c_tree.specs.WellScoped.{IsWellScoped}
 use Rattle.certificate_rules.specs.Validity.{IsValid}
-use Rattle.chunk_pool.specs.Pool.{start_pool}
-use Rattle.lawful_log.specs.Setup.{Setup, setting_of, start_machine}
+use Rattle.lawful_log.specs.Setup.{Setup, setting_of, start_machine, start_areas}
 use Rattle.lawful_log.specs.Good.{checked_of}
 use Rattle.lowered_facts.proofs.Formed.{formed}
 use Rattle.machine_world.specs.Runs.{Action, Deliver, Advance, Pick, after_action}
@@ -21,6 +20,7 @@ use Rattle.world_source.specs.UnderWay.{IsSettled, StandsSettled}
 use Rattle.world_source.proofs.Between.{delivered_law, advanced_law, starts_law}
 use Rattle.world_source.proofs.Laws as laws
 use Rattle.world_source.proofs.Sound.{settled_sound, under_way_sound}
+use Rattle.machine_world.proofs.CountedLaws.{all_free-new}
 
 module _ (g : Setup) (scoped : IsWellScoped g.program) (valid : IsValid (lowered g.program) g.image g.certificate) where
   -- between segments
@@ -83,12 +83,12 @@ module _ (g : Setup) (scoped : IsWellScoped g.program) (valid : IsValid (lowered
         record { form = formed_after w after (Deliver delivery) words is.form e; settled = (delivered_law (checked_of g) g.program (setting_of g) w after some.other delivery some.stands e).settled };
   }
 
-  pub starts : (start : World) → AreWellFormed (checked_of g) (record { pool = start_pool g.policy.chunks (g.certificate.chunk / 4); globals = g.image.globals; tables = g.image.tables }) → g.policy.fuel ≤ most_fuel → start_machine g ≡ Some start → Rests start
+  pub starts : (start : World) → AreWellFormed (checked_of g) (start_areas g) → g.policy.fuel ≤ most_fuel → start_machine g ≡ Some start → Rests start
   starts start areas fuel e =
       let code = formed g.program g.image g.certificate scoped valid in
       let room = ((CallFacts-valid (lowered g.program) g.image g.certificate code valid).entries g.program.main code.main_defined).room in
       record {
         form = subst (IsWellFormedIf (checked_of g) (setting_of g)) e
-            (IsWellFormedIf-start (checked_of g) (setting_of g) g.policy.chunks (g.certificate.chunk / 4) g.image.globals g.image.tables (fact_at g.certificate g.program.main).entry (fact_at g.certificate g.program.main).bound areas fuel (omega (arith, room)));
-        settled = (starts_law g.program g.image g.certificate start g.policy.chunks (g.certificate.chunk / 4) scoped valid areas e).settled;
+            (IsWellFormedIf-start (checked_of g) (setting_of g) (start_areas g) (fact_at g.certificate g.program.main).entry (fact_at g.certificate g.program.main).bound areas (all_free-new g.policy.chunks (g.certificate.chunk / 4)) fuel (omega (arith, room)));
+        settled = (starts_law g.program g.image g.certificate start (start_areas g) scoped valid refl areas e).settled;
       }

@@ -1,11 +1,10 @@
-ghost use Rattle.std.specs.Prelude.{◌/◌, ◌≤◌, ℕ, List};
+ghost use Rattle.std.specs.Prelude.{◌≤◌, ℕ, List};
 ghost use Rattle.c_lower.specs.ProgramCode.{lowered};
 ghost use Rattle.c_tree.specs.WellScoped.{IsWellScoped};
 ghost use Rattle.certificate_rules.specs.Validity.{IsValid};
-ghost use Rattle.chunk_pool.specs.Pool.{start_pool};
 ghost use Rattle.lawful_log.specs.Good.{IsGoodLog, checked_of};
 ghost use Rattle.lawful_log.specs.Lawful.{IsLawfulLog};
-ghost use Rattle.lawful_log.specs.Setup.{Setup};
+ghost use Rattle.lawful_log.specs.Setup.{Setup, start_areas};
 ghost use Rattle.machine_world.specs.Threads.{World};
 ghost use Rattle.machine_world.specs.WellFormed.{AreWellFormed, most_fuel};
 ghost use Rattle.schedule_log.specs.declared.entries.Entry.{Entry};
@@ -16,6 +15,6 @@ ghost use Rattle.schedule_log.specs.declared.entries.StopLine.{StopLine};
 /// the pool, and no step is wrong. It does nothing.
 pub fn good_log_law()
     ensures { (g : Setup) (trace : List ℕ) (entries : List Entry) (stop : StopLine) (end : World) → IsWellScoped g.program → IsValid (lowered g.program) g.image g.certificate →
-        AreWellFormed (checked_of g) (record { pool = start_pool g.policy.chunks (g.certificate.chunk / 4); globals = g.image.globals; tables = g.image.tables }) → g.policy.fuel ≤ most_fuel →
+        AreWellFormed (checked_of g) (start_areas g) → g.policy.fuel ≤ most_fuel →
         IsLawfulLog g trace entries stop end → IsGoodLog g entries }
 {}

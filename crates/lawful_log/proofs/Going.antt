@@ -18,6 +18,7 @@ use Rattle.lawful_log.specs.State.{Segment, State}
 use Rattle.lawful_log.specs.Segments.{quiet_world, IsOnTheWay, HasRun, IsOut, IsBlock, IsEnd, rested}
 use Rattle.lawful_log.specs.Stops.{IsStopped}
 use Rattle.lawful_log.proofs.Quiet.{one_place}
+use Rattle.chunk_pool.specs.Pool.{free_count}
 
 module _ (g : Setup) (state : State) where
   -- ---- what a step has in the log
@@ -35,14 +36,14 @@ module _ (g : Setup) (state : State) where
     block : Block
     waiting : Waiting
     rests : slice_get world.threads segment.thread ≡ Some (source.Blocked block waiting)
-    entry_is : entry ≡ Entry.Block segment.thread (node_number state.past.keys (key_of waiting)) (key_of waiting) (segment.cost + steps + 1) (length machine.areas.pool.free)
+    entry_is : entry ≡ Entry.Block segment.thread (node_number state.past.keys (key_of waiting)) (key_of waiting) (segment.cost + steps + 1) (free_count machine.areas.pool)
     after_is : after ≡ rested state segment (node_number state.past.keys (key_of waiting)) (segment.cost + steps + 1) machine world
         (record { thread = segment.thread; node = node_number state.past.keys (key_of waiting); since = machine.clock } ∷ []) (keys_with state.past.keys (key_of waiting))
 
   record HasEnded (segment : Segment) (steps : ℕ) (machine : World) (entry : Entry) (after : State) : Type 0 where
     world : source.World
     run : HasRun g state segment None world
-    entry_is : entry ≡ Entry.End segment.thread (segment.cost + steps + 1) (length machine.areas.pool.free)
+    entry_is : entry ≡ Entry.End segment.thread (segment.cost + steps + 1) (free_count machine.areas.pool)
     after_is : after ≡ rested state segment end_node (segment.cost + steps + 1) machine world [] state.past.keys
 
   abbrev Tells : Segment → ℕ → Move → Entry → State → Type 0
@@ -65,7 +66,7 @@ module _ (g : Setup) (state : State) where
   -- a stop in a segment
   abbrev TellsStop : Segment → ℕ → World → Move → StopLine → World → Type 0
   TellsStop segment steps here (Stops stop) line machine =
-      (line ≡ StopLine.Cut segment.thread stop (segment.cost + steps) (length here.areas.pool.free)) × (machine ≡ here)
+      (line ≡ StopLine.Cut segment.thread stop (segment.cost + steps) (free_count here.areas.pool)) × (machine ≡ here)
   TellsStop segment steps here (Puts word after) line machine = ⊥
   TellsStop segment steps here (Blocks after) line machine = ⊥
   TellsStop segment steps here (Ends after) line machine = ⊥
@@ -120,7 +121,7 @@ module _ (g : Setup) (state : State) where
   tells_one segment steps (Blocks machine) a b s t p q =
       let worlds : p.world ≡ q.world = one_world segment None _ _ p.run q.run in
       let waits : p.waiting ≡ q.waiting = one_waiting _ _ segment.thread _ _ _ _ worlds p.rests q.rests in (
-        p.entry_is ∙ ap (λ (x : Waiting). Entry.Block segment.thread (node_number state.past.keys (key_of x)) (key_of x) (segment.cost + steps + 1) (length machine.areas.pool.free)) waits ∙ sym q.entry_is,
+        p.entry_is ∙ ap (λ (x : Waiting). Entry.Block segment.thread (node_number state.past.keys (key_of x)) (key_of x) (segment.cost + steps + 1) (free_count machine.areas.pool)) waits ∙ sym q.entry_is,
         p.after_is ∙ ap (λ (u : source.World). rested state segment (node_number state.past.keys (key_of p.waiting)) (segment.cost + steps + 1) machine u
             (record { thread = segment.thread; node = node_number state.past.keys (key_of p.waiting); since = machine.clock } ∷ []) (keys_with state.past.keys (key_of p.waiting))) worlds
             ∙ ap (λ (x : Waiting). rested state segment (node_number state.past.keys (key_of x)) (segment.cost + steps + 1) machine q.world
@@ -254,7 +255,7 @@ module _ (g : Setup) (state : State) where
     here = machine;
     way = p.way;
     tells = subst (λ (move : Move). TellsStop p.segment p.steps machine move (StopLine.Cut thread stop cost free) machine) (sym p.stops)
-        (let e : StopLine.Cut thread stop cost free ≡ StopLine.Cut p.segment.thread stop (p.segment.cost + p.steps) (length machine.areas.pool.free) =
+        (let e : StopLine.Cut thread stop cost free ≡ StopLine.Cut p.segment.thread stop (p.segment.cost + p.steps) (free_count machine.areas.pool) =
         ap (λ (n : ℕ). StopLine.Cut n stop cost free) p.thread_is ∙ ap (λ (n : ℕ). StopLine.Cut p.segment.thread stop n free) p.cost_is
         ∙ ap (λ (n : ℕ). StopLine.Cut p.segment.thread stop (p.segment.cost + p.steps) n) p.free_is in (e, refl));
   }

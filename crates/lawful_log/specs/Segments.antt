@@ -13,6 +13,7 @@ use Rattle.machine_world.specs.Runs.{and_then}
 use Rattle.machine_world.specs.Threads.{World, Setting, Move, Goes, Puts, Spawns, Blocks, Ends, Stops, Wrong, step}
 use Rattle.lawful_log.specs.Setup.{Setup, setting_of}
 use Rattle.lawful_log.specs.State.{Segment, State, held_chunks}
+use Rattle.chunk_pool.specs.Pool.{free_count}
 
 -- ---- the machine's steps
 
@@ -87,7 +88,7 @@ pub record IsBlock (g : Setup) (before : State) (thread node : ℕ) (key : List 
   pub blocks : step (setting_of g) here ≡ Blocks machine
   pub thread_is : thread ≡ segment.thread
   pub cost_is : cost ≡ segment.cost + steps + 1
-  pub free_is : free ≡ length machine.areas.pool.free
+  pub free_is : free ≡ free_count machine.areas.pool
   pub world : source.World
   pub run : HasRun g before segment None world
   pub block : Block
@@ -107,7 +108,7 @@ pub record IsEnd (g : Setup) (before : State) (thread cost free : ℕ) (after : 
   pub ends : step (setting_of g) here ≡ Ends machine
   pub thread_is : thread ≡ segment.thread
   pub cost_is : cost ≡ segment.cost + steps + 1
-  pub free_is : free ≡ length machine.areas.pool.free
+  pub free_is : free ≡ free_count machine.areas.pool
   pub world : source.World
   pub run : HasRun g before segment None world
   pub rests : slice_get world.threads thread ≡ Some source.Ended

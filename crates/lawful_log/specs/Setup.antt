@@ -8,6 +8,8 @@ use Rattle.stack_certificate.specs.declared.certificates.Certificate.{Certificat
 use Rattle.stack_certificate.specs.declared.functions.FunctionFact.{FunctionFact}
 use Rattle.stack_certificate.specs.Certificates.{fact_at}
 use Rattle.stack_image.specs.declared.images.Image.{Image}
+use Rattle.chunk_pool.specs.Pool.{start_pool}
+use Rattle.machine_world.specs.Areas.{Areas}
 
 pub record Setup : Type 0 where
   pub program : ProgramTree
@@ -23,7 +25,14 @@ setting_of g = record { code = g.image.code; fuel = g.policy.fuel; backlog = g.p
 abbrev pub main_fact : Setup → FunctionFact
 main_fact g = fact_at g.certificate g.program.main
 
+-- the areas in which the run starts: a new pool of the policy's chunks, and what the image has
+abbrev pub start_areas : Setup → Areas
+start_areas g = record {
+  pool = start_pool g.policy.chunks (g.certificate.chunk / 4);
+  globals = g.image.globals;
+  tables = g.image.tables;
+}
+
 -- the machine world in which the run starts
 abbrev pub start_machine : Setup → Option World
-start_machine g =
-    start_world g.policy.chunks (g.certificate.chunk / 4) g.image.globals g.image.tables (main_fact g).entry (main_fact g).bound
+start_machine g = start_world (start_areas g) (main_fact g).entry (main_fact g).bound

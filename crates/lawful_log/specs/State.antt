@@ -6,6 +6,7 @@ use Rattle.choice_rules.specs.Seen.{Waiter, Past, Seen, uses_in, no_past}
 use Rattle.choice_rules.specs.Trace.{Trace}
 use Rattle.machine_world.specs.Threads.{World}
 use Rattle.lawful_log.specs.Setup.{Setup}
+use Rattle.chunk_pool.specs.Pool.{free_count}
 
 -- a segment that is under way: its thread, the node that it was taken from, the uses at its choice, the instructions
 -- that it has retired, and the words that it has put
@@ -29,7 +30,7 @@ pub record State : Type 0 where
 
 -- how many chunks are held
 abbrev pub held_chunks : World → ℕ
-held_chunks machine = machine.areas.pool.count - length machine.areas.pool.free
+held_chunks machine = machine.areas.pool.count - free_count machine.areas.pool
 
 -- what a choice point sees of a state
 abbrev pub seen_of : State → Seen

@@ -8,6 +8,7 @@ use Rattle.schedule_log.specs.declared.entries.StopLine.{StopLine}
 use Rattle.lawful_log.specs.Setup.{Setup, setting_of}
 use Rattle.lawful_log.specs.State.{Segment, State, seen_of}
 use Rattle.lawful_log.specs.Segments.{IsOnTheWay, HasRun, IsCut}
+use Rattle.chunk_pool.specs.Pool.{free_count}
 
 -- what a segment that a stop cuts has put: at a trap all that the source puts up to that trap, and elsewhere so much of it
 abbrev pub IsCutBy : Setup → State → Segment → Stop → Type 0
@@ -24,7 +25,7 @@ pub record IsStopped (g : Setup) (state : State) (thread : ℕ) (stop : Stop) (c
   pub stops : step (setting_of g) machine ≡ Stops stop
   pub thread_is : thread ≡ segment.thread
   pub cost_is : cost ≡ segment.cost + steps
-  pub free_is : free ≡ length machine.areas.pool.free
+  pub free_is : free ≡ free_count machine.areas.pool
   pub puts : IsCutBy g state segment stop
 
 -- a stop, in the machine world in which it comes: at a choice point that of the state

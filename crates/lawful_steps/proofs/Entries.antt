@@ -17,6 +17,7 @@ use Rattle.lawful_steps.specs.Entries.{PutsHere, BlocksHere, EndsHere}
 use Rattle.lawful_steps.specs.Within.{IsWithin}
 use Rattle.lawful_steps.proofs.Between.{between_after}
 use Rattle.lawful_steps.proofs.Within.{put_state, put_segment, out_allowed, within_puts, cost_is, over_block, over_end, rests_blocked, blocked_state, block_allowed, threads_blocked, formed_after_block, ended_state, end_allowed, threads_ended, formed_after_end, stop_allowed, stop_cost}
+use Rattle.chunk_pool.specs.Pool.{free_count}
 
 module _ (g : Setup) (state : State) (segment : Segment) (begun : ℕ) (here : World) (waiting : List Waiter) where
   pub puts_here : (word : ℕ) (after : World) → IsWithin g state segment begun here waiting → step (setting_of g) here ≡ Puts word after → PutsHere g state segment begun word after waiting
@@ -40,9 +41,9 @@ module _ (g : Setup) (state : State) (segment : Segment) (begun : ℕ) (here : W
         waiting = rests.waiting_at;
         blocked = rests.blocked;
         new = new;
-        allowed = subst (λ (cost : ℕ). IsBlock g state segment.thread (node_number state.past.keys key) key cost (length after.areas.pool.free) new)
+        allowed = subst (λ (cost : ℕ). IsBlock g state segment.thread (node_number state.past.keys key) key cost (free_count after.areas.pool) new)
             (cost_is g state segment begun here waiting is after (over_block g state segment begun here waiting is after e))
-            (block_allowed g state segment begun here waiting is after world key (length after.areas.pool.free) e run rests refl refl);
+            (block_allowed g state segment begun here waiting is after world key (free_count after.areas.pool) e run rests refl refl);
         between = between_after g new refl (formed_after_block g state segment begun here waiting is after e) stands (threads_blocked g state segment begun here waiting is after world key e stands);
       }
 
@@ -52,14 +53,14 @@ module _ (g : Setup) (state : State) (segment : Segment) (begun : ℕ) (here : W
       let new = ended_state g state segment begun here waiting is after world in
       record {
         new = new;
-        allowed = subst (λ (cost : ℕ). IsEnd g state segment.thread cost (length after.areas.pool.free) new)
+        allowed = subst (λ (cost : ℕ). IsEnd g state segment.thread cost (free_count after.areas.pool) new)
             (cost_is g state segment begun here waiting is after (over_end g state segment begun here waiting is after e))
-            (end_allowed g state segment begun here waiting is after world (length after.areas.pool.free) e run stands there refl);
+            (end_allowed g state segment begun here waiting is after world (free_count after.areas.pool) e run stands there refl);
         between = between_after g new refl (formed_after_end g state segment begun here waiting is after e) stands (threads_ended g state segment begun here waiting is after world e stands);
       }
 
   pub stops_here : (stop : Stop) → IsWithin g state segment begun here waiting → step (setting_of g) here ≡ Stops stop → IsCutBy g state segment stop →
-      IsStopped g state segment.thread stop (here.cost - begun) (length here.areas.pool.free) here
+      IsStopped g state segment.thread stop (here.cost - begun) (free_count here.areas.pool) here
   stops_here stop is e puts =
-      subst (λ (cost : ℕ). IsStopped g state segment.thread stop cost (length here.areas.pool.free) here) (stop_cost g state segment begun here waiting is)
-      (stop_allowed g state segment begun here waiting is stop (length here.areas.pool.free) e puts refl)
+      subst (λ (cost : ℕ). IsStopped g state segment.thread stop cost (free_count here.areas.pool) here) (stop_cost g state segment begun here waiting is)
+      (stop_allowed g state segment begun here waiting is stop (free_count here.areas.pool) e puts refl)

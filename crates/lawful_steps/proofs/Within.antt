@@ -28,6 +28,7 @@ use Rattle.lawful_steps.specs.Within.{IsWithin}
 use Rattle.lawful_steps.proofs.Counts.{Counts, Retires, StartsOne, IsOver, counts_step}
 use Rattle.lawful_steps.proofs.Kept.{all_kept, waiting_on, waiting_started, waiting_blocked, waiting_ended}
 use Rattle.lawful_steps.proofs.Own.{found_below, LeavesOwn, StandsFresh, StandsBlocked, IsBlockedSince, own_step}
+use Rattle.chunk_pool.specs.Pool.{free_count}
 
 -- ---- one more step without an entry
 
@@ -206,7 +207,7 @@ module _ (g : Setup) (state : State) (segment : Segment) (begun : ℕ) (here : W
       (record { thread = segment.thread; node = node_number state.past.keys key; since = after.clock } ∷ []) (keys_with state.past.keys key)
 
   pub block_allowed : (after : World) (world : source.World) (key : List ℕ) (free : ℕ) → step (setting_of g) here ≡ Blocks after → HasRun g state segment None world → (rests : RestsBlocked after world) →
-      key ≡ key_of rests.waiting_at → free ≡ length after.areas.pool.free →
+      key ≡ key_of rests.waiting_at → free ≡ free_count after.areas.pool →
       IsBlock g state segment.thread (node_number state.past.keys key) key cost_of free (blocked_state after world key)
   block_allowed after world key free e run rests key_is free_is = record {
     segment = segment;
@@ -254,7 +255,7 @@ module _ (g : Setup) (state : State) (segment : Segment) (begun : ℕ) (here : W
   ended_rest after None stands some = absurd (let no : false ≡ true = some in cc)
 
   pub end_allowed : (after : World) (world : source.World) (free : ℕ) → step (setting_of g) here ≡ Ends after → HasRun g state segment None world → StandsForWorld (checked_of g) g.program after world →
-      IsSome (slice_get world.threads segment.thread) → free ≡ length after.areas.pool.free → IsEnd g state segment.thread cost_of free (ended_state after world)
+      IsSome (slice_get world.threads segment.thread) → free ≡ free_count after.areas.pool → IsEnd g state segment.thread cost_of free (ended_state after world)
   end_allowed after world free e run stands there free_is =
       let gone : thread_of after segment.thread ≡ None = subst (LeavesOwn here segment.thread) e (own_step (setting_of g) here segment.thread numbered is.running) in
       record {
@@ -293,7 +294,7 @@ module _ (g : Setup) (state : State) (segment : Segment) (begun : ℕ) (here : W
 
   -- ---- a stop
 
-  pub stop_allowed : (stop : Stop) (free : ℕ) → step (setting_of g) here ≡ Stops stop → IsCutBy g state segment stop → free ≡ length here.areas.pool.free →
+  pub stop_allowed : (stop : Stop) (free : ℕ) → step (setting_of g) here ≡ Stops stop → IsCutBy g state segment stop → free ≡ free_count here.areas.pool →
       IsStopped g state segment.thread stop (segment.cost + is.steps) free here
   stop_allowed stop free e puts free_is = record {
     segment = segment;

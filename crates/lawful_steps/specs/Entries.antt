@@ -20,6 +20,7 @@ use Rattle.machine_world.specs.Runs.{delivered}
 use Rattle.machine_world.specs.StandsForWorld.{IsBlockedAt}
 use Rattle.machine_world.specs.Threads.{Thread, World, thread_of}
 use Rattle.lawful_steps.specs.Within.{IsBetween, IsWithin}
+use Rattle.chunk_pool.specs.Pool.{free_count}
 
 -- a value that is put is an `out`, and the segment goes on
 pub record PutsHere (g : Setup) (state : State) (segment : Segment) (begun word : ℕ) (after : World) (waiting : List Waiter) : Type 0 where
@@ -36,13 +37,13 @@ pub record BlocksHere (g : Setup) (state : State) (segment : Segment) (begun : �
   pub waiting : Waiting
   pub blocked : IsBlockedAt (checked_of g) g.program after.areas.pool thread block waiting
   pub new : State
-  pub allowed : IsBlock g state segment.thread (node_number state.past.keys (key_of waiting)) (key_of waiting) (after.cost - begun) (length after.areas.pool.free) new
+  pub allowed : IsBlock g state segment.thread (node_number state.past.keys (key_of waiting)) (key_of waiting) (after.cost - begun) (free_count after.areas.pool) new
   pub between : IsBetween g new None after
 
 -- a thread that ends is an `end`
 pub record EndsHere (g : Setup) (state : State) (segment : Segment) (begun : ℕ) (after : World) (world : source.World) : Type 0 where
   pub new : State
-  pub allowed : IsEnd g state segment.thread (after.cost - begun) (length after.areas.pool.free) new
+  pub allowed : IsEnd g state segment.thread (after.cost - begun) (free_count after.areas.pool) new
   pub between : IsBetween g new None after
 
 -- an event that is due is an `event` or a `drop`, where the next line of the trace is its

@@ -13,6 +13,7 @@ ghost use Rattle.lawful_steps.specs.Entries.{BlocksHere, EndsHere, PutsHere};
 ghost use Rattle.lawful_steps.specs.Within.{IsWithin};
 ghost use Rattle.machine_world.specs.StandsForWorld.{StandsForWorld};
 ghost use Rattle.machine_world.specs.Threads.{Blocks, Ends, Goes, Puts, Spawns, Stops, World, step};
+ghost use Rattle.chunk_pool.specs.Pool.{free_count};
 
 /// Within a segment: a step that the log doesn't tell of leads on within it, and a thread that it starts waits at node 0; a
 /// step that puts a value, blocks, ends or stops the run is an entry or a stop that is allowed, given what the source's run
@@ -30,5 +31,5 @@ pub fn segment_entry_laws()
         step (setting_of g) here ≡ Ends after → HasRun g state segment None world → StandsForWorld (checked_of g) g.program after world → IsSome (slice_get world.threads segment.thread) →
         EndsHere g state segment begun after world }
     ensures stops { (g : Setup) (state : State) (segment : Segment) (begun : ℕ) (here : World) (waiting : List Waiter) (stop : Stop) → IsWithin g state segment begun here waiting →
-        step (setting_of g) here ≡ Stops stop → IsCutBy g state segment stop → IsStopped g state segment.thread stop (here.cost - begun) (length here.areas.pool.free) here }
+        step (setting_of g) here ≡ Stops stop → IsCutBy g state segment stop → IsStopped g state segment.thread stop (here.cost - begun) (free_count here.areas.pool) here }
 {}

@@ -53,6 +53,7 @@ use Rattle.lawful_steps.proofs.Within.{within_goes, within_spawns, within_puts, 
 use Rattle.one_log.proofs.Least.{lawful_choice}
 use Rattle.one_log.proofs.Lines.{Next, Over, Line, Refused, next_of, shorter}
 use Rattle.one_log.proofs.Times as times
+use Rattle.chunk_pool.specs.Pool.{free_count}
 
 -- ---- small things
 
@@ -159,8 +160,8 @@ module _ (g : Setup) (scoped : IsWellScoped g.program) (valid : IsValid (lowered
         let formed = formed_after_block g state segment begun now waiting w.is after e in
         let fewer = less after counted.cost formed in
         let is : IsBetween g new None new.machine = between_after g new refl formed found.2.stands (threads_blocked g state segment begun now waiting w.is after found.0 key e found.2.stands) in
-        further state new (Entry.Block segment.thread (node_number state.past.keys key) key (cost_of g state segment begun now waiting w.is) (length after.areas.pool.free))
-        (block_allowed g state segment begun now waiting w.is after found.0 key (length after.areas.pool.free) e run rests refl refl)
+        further state new (Entry.Block segment.thread (node_number state.past.keys key) key (cost_of g state segment begun now waiting w.is) (free_count after.areas.pool))
+        (block_allowed g state segment begun now waiting w.is after found.0 key (free_count after.areas.pool) e run rests refl refl)
         ((smaller fewer.fewer fewer.suc_is).1 new (record { is = is; settled = found.2.settled }) fewer.room)
     by_move (Ends after) e =
         let counted : IsOver now after = counts (Ends after) e in
@@ -173,11 +174,11 @@ module _ (g : Setup) (scoped : IsWellScoped g.program) (valid : IsValid (lowered
         let live = subst (λ (n : ℕ). thread_of now n ≡ Some w.reached.under_way.thread) w.reached.of_thread w.reached.under_way.live in
         let below = found_below segment.thread 0 now.next now.threads w.reached.under_way.thread w.is.formed.counted.numbered live in
         let there : segment.thread < length found.0.threads = let count = found.2.stands.next in let same = counted.next in omega (arith, below, count, same) in
-        further state new (Entry.End segment.thread (cost_of g state segment begun now waiting w.is) (length after.areas.pool.free))
-        (end_allowed g state segment begun now waiting w.is after found.0 (length after.areas.pool.free) e run found.2.stands (some_get found.0.threads segment.thread there) refl)
+        further state new (Entry.End segment.thread (cost_of g state segment begun now waiting w.is) (free_count after.areas.pool))
+        (end_allowed g state segment begun now waiting w.is after found.0 (free_count after.areas.pool) e run found.2.stands (some_get found.0.threads segment.thread there) refl)
         ((smaller fewer.fewer fewer.suc_is).1 new (record { is = is; settled = found.2.settled }) fewer.room)
-    by_move (Stops stop) e = here state (StopLine.Cut segment.thread stop (segment.cost + w.is.steps) (length now.areas.pool.free)) now
-        (stop_allowed g state segment begun now waiting w.is stop (length now.areas.pool.free) e (cut stop (reaches (Stops stop) e)) refl)
+    by_move (Stops stop) e = here state (StopLine.Cut segment.thread stop (segment.cost + w.is.steps) (free_count now.areas.pool)) now
+        (stop_allowed g state segment begun now waiting w.is stop (free_count now.areas.pool) e (cut stop (reaches (Stops stop) e)) refl)
     by_move Wrong e = absurd (reaches Wrong e)
 
     within_goes_on : Rest state

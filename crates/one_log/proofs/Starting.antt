@@ -6,10 +6,10 @@ use Rattle.std.proofs.lemmas.Bool.Decides.{nat_tests}
 use Rattle.c_lower.specs.ProgramCode.{lowered}
 use Rattle.c_tree.specs.WellScoped.{IsWellScoped}
 use Rattle.certificate_rules.specs.Validity.{IsValid}
-use Rattle.chunk_pool.specs.Pool.{Taken, taken_for, start_pool}
+use Rattle.chunk_pool.specs.Pool.{Taken, taken_for}
 use Rattle.lawful_log.specs.Good.{checked_of}
 use Rattle.lawful_log.specs.Lawful.{ending, IsLawfulLog}
-use Rattle.lawful_log.specs.Setup.{Setup, setting_of, main_fact, start_machine}
+use Rattle.lawful_log.specs.Setup.{Setup, setting_of, main_fact, start_machine, start_areas}
 use Rattle.lawful_log.specs.State.{start_of}
 use Rattle.lawful_log.proofs.AtMostOne.{same_entries, same_stops}
 use Rattle.lowered_facts.proofs.Formed.{formed}
@@ -27,21 +27,9 @@ use Rattle.lawful_steps.specs.Waiting.{AreWaiting}
 use Rattle.lawful_steps.proofs.Between.{between_after}
 use Rattle.one_log.specs.One.{HasOneLog}
 use Rattle.one_log.proofs.Runs.{Between, rest_of}
-
--- ---- a chunk for the first thread
-
-record Takes (chunks words need : ℕ) : Type 0 where
-  taken : Taken
-  is : taken_for (start_pool chunks words) need ≡ Some taken
-
-fits_true : (words need : ℕ) → need + 16 ≤ 4 * words → nat_le need (4 * words - 16) ≡ true
-fits_true words need h = let below : need ≤ 4 * words - 16 = omega (arith, h) in grind (arith, nat_tests, below)
-
-takes : (chunks words need : ℕ) → 1 ≤ chunks → need + 16 ≤ 4 * words → Takes chunks words need
-takes zero words need some room = absurd (omega (arith, some))
-takes (suc chunks) words need some room =
-    let taken : Taken = record { chunk = 0; pool = record (start_pool (suc chunks) words) { free = range_with_len 1 chunks } } in
-    record { taken = taken; is = ap (λ (b : Bool). if b then Some taken else None) (fits_true words need room) }
+use Rattle.chunk_pool.proofs.NeedLaws.{taken_for-start}
+use Rattle.chunk_pool.proofs.ShapeLaws.{first_bytes-start}
+use Rattle.machine_world.proofs.CountedLaws.{all_free-new}
 
 -- ---- the first thread waits
 
@@ -60,9 +48,9 @@ first_waits areas taken entry = record {
 -- ---- the start
 
 module _ (g : Setup) (scoped : IsWellScoped g.program) (valid : IsValid (lowered g.program) g.image g.certificate)
-    (well : AreWellFormed (checked_of g) (record { pool = start_pool g.policy.chunks (g.certificate.chunk / 4); globals = g.image.globals; tables = g.image.tables })) (fuel : g.policy.fuel ≤ most_fuel) where
+    (well : AreWellFormed (checked_of g) (start_areas g)) (fuel : g.policy.fuel ≤ most_fuel) where
   abbrev areas : Areas
-  areas = record { pool = start_pool g.policy.chunks (g.certificate.chunk / 4); globals = g.image.globals; tables = g.image.tables }
+  areas = start_areas g
 
   need_fits : (main_fact g).bound + 16 ≤ 4 * (g.certificate.chunk / 4)
   need_fits =
@@ -70,32 +58,31 @@ module _ (g : Setup) (scoped : IsWellScoped g.program) (valid : IsValid (lowered
       let bound = (valid.holds 11 g.program.main 2).v11 refl in
       let within = bound.bound refl code.main_defined in
       let path = ((valid.holds 11 g.program.main 3).v11 refl).path refl in
-      let size : 4 * (g.certificate.chunk / 4) ≡ g.certificate.chunk = well.chunk in
-      omega (arith, within, path, size)
+      omega (arith, within, path, well.chunk, first_bytes-start g.policy.chunks (g.certificate.chunk / 4))
 
-  first : Takes g.policy.chunks (g.certificate.chunk / 4) (main_fact g).bound
-  first = takes g.policy.chunks (g.certificate.chunk / 4) (main_fact g).bound well.pool.some_chunks need_fits
+  first : (taken : Taken) × (taken_for areas.pool (main_fact g).bound ≡ Some taken)
+  first = taken_for-start g.policy.chunks (g.certificate.chunk / 4) (main_fact g).bound well.pool.some_chunks need_fits
 
   abbrev start : World
-  start = with_thread (empty_world areas) first.taken (main_fact g).entry 0
+  start = with_thread (empty_world areas) first.0 (main_fact g).entry 0
 
   starts : start_machine g ≡ Some start
   unfolding start_world
-  starts = ap (started_on (empty_world areas) (main_fact g).entry) first.is
+  starts = ap (started_on (empty_world areas) (main_fact g).entry) first.1
 
   start_formed : IsWellFormed (checked_of g) (setting_of g) start
   start_formed =
       let code = formed g.program g.image g.certificate scoped valid in
       let room = ((CallFacts-valid (lowered g.program) g.image g.certificate code valid).entries g.program.main code.main_defined).room in
       subst (IsWellFormedIf (checked_of g) (setting_of g)) starts
-      (IsWellFormedIf-start (checked_of g) (setting_of g) g.policy.chunks (g.certificate.chunk / 4) g.image.globals g.image.tables (fact_at g.certificate g.program.main).entry (fact_at g.certificate g.program.main).bound well fuel (omega (arith, room)))
+      (IsWellFormedIf-start (checked_of g) (setting_of g) areas (fact_at g.certificate g.program.main).entry (fact_at g.certificate g.program.main).bound well (all_free-new g.policy.chunks (g.certificate.chunk / 4)) fuel (omega (arith, room)))
 
   start_stands : StandsSettled (checked_of g) g.program start (source.start_world g.program)
-  start_stands = starts_law g.program g.image g.certificate start g.policy.chunks (g.certificate.chunk / 4) scoped valid well starts
+  start_stands = starts_law g.program g.image g.certificate start areas scoped valid refl well starts
 
   start_between : (trace : List ℕ) → Between g scoped valid (start_of g trace start)
   start_between trace = record {
-    is = between_after g (start_of g trace start) refl start_formed start_stands.stands (first_waits areas first.taken (main_fact g).entry);
+    is = between_after g (start_of g trace start) refl start_formed start_stands.stands (first_waits areas first.0 (main_fact g).entry);
     settled = start_stands.settled;
   }
 

@@ -1,10 +1,9 @@
-ghost use Rattle.std.specs.Prelude.{◌/◌, ◌≤◌, ℕ, List};
+ghost use Rattle.std.specs.Prelude.{◌≤◌, ℕ, List};
 ghost use Rattle.c_lower.specs.ProgramCode.{lowered};
 ghost use Rattle.c_tree.specs.WellScoped.{IsWellScoped};
 ghost use Rattle.certificate_rules.specs.Validity.{IsValid};
-ghost use Rattle.chunk_pool.specs.Pool.{start_pool};
 ghost use Rattle.lawful_log.specs.Good.{checked_of};
-ghost use Rattle.lawful_log.specs.Setup.{Setup};
+ghost use Rattle.lawful_log.specs.Setup.{Setup, start_areas};
 ghost use Rattle.machine_world.specs.WellFormed.{AreWellFormed, most_fuel};
 ghost use Rattle.one_log.specs.One.{HasOneLog};
 
@@ -12,6 +11,6 @@ ghost use Rattle.one_log.specs.One.{HasOneLog};
 /// make a pool of the certificate's chunks and its fuel is in range. It does nothing.
 pub fn one_log_law()
     ensures { (g : Setup) (trace : List ℕ) → IsWellScoped g.program → IsValid (lowered g.program) g.image g.certificate →
-        AreWellFormed (checked_of g) (record { pool = start_pool g.policy.chunks (g.certificate.chunk / 4); globals = g.image.globals; tables = g.image.tables }) → g.policy.fuel ≤ most_fuel →
+        AreWellFormed (checked_of g) (start_areas g) → g.policy.fuel ≤ most_fuel →
         HasOneLog g trace }
 {}

@@ -30,6 +30,7 @@ use Rattle.runner.specs.Kept.{Kept, known}
 use Rattle.runner.specs.Stands.{IsTraceOf, FitsNext, HasPast, StandsBetween}
 use Rattle.runner.specs.Steps.{IsTold}
 use Rattle.runner.proofs.Times.{timely_delivered}
+use Rattle.chunk_pool.specs.Pool.{free_count}
 
 words_of : (kind : EventKind) → FitsKind kind → DeliversWords (Deliver (delivery_of kind))
 words_of (EventKind.Arrive value) fits = fits
@@ -40,7 +41,7 @@ same_cost : (b : Bool) (w : World) (x : Exchange) → (if b then w else record w
 same_cost true w x = refl
 same_cost false w x = refl
 
-same_held : (b : Bool) (w : World) (x : Exchange) → let v : World = if b then w else record w { exchange = x } in v.areas.pool.count - length v.areas.pool.free ≡ w.areas.pool.count - length w.areas.pool.free
+same_held : (b : Bool) (w : World) (x : Exchange) → let v : World = if b then w else record w { exchange = x } in v.areas.pool.count - free_count v.areas.pool ≡ w.areas.pool.count - free_count w.areas.pool
 same_held true w x = refl
 same_held false w x = refl
 
@@ -82,9 +83,9 @@ module _ (g : Setup) (state : State) (k : Kept) (held : Held) (left : Option (Li
   uses_same : uses_of came_state ≡ uses_of state
   uses_same =
       let held_same = same_held (is_dropped g.policy.backlog held.machine.exchange (delivery_of event.kind)) held.machine (with_delivery held.machine.exchange (delivery_of event.kind)) in
-      let before : held.machine.areas.pool.count - length held.machine.areas.pool.free ≡ state.machine.areas.pool.count - length state.machine.areas.pool.free = ap (λ (w : World). w.areas.pool.count - length w.areas.pool.free) between.machine_is in
+      let before : held.machine.areas.pool.count - free_count held.machine.areas.pool ≡ state.machine.areas.pool.count - free_count state.machine.areas.pool = ap (λ (w : World). w.areas.pool.count - free_count w.areas.pool) between.machine_is in
       ap (λ (n : ℕ). n ∷ drop 1 came_state.source.exchange.uses) (held_same ∙ before)
-      ∙ ap (λ (l : List ℕ). (state.machine.areas.pool.count - length state.machine.areas.pool.free) ∷ drop 1 l)
+      ∙ ap (λ (l : List ℕ). (state.machine.areas.pool.count - free_count state.machine.areas.pool) ∷ drop 1 l)
       (received_uses (drops g state event held.machine between words) state.source (delivery_of event.kind))
 
   trace_on : (left : Option (List ℕ)) → IsTraceOf state.trace k.reader (Next.Event event) left → IsTraceOf (behind state.trace event) k.reader Next.Unread left

@@ -13,6 +13,7 @@ use Rattle.resource_monitor.specs.Monitor.{NoneAbove}
 use Rattle.runner.specs.Recorded.{HasSmallCaps}
 use Rattle.runner.specs.Stands.{IsOf}
 use Rattle.thread_core.specs.Worlds.{Held, used_in, cap_in}
+use Rattle.chunk_pool.specs.Pool.{free_count}
 
 -- ---- caps
 
@@ -41,7 +42,7 @@ within_small held uses small within r below = let most = within r below in let c
 
 used_is : (w : World) (r : ℕ) → used_in w r ≡ slice_index (uses_in (held_chunks w) w.exchange) r
 used_is w zero = refl
-used_is w (suc r) = cond-false (nat_eq (suc r) 0) (w.areas.pool.count - length w.areas.pool.free) (use_of w.exchange (suc r)) (ne_eqb (suc r) 0 (λ e. omega (arith, e))) ∙ sym (at_drop w.exchange.uses r)
+used_is w (suc r) = cond-false (nat_eq (suc r) 0) (w.areas.pool.count - free_count w.areas.pool) (use_of w.exchange (suc r)) (ne_eqb (suc r) 0 (λ e. omega (arith, e))) ∙ sym (at_drop w.exchange.uses r)
 
 -- lists of eight with the same elements are the same
 same_lists : (n : ℕ) (xs ys : List ℕ) → length xs ≡ n → length ys ≡ n → ((r : ℕ) → r < n → slice_index xs r ≡ slice_index ys r) → xs ≡ ys

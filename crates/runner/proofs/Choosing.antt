@@ -40,6 +40,7 @@ use Rattle.runner.proofs.Began.{Lawful, chosen_as, chosen, began_state, began, r
 use Rattle.runner.proofs.Caps.{uses_are, within_policy}
 use Rattle.runner.proofs.Costs.{goes_cost, told_cost, told_formed, falls}
 use Rattle.runner.proofs.Parts.{acts_between, pick_acts, by_some, part_of}
+use Rattle.chunk_pool.specs.Pool.{free_count}
 
 -- ---- small things
 
@@ -98,7 +99,7 @@ module _ (g : Setup) (state : State) (k : Kept) (held : Held) (left : Option (Li
 
   machine_same : uses_in (held_chunks held.machine) held.machine.exchange ≡ uses_of state
   machine_same = ap (λ (w : World). uses_in (held_chunks w) w.exchange) stands.between.machine_is
-      ∙ ap (λ (x : Exchange). (state.machine.areas.pool.count - length state.machine.areas.pool.free) ∷ drop 1 x.uses) stands.between.stands.exchange
+      ∙ ap (λ (x : Exchange). (state.machine.areas.pool.count - free_count state.machine.areas.pool) ∷ drop 1 x.uses) stands.between.stands.exchange
 
   pub uses_now : (uses : List ℕ) → length uses ≡ 8 → ((r : ℕ) → r < 8 → slice_index uses r ≡ used_in held.machine r) → uses ≡ uses_of state
   uses_now uses eight same = uses_are held.machine uses eight formed.exchange.use_count same ∙ machine_same

@@ -30,6 +30,7 @@ use Rattle.runner.proofs.Finished.{TellsEnd, tells_end}
 use Rattle.runner.proofs.Over as over
 use Rattle.runner.proofs.Over.{TellsBlock, tells_block}
 use Rattle.runner.proofs.Parts.{acts_within, by_none, part_of}
+use Rattle.chunk_pool.specs.Pool.{free_count}
 
 module _ (g : Setup) (state : State) (k : Kept) (held : Held) (left : Option (List ℕ)) (under : Under) (stands : StandsWithin g state k held left under) where
   -- ---- the ranges
@@ -68,11 +69,11 @@ module _ (g : Setup) (state : State) (k : Kept) (held : Held) (left : Option (Li
     pub block_part : (node : ℕ) → node ≡ node_number k.graph.keys key → (scheduler : SchedulerState) → IsJoined k.scheduler scheduler node under.choice.thread → (graph : GraphState) → graph.keys ≡ keys_with k.graph.keys key →
         graph.edges ≡ edges_with k.graph.edges (record { from = under.choice.node; to = node; cost = cost; change = changes under.before (uses_in (held_chunks held.machine) held.machine.exchange) }) →
         count_of graph.edges ≡ count_of k.graph.edges + 1 → length graph.keys ≤ length k.graph.keys + 1 → (taken written : Option (List ℕ)) (result : Result (Unit {0}) Failure) →
-        Puts taken written (entry_text (Entry.Block under.choice.thread.number node key cost (length held.machine.areas.pool.free)) ++ 10 ∷ []) result →
+        Puts taken written (entry_text (Entry.Block under.choice.thread.number node key cost (free_count held.machine.areas.pool)) ++ 10 ∷ []) result →
         PartEnds g state left (record k { scheduler = scheduler; graph = graph; under = None }) held left taken written result
     block_part node node_is scheduler joined graph keys edges counted few taken written result puts =
         part_of g state (over.over_state g state k held left under stands law key cost block_told) left (record k { scheduler = scheduler; graph = graph; under = None }) held taken written
-        (Entry.Block under.choice.thread.number node key cost (length held.machine.areas.pool.free)) result
+        (Entry.Block under.choice.thread.number node key cost (free_count held.machine.areas.pool)) result
         (λ told. over.block_is g state k held left under stands law key cost block_told node node_is) block_acts
         (by_none g (over.over_state g state k held left under stands law key cost block_told) (record k { scheduler = scheduler; graph = graph; under = None }) held left refl
         (over.over_stands g state k held left under stands law key cost block_told node node_is (uses_in (held_chunks held.machine) held.machine.exchange) refl scheduler joined graph keys edges counted few)) puts
@@ -96,11 +97,11 @@ module _ (g : Setup) (state : State) (k : Kept) (held : Held) (left : Option (Li
     pub end_part : (graph : GraphState) → graph.keys ≡ k.graph.keys →
         graph.edges ≡ edges_with k.graph.edges (record { from = under.choice.node; to = end_node; cost = cost; change = changes under.before (uses_in (held_chunks held.machine) held.machine.exchange) }) →
         count_of graph.edges ≡ count_of k.graph.edges + 1 → (taken written : Option (List ℕ)) (result : Result (Unit {0}) Failure) →
-        Puts taken written (entry_text (Entry.End under.choice.thread.number cost (length held.machine.areas.pool.free)) ++ 10 ∷ []) result →
+        Puts taken written (entry_text (Entry.End under.choice.thread.number cost (free_count held.machine.areas.pool)) ++ 10 ∷ []) result →
         PartEnds g state left (record k { graph = graph; under = None }) held left taken written result
     end_part graph keys edges counted taken written result puts =
         part_of g state (finished.over_state g state k held left under stands end_law cost end_told) left (record k { graph = graph; under = None }) held taken written
-        (Entry.End under.choice.thread.number cost (length held.machine.areas.pool.free)) result
+        (Entry.End under.choice.thread.number cost (free_count held.machine.areas.pool)) result
         (λ told. finished.end_is g state k held left under stands end_law cost end_told (finished.was_there g state k held left under stands end_law cost end_told)) end_acts
         (by_none g (finished.over_state g state k held left under stands end_law cost end_told) (record k { graph = graph; under = None }) held left refl
         (finished.end_stands g state k held left under stands end_law cost end_told (uses_in (held_chunks held.machine) held.machine.exchange) refl graph keys edges counted)) puts

@@ -29,6 +29,7 @@ use Rattle.runner.specs.declared.course.Under.{Under}
 use Rattle.runner.specs.Kept.{Kept, known}
 use Rattle.runner.specs.Stands.{StandsBetween, StandsWithin, StepsAsSource}
 use Rattle.runner.proofs.Over.{between_any, gate_more, edges_more}
+use Rattle.chunk_pool.specs.Pool.{free_count}
 
 some_get : {X : Type 0} (xs : List X) (k : ℕ) → k < length xs → IsSome (slice_get xs k)
 some_get [] k h = absurd (omega (arith, h))
@@ -75,19 +76,19 @@ module _ (g : Setup) (state : State) (k : Kept) (held : Held) (left : Option (Li
       let count = reaches.2.stands.next in let same = over.next in
       some_get reaches.0.threads stands.segment.thread (omega (arith, below, count, same))
 
-  pub end_is : IsSome (slice_get reaches.0.threads stands.segment.thread) → IsEnd g state under.choice.thread.number cost (length held.machine.areas.pool.free) over_state
+  pub end_is : IsSome (slice_get reaches.0.threads stands.segment.thread) → IsEnd g state under.choice.thread.number cost (free_count held.machine.areas.pool) over_state
   end_is there =
-      let is : IsEnd g state stands.segment.thread (cost_of g state stands.segment held.begun stands.here stands.waiting stands.within) (length held.machine.areas.pool.free) over_state =
-      end_allowed g state stands.segment held.begun stands.here stands.waiting stands.within told.after reaches.0 (length held.machine.areas.pool.free) told.step_is run_is reaches.2.stands there (ap (λ (w : World). length w.areas.pool.free) told.machine) in
-      subst (λ (n : ℕ). IsEnd g state n cost (length held.machine.areas.pool.free) over_state) (sym stands.thread_is)
-      (subst (λ (n : ℕ). IsEnd g state stands.segment.thread n (length held.machine.areas.pool.free) over_state) cost_same is)
+      let is : IsEnd g state stands.segment.thread (cost_of g state stands.segment held.begun stands.here stands.waiting stands.within) (free_count held.machine.areas.pool) over_state =
+      end_allowed g state stands.segment held.begun stands.here stands.waiting stands.within told.after reaches.0 (free_count held.machine.areas.pool) told.step_is run_is reaches.2.stands there (ap (λ (w : World). free_count w.areas.pool) told.machine) in
+      subst (λ (n : ℕ). IsEnd g state n cost (free_count held.machine.areas.pool) over_state) (sym stands.thread_is)
+      (subst (λ (n : ℕ). IsEnd g state stands.segment.thread n (free_count held.machine.areas.pool) over_state) cost_same is)
 
   module _ (uses : List ℕ) (uses_is : uses ≡ uses_in (held_chunks held.machine) held.machine.exchange) (graph : GraphState) (keys_are : graph.keys ≡ k.graph.keys)
       (edges_are : graph.edges ≡ edges_with k.graph.edges (record { from = under.choice.node; to = end_node; cost = cost; change = changes under.before uses }))
       (counted : count_of graph.edges ≡ count_of k.graph.edges + 1) where
     uses_same : uses ≡ uses_in (held_chunks told.after) reaches.0.exchange
     uses_same = uses_is ∙ ap (λ (w : World). uses_in (held_chunks w) w.exchange) told.machine
-        ∙ ap (λ (x : Exchange). (told.after.areas.pool.count - length told.after.areas.pool.free) ∷ drop 1 x.uses) reaches.2.stands.exchange
+        ∙ ap (λ (x : Exchange). (told.after.areas.pool.count - free_count told.after.areas.pool) ∷ drop 1 x.uses) reaches.2.stands.exchange
 
     record_same : (let r : SegmentRecord = record { from = under.choice.node; to = end_node; cost = cost; change = changes under.before uses } in r) ≡
         record { from = stands.segment.node; to = end_node; cost = cost_of g state stands.segment held.begun stands.here stands.waiting stands.within; change = changes stands.segment.uses (uses_in (held_chunks told.after) reaches.0.exchange) }

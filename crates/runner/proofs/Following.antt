@@ -33,6 +33,7 @@ use Rattle.thread_core.specs.Worlds.{Held}
 use Rattle.runner.proofs.Acting.{acts_on}
 use Rattle.runner.proofs.Parts.{no_acts, no_line, by_none}
 use Rattle.runner.proofs.Started.{scoped, valid, starts, well, fuel_most}
+use Rattle.chunk_pool.specs.Pool.{free_count}
 
 -- ---- lists and texts
 
@@ -199,7 +200,7 @@ module _ (g : Setup) (first : Held) (left_first taken_first : Option (List ℕ))
     -- it stops
     module _ (halt : Halt) (new : Kept) (after : Held) (mid : Option (List ℕ)) (halts : HaltsAt g so_far.state so_far.left new after halt taken mid) where
       abbrev stop : StopLine
-      stop = stop_line halt (length after.machine.areas.pool.free)
+      stop = stop_line halt (free_count after.machine.areas.pool)
 
       abbrev whole : List Entry
       whole = so_far.entries ++ ending g so_far.state stop
@@ -232,7 +233,7 @@ module _ (g : Setup) (first : Held) (left_first taken_first : Option (List ℕ))
         stop = stop;
         lawful = lawful;
         good = good_if g first monitor at sound left_first whole stop after.machine lawful;
-        end_is = end_at halt (length after.machine.areas.pool.free);
+        end_is = end_at halt (free_count after.machine.areas.pool);
         writes = subst (λ (l : List ℕ). Appends taken_first written l) (sym (text_append so_far.entries (ending g so_far.state stop)))
             (appends_on taken_first taken written (log_text so_far.entries) (log_text (ending g so_far.state stop)) so_far.writes (subst (λ (l : List ℕ). Appends taken written l) end_is (subst (λ (m : Option (List ℕ)). Appends m written (log_text (end_lines after.setting.caps new.graph.edges stop))) halts.writes puts)));
       }

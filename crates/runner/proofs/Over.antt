@@ -7,7 +7,7 @@ use Rattle.blocking_graph.specs.Graph.{GraphState}
 use Rattle.blocking_graph.specs.Nodes.{keys_with, node_number}
 use Rattle.blocking_graph.specs.declared.edges.EdgeLine.{EdgeLine}
 use Rattle.blocking_graph.specs.declared.segments.SegmentRecord.{SegmentRecord}
-use Rattle.chunk_pool.specs.Pool.{Pool}
+use Rattle.chunk_pool.specs.Pool.{Pool, free_count}
 use Rattle.c_mean.specs.Frames.{Waiting, key_of}
 use Rattle.c_mean.specs.ModelledCalls.{Exchange}
 use Rattle.c_tree.specs.Trees.{ProgramTree}
@@ -113,13 +113,13 @@ module _ (g : Setup) (state : State) (k : Kept) (held : Held) (left : Option (Li
   cost_same = cost_is g state stands.segment held.begun stands.here stands.waiting stands.within told.after (over_block g state stands.segment held.begun stands.here stands.waiting stands.within told.after told.step_is)
       ∙ ap (λ (w : World). w.cost - held.begun) (sym told.machine) ∙ sym told.cost_is
 
-  pub block_is : (node : ℕ) → node ≡ node_number k.graph.keys key → IsBlock g state under.choice.thread.number node key cost (length held.machine.areas.pool.free) over_state
+  pub block_is : (node : ℕ) → node ≡ node_number k.graph.keys key → IsBlock g state under.choice.thread.number node key cost (free_count held.machine.areas.pool) over_state
   block_is node node_is =
-      let there : IsBlock g state stands.segment.thread (node_number state.past.keys key) key (cost_of g state stands.segment held.begun stands.here stands.waiting stands.within) (length held.machine.areas.pool.free) over_state =
-      block_allowed g state stands.segment held.begun stands.here stands.waiting stands.within told.after reaches.0 key (length held.machine.areas.pool.free) told.step_is run_is rests key_same (ap (λ (w : World). length w.areas.pool.free) told.machine) in
-      subst (λ (n : ℕ). IsBlock g state n node key cost (length held.machine.areas.pool.free) over_state) (sym stands.thread_is)
-      (subst (λ (n : ℕ). IsBlock g state stands.segment.thread n key cost (length held.machine.areas.pool.free) over_state) (sym (node_is ∙ ap (λ (ks : List (List ℕ)). node_number ks key) stands.past.graph_is.keys))
-      (subst (λ (n : ℕ). IsBlock g state stands.segment.thread (node_number state.past.keys key) key n (length held.machine.areas.pool.free) over_state) cost_same there))
+      let there : IsBlock g state stands.segment.thread (node_number state.past.keys key) key (cost_of g state stands.segment held.begun stands.here stands.waiting stands.within) (free_count held.machine.areas.pool) over_state =
+      block_allowed g state stands.segment held.begun stands.here stands.waiting stands.within told.after reaches.0 key (free_count held.machine.areas.pool) told.step_is run_is rests key_same (ap (λ (w : World). free_count w.areas.pool) told.machine) in
+      subst (λ (n : ℕ). IsBlock g state n node key cost (free_count held.machine.areas.pool) over_state) (sym stands.thread_is)
+      (subst (λ (n : ℕ). IsBlock g state stands.segment.thread n key cost (free_count held.machine.areas.pool) over_state) (sym (node_is ∙ ap (λ (ks : List (List ℕ)). node_number ks key) stands.past.graph_is.keys))
+      (subst (λ (n : ℕ). IsBlock g state stands.segment.thread (node_number state.past.keys key) key n (free_count held.machine.areas.pool) over_state) cost_same there))
 
   -- ---- how the run stands after it
 
@@ -129,7 +129,7 @@ module _ (g : Setup) (state : State) (k : Kept) (held : Held) (left : Option (Li
       (counted : count_of graph.edges ≡ count_of k.graph.edges + 1) (few : length graph.keys ≤ length k.graph.keys + 1) where
     uses_same : uses ≡ uses_in (held_chunks told.after) reaches.0.exchange
     uses_same = uses_is ∙ ap (λ (w : World). uses_in (held_chunks w) w.exchange) told.machine
-        ∙ ap (λ (x : Exchange). (told.after.areas.pool.count - length told.after.areas.pool.free) ∷ drop 1 x.uses) reaches.2.stands.exchange
+        ∙ ap (λ (x : Exchange). (told.after.areas.pool.count - free_count told.after.areas.pool) ∷ drop 1 x.uses) reaches.2.stands.exchange
 
     number_same : node ≡ node_number state.past.keys key
     number_same = node_is ∙ ap (λ (ks : List (List ℕ)). node_number ks key) stands.past.graph_is.keys

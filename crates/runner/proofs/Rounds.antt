@@ -24,6 +24,7 @@ use Rattle.thread_core.specs.Worlds.{Held}
 use Rattle.runner.proofs.Following.{Follows, follows_first, follows_on, fails_now, comes_to, stops_short, fell_leads, keeps_taken}
 use Rattle.runner.proofs.Parts.{no_acts}
 use Rattle.runner.proofs.Stepping.{keeps_on, keeps_same}
+use Rattle.chunk_pool.specs.Pool.{free_count}
 
 pub record RunsOn (first : Held) (monitor : MonitorState) (left_first taken_first : Option (List ℕ)) (reads_first writes_first : ℕ) (k : Kept) (held : Held) (told_left taken : Option (List ℕ)) (reads writes : ℕ) : Type 0 where
   pub some : (g : Setup) × IsAtStart g first monitor
@@ -103,7 +104,7 @@ module _ (first : Held) (monitor : MonitorState) (left_first taken_first : Optio
       came_by (Halt.BadTrace line) g came same = (came, counts.0 ∙ runs.same_reads, same)
       came_by (Halt.Cut thread stop cost) g came same = came_cut thread stop cost g came same
 
-      pub run_comes : Appends written last (log_text (end_lines after.setting.caps new.graph.edges (stop_line halt (length after.machine.areas.pool.free)))) → CountsPart {V = Unit {0}} (Ok tt) writes_after writes_last → (g : Setup) → IsAtStart g first monitor →
+      pub run_comes : Appends written last (log_text (end_lines after.setting.caps new.graph.edges (stop_line halt (free_count after.machine.areas.pool)))) → CountsPart {V = Unit {0}} (Ok tt) writes_after writes_last → (g : Setup) → IsAtStart g first monitor →
           IsRunEnd g after left_first taken_first last reads_first reads_after writes_first writes_last (halt_end halt)
       run_comes puts same g at =
           came_by halt g (comes_to g first left_first taken_first k held told taken (runs.follows g at) monitor at runs.sound halt new after written (halts g at) last puts) (same ∙ counts.1 ∙ runs.same_writes)
@@ -114,7 +115,7 @@ module _ (first : Held) (monitor : MonitorState) (left_first taken_first : Optio
       short_by Failure.Write g short c = (short, counts.0 ∙ runs.same_reads, subst (λ (n : ℕ). HasRisen n writes_last) (counts.1 ∙ runs.same_writes) c)
       short_by Failure.Memory g short c = (short, counts.0 ∙ runs.same_reads, c ∙ counts.1 ∙ runs.same_writes)
 
-      pub run_unwritten : (failure : Failure) → Puts {E = Failure} written last (log_text (end_lines after.setting.caps new.graph.edges (stop_line halt (length after.machine.areas.pool.free)))) (Err failure) → CountsPart {V = Unit {0}} (Err failure) writes_after writes_last →
+      pub run_unwritten : (failure : Failure) → Puts {E = Failure} written last (log_text (end_lines after.setting.caps new.graph.edges (stop_line halt (free_count after.machine.areas.pool)))) (Err failure) → CountsPart {V = Unit {0}} (Err failure) writes_after writes_last →
           (g : Setup) → IsAtStart g first monitor → IsRunEnd g after left_first taken_first last reads_first reads_after writes_first writes_last (failure_end failure)
       run_unwritten failure puts c g at =
           short_by failure g (stops_short g first left_first taken_first k held told taken (runs.follows g at) monitor at runs.sound halt new after written (halts g at) last puts.0 puts.1 puts.2) c

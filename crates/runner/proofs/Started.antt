@@ -8,11 +8,11 @@ use Rattle.c_tree.specs.Trees.{ProgramTree}
 use Rattle.c_tree.specs.WellScoped.{IsWellScoped}
 use Rattle.certificate_check.specs.Accepting.{accepted_tree}
 use Rattle.certificate_rules.specs.Validity.{IsValid}
-use Rattle.chunk_pool.specs.Pool.{Pool, Taken, IsPool, fits, taken_of, start_pool, taken_for}
+use Rattle.chunk_pool.specs.Pool.{Taken, IsPool, start_pool, taken_for}
 use Rattle.chunk_pool.proofs.PoolStart.{IsPool-start_bytes}
 use Rattle.choice_rules.specs.Policy.{all_caps}
 use Rattle.lawful_log.specs.Good.{checked_of}
-use Rattle.lawful_log.specs.Setup.{Setup, setting_of, main_fact, start_machine}
+use Rattle.lawful_log.specs.Setup.{Setup, setting_of, main_fact, start_machine, start_areas}
 use Rattle.lawful_log.specs.State.{State, start_of, uses_of}
 use Rattle.lawful_steps.specs.Waiting.{AreWaiting, AreQueued}
 use Rattle.lawful_steps.proofs.Between.{between_after}
@@ -40,6 +40,8 @@ use Rattle.world_source.specs.UnderWay.{IsSettled}
 use Rattle.world_source.proofs.Between.{starts_law}
 use Rattle.runner.proofs.Times.{timely_start}
 use Rattle.runner.proofs.Told.{queued_more}
+use Rattle.chunk_pool.proofs.NeedLaws.{taken_for-count}
+use Rattle.chunk_pool.proofs.ShapeLaws.{first_bytes-start}
 
 -- ---- the machine world at the start
 
@@ -48,28 +50,15 @@ record Begun (areas : Areas) (entry : ℕ) (w : World) : Type 0 where
   is : w ≡ with_thread (empty_world areas) taken entry 0
   count : taken.pool.count ≡ areas.pool.count
 
-count_by : (p : Pool) (need id : ℕ) (ids : List ℕ) (taken : Taken) (b : Bool) → (if b then Some (let t : Taken = record { chunk = id; pool = record p { free = ids } } in t) else None) ≡ Some taken → taken.pool.count ≡ p.count
-count_by p need id ids taken true e =
-    let same : (let t : Taken = record { chunk = id; pool = record p { free = ids } } in t) ≡ taken = cc in sym (ap (λ (t : Taken). t.pool.count) same)
-count_by p need id ids taken false e = absurd (cc)
-
-count_of_taken : (p : Pool) (need : ℕ) (ids : List ℕ) (taken : Taken) → taken_of p need ids ≡ Some taken → taken.pool.count ≡ p.count
-count_of_taken p need [] taken e = absurd (cc)
-count_of_taken p need (id ∷ ids) taken e = count_by p need id ids taken (fits p need id) e
-
 begun_on : (areas : Areas) (entry need : ℕ) (w : World) (found : Option Taken) → taken_for areas.pool need ≡ found → started_on (empty_world areas) entry found ≡ Some w → Begun areas entry w
 begun_on areas entry need w None f e = absurd (cc)
 begun_on areas entry need w (Some taken) f e =
     let same : with_thread (empty_world areas) taken entry 0 ≡ w = cc in
-    record { taken = taken; is = sym same; count = count_of_taken areas.pool need areas.pool.free taken f }
+    record { taken = taken; is = sym same; count = taken_for-count areas.pool need taken f }
 
-abbrev areas_of : ℕ → ℕ → List ℕ → List ℕ → Areas
-areas_of chunks words globals tables = record { pool = start_pool chunks words; globals = globals; tables = tables }
-
-begun : (chunks words : ℕ) (globals tables : List ℕ) (entry need : ℕ) (w : World) → start_world chunks words globals tables entry need ≡ Some w → Begun (areas_of chunks words globals tables) entry w
+begun : (areas : Areas) (entry need : ℕ) (w : World) → start_world areas entry need ≡ Some w → Begun areas entry w
 unfolding start_world
-begun chunks words globals tables entry need w e =
-    begun_on (areas_of chunks words globals tables) entry need w (taken_for (areas_of chunks words globals tables).pool need) refl e
+begun areas entry need w e = begun_on areas entry need w (taken_for areas.pool need) refl e
 
 zero_only : (n : ℕ) (t : Bool) {X : Type 0} (x : X) → nat_eq 0 n ≡ t → IsSome (if t then Some x else None) → (t || false) ≡ true
 zero_only n true x e some = refl
@@ -100,17 +89,20 @@ module _ (g : Setup) (held : Held) (monitor : MonitorState) (at : IsAtStart g he
       (subst (λ (i : Image). IsValid (lowered g.program) i held.accepted.certificate) at.image
       (subst (λ (p : ProgramTree). IsValid (lowered p) held.accepted.image held.accepted.certificate) at.program sound.valid))
 
+  abbrev areas_with : Certificate → Image → Areas
+  areas_with c i = record { pool = start_pool g.policy.chunks (c.chunk / 4); globals = i.globals; tables = i.tables }
+
   pub starts : start_machine g ≡ Some held.machine
-  starts = subst (λ (p : ProgramTree). start_world g.policy.chunks (g.certificate.chunk / 4) g.image.globals g.image.tables (fact_at g.certificate p.main).entry (fact_at g.certificate p.main).bound ≡ Some held.machine) at.program
-      (subst (λ (c : Certificate). start_world g.policy.chunks (c.chunk / 4) g.image.globals g.image.tables (fact_at c (accepted_tree held.accepted).main).entry (fact_at c (accepted_tree held.accepted).main).bound ≡ Some held.machine) at.certificate
-      (subst (λ (i : Image). start_world g.policy.chunks (held.accepted.certificate.chunk / 4) i.globals i.tables (fact_at held.accepted.certificate (accepted_tree held.accepted).main).entry
+  starts = subst (λ (p : ProgramTree). start_world (start_areas g) (fact_at g.certificate p.main).entry (fact_at g.certificate p.main).bound ≡ Some held.machine) at.program
+      (subst (λ (c : Certificate). start_world (areas_with c g.image) (fact_at c (accepted_tree held.accepted).main).entry (fact_at c (accepted_tree held.accepted).main).bound ≡ Some held.machine) at.certificate
+      (subst (λ (i : Image). start_world (areas_with held.accepted.certificate i) (fact_at held.accepted.certificate (accepted_tree held.accepted).main).entry
       (fact_at held.accepted.certificate (accepted_tree held.accepted).main).bound ≡ Some held.machine) at.image at.made.machine))
 
   abbrev areas : Areas
-  areas = areas_of g.policy.chunks (g.certificate.chunk / 4) g.image.globals g.image.tables
+  areas = start_areas g
 
   shape : Begun areas (main_fact g).entry held.machine
-  shape = begun g.policy.chunks (g.certificate.chunk / 4) g.image.globals g.image.tables (main_fact g).entry (main_fact g).bound held.machine starts
+  shape = begun (start_areas g) (main_fact g).entry (main_fact g).bound held.machine starts
 
   checked_same : (let c : Checked = record { flat = lowered (accepted_tree held.accepted); certificate = held.accepted.certificate } in c) ≡ checked_of g
   checked_same =
@@ -144,14 +136,15 @@ module _ (g : Setup) (held : Held) (monitor : MonitorState) (at : IsAtStart g he
   globals_same = ap (λ (w : World). w.areas.globals) shape.is
 
   -- the areas at the start are well formed
-  pub well : AreWellFormed (checked_of g) (record { pool = start_pool g.policy.chunks (g.certificate.chunk / 4); globals = g.image.globals; tables = g.image.tables })
-  well = areas_formed (lowered g.program) g.image g.certificate areas valid pool_sound (subst AreWords globals_same start_formed.areas.global_words) fours refl refl
+  pub well : AreWellFormed (checked_of g) (start_areas g)
+  well = areas_formed (lowered g.program) g.image g.certificate areas valid pool_sound (subst AreWords globals_same start_formed.areas.global_words)
+      (first_bytes-start g.policy.chunks (g.certificate.chunk / 4) ∙ fours) refl refl
 
   pub fuel_most : g.policy.fuel ≤ most_fuel
   fuel_most = at.ranges.most
 
   settled : IsSettled (checked_of g) held.machine
-  settled = (starts_law g.program g.image g.certificate held.machine g.policy.chunks (g.certificate.chunk / 4) scoped valid well starts).settled
+  settled = (starts_law g.program g.image g.certificate held.machine areas scoped valid refl well starts).settled
 
   small_by : (r : ℕ) → r < 8 → slice_index (all_caps g.policy) r ≤ 1000000
   small_by zero below = let most = at.ranges.chunks in omega (arith, most)
@@ -164,7 +157,7 @@ module _ (g : Setup) (held : Held) (monitor : MonitorState) (at : IsAtStart g he
     certificate = at.certificate;
     setting = setting_same;
     chunks = ap (λ (w : World). w.areas.pool.count) shape.is ∙ shape.count;
-    timely = timely_start g.policy.chunks (g.certificate.chunk / 4) g.image.globals g.image.tables (main_fact g).entry (main_fact g).bound held.machine starts;
+    timely = timely_start areas (main_fact g).entry (main_fact g).bound held.machine starts;
     rule = at.rule;
     small = small_by;
     scoped = scoped;

@@ -10,7 +10,7 @@ use Rattle.cap_word.specs.declared.calls.Block.{Block}
 use Rattle.cap_word.specs.declared.stops.Stop.{Stop}
 use Rattle.cap_word.specs.declared.traps.TrapKind.{TrapKind}
 use Rattle.c_mean.specs.ModelledCalls.{Exchange, blocking_row, immediate_row, ticks_of, wakes_at, Delivery, is_dropped, with_delivery}
-use Rattle.chunk_pool.specs.Pool.{Taken, taken_for, start_pool}
+use Rattle.chunk_pool.specs.Pool.{Taken, taken_for}
 use Rattle.lawful_steps.specs.Tests.{waking_time}
 use Rattle.machine_world.specs.Areas.{Areas}
 use Rattle.machine_world.specs.Local as local
@@ -219,14 +219,13 @@ times_started_on : (w : World) (entry : ℕ) (found : Option Taken) → IsTimely
 times_started_on w entry None is = tt
 times_started_on w entry (Some taken) is = times_started w taken entry 0 is
 
-times_start : (chunks words : ℕ) (globals tables : List ℕ) (entry need : ℕ) → TimelyIf (start_world chunks words globals tables entry need)
+times_start : (areas : Areas) (entry need : ℕ) → TimelyIf (start_world areas entry need)
 unfolding start_world
-times_start chunks words globals tables entry need =
-    let areas : Areas = record { pool = start_pool chunks words; globals = globals; tables = tables } in
+times_start areas entry need =
     times_started_on (empty_world areas) entry (taken_for areas.pool need) (record { clock = omega arith; sleepers = tt })
 
-pub timely_start : (chunks words : ℕ) (globals tables : List ℕ) (entry need : ℕ) (w : World) → start_world chunks words globals tables entry need ≡ Some w → IsTimely w
-timely_start chunks words globals tables entry need w e = subst TimelyIf e (times_start chunks words globals tables entry need)
+pub timely_start : (areas : Areas) (entry need : ℕ) (w : World) → start_world areas entry need ≡ Some w → IsTimely w
+timely_start areas entry need w e = subst TimelyIf e (times_start areas entry need)
 
 -- ---- the clock can be set so far
 

@@ -25,6 +25,7 @@ use Rattle.world_source.specs.Reached.{IsReached, StepReaches}
 use Rattle.runner.specs.declared.course.Under.{Under}
 use Rattle.runner.specs.Kept.{Kept}
 use Rattle.runner.specs.Stands.{StandsInside, StandsWithin, StepsAsSource}
+use Rattle.chunk_pool.specs.Pool.{free_count}
 
 -- ---- which step a turn tells
 
@@ -191,12 +192,12 @@ module _ (g : Setup) (state : State) (k : Kept) (held : Held) (left : Option (Li
     cut_by Stop.Fuel r = cut_here
     cut_by Stop.Threads r = cut_here
 
-    pub cut_is : IsStopped g state under.choice.thread.number stop cost (length held.machine.areas.pool.free) held.machine
+    pub cut_is : IsStopped g state under.choice.thread.number stop cost (free_count held.machine.areas.pool) held.machine
     cut_is =
         let puts = cut_by stop (subst (StepReaches (checked_of g) g.program (setting_of g) state.source stands.segment.thread stands.segment.puts) cut_told.step_is (law stands.segment.puts stands.here stands.within.formed stands.reached)) in
-        let there : IsStopped g state stands.segment.thread stop (stands.here.cost - held.begun) (length stands.here.areas.pool.free) stands.here =
+        let there : IsStopped g state stands.segment.thread stop (stands.here.cost - held.begun) (free_count stands.here.areas.pool) stands.here =
         stops_here g state stands.segment held.begun stands.here stands.waiting stop stands.within cut_told.step_is puts in
-        let now : IsStopped g state stands.segment.thread stop (held.machine.cost - held.begun) (length held.machine.areas.pool.free) held.machine =
-        subst (λ (w : World). IsStopped g state stands.segment.thread stop (w.cost - held.begun) (length w.areas.pool.free) w) (sym cut_told.machine) there in
-        subst (λ (n : ℕ). IsStopped g state n stop cost (length held.machine.areas.pool.free) held.machine) (sym stands.thread_is)
-        (subst (λ (n : ℕ). IsStopped g state stands.segment.thread stop n (length held.machine.areas.pool.free) held.machine) (sym cut_told.cost_is) now)
+        let now : IsStopped g state stands.segment.thread stop (held.machine.cost - held.begun) (free_count held.machine.areas.pool) held.machine =
+        subst (λ (w : World). IsStopped g state stands.segment.thread stop (w.cost - held.begun) (free_count w.areas.pool) w) (sym cut_told.machine) there in
+        subst (λ (n : ℕ). IsStopped g state n stop cost (free_count held.machine.areas.pool) held.machine) (sym stands.thread_is)
+        (subst (λ (n : ℕ). IsStopped g state stands.segment.thread stop n (free_count held.machine.areas.pool) held.machine) (sym cut_told.cost_is) now)

@@ -17,6 +17,7 @@ use Rattle.thread_core.specs.Worlds.{Held}
 use Rattle.runner.specs.Kept.{Kept}
 use Rattle.runner.specs.Ways.{IsOnWay}
 use Rattle.runner.specs.Stands.{IsOf, Stands}
+use Rattle.chunk_pool.specs.Pool.{free_count}
 
 -- the trace is told
 abbrev pub IsTold : Option (List ℕ) → Type 0
@@ -48,7 +49,7 @@ pub record GoesTo (g : Setup) (state : State) (before : Option (List ℕ)) (k : 
 -- the run stops here, in the machine world as it is now
 pub record HaltsAt (g : Setup) (state : State) (before : Option (List ℕ)) (k : Kept) (held : Held) (halt : Halt) (taken written : Option (List ℕ)) : Type 0 where
   pub of : IsOf g held
-  pub stops : IsTold before → IsStop g state (stop_line halt (length held.machine.areas.pool.free)) held.machine
+  pub stops : IsTold before → IsStop g state (stop_line halt (free_count held.machine.areas.pool)) held.machine
   pub graph : IsGraphOf k.graph state.past
   pub acts : ActsTo (setting_of g) state.machine held.machine
   pub way : IsOnWay (setting_of g) state.machine held.machine

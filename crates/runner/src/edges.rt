@@ -5,6 +5,7 @@ ghost use Rattle.runner.specs.Counts.{CountsPart};
 ghost use Rattle.runner.specs.Lines.{edge_line, edge_lines, end_lines};
 ghost use Rattle.runner.specs.Steps.{stop_line};
 ghost use Rattle.schedule_log.specs.EntryText.{log_text};
+ghost use Rattle.chunk_pool.specs.Pool.{free_count};
 
 use crate::ends::{Failure, Halt};
 use crate::lines::write_line;
@@ -22,7 +23,7 @@ pub(crate) fn write_end<K: Sink>(
     halt: Halt,
     out: &mut K,
 ) -> Result<(), Failure>
-    ensures bytes { Puts (K.taken out.old) (K.taken out.new) (log_text (end_lines world.now.setting.caps graph.now.edges (stop_line halt (length world.now.machine.areas.pool.free)))) result }
+    ensures bytes { Puts (K.taken out.old) (K.taken out.new) (log_text (end_lines world.now.setting.caps graph.now.edges (stop_line halt (free_count world.now.machine.areas.pool)))) result }
     ensures counts { CountsPart result (K.faults out.old) (K.faults out.new) }
 {
     let Ok(edges) = graph.edges() else {

@@ -10,6 +10,7 @@ use Rattle.runner.specs.Lines.{edge_lines, end_lines}
 use Rattle.runner.specs.Steps.{stop_line}
 use Rattle.runner.proofs.Edged.{nothing_put, puts_begun, puts_more, end_text_of, line_counts, counts_on}
 use Rattle.runner.proofs.edges.write_end.Goals as goal
+use Rattle.chunk_pool.specs.Pool.{free_count}
 
 pub returns-in_default-clause-bytes : goal.returns-in_default-clause-bytes
 returns-in_default-clause-bytes g c = (0, omega arith, nothing_put (g.K.Sink.taken c.args.out.now))
@@ -20,7 +21,7 @@ returns-in_default-clause-counts g c = refl
 pub returns-in_err-write_edges-clause-bytes : goal.returns-in_err-write_edges-clause-bytes
 returns-in_err-write_edges-clause-bytes g c =
     let p = err_from_is_err_and c.from_residual.result c.from_residual.ensures.1 in
-    let stop = stop_line c.args.halt (length c.args.world.now.machine.areas.pool.free) in
+    let stop = stop_line c.args.halt (free_count c.args.world.now.machine.areas.pool) in
     let caps = c.args.world.now.setting.caps in
     subst (λ r. Puts (g.K.Sink.taken c.args.out.now) (g.K.Sink.taken c.write_edges.new.out) (log_text (end_lines caps c.args.graph.now.edges stop)) r) (sym p.1)
     (puts_begun (g.K.Sink.taken c.args.out.now) (g.K.Sink.taken c.write_edges.new.out) (log_text (edge_lines caps c.deref.result.now)) (entry_text (Entry.Stop stop) ++ 10 ∷ []) (log_text (end_lines caps c.args.graph.now.edges stop)) p.0
@@ -35,7 +36,7 @@ returns-in_err-write_edges-clause-counts g c =
 
 pub returns-clause-bytes : goal.returns-clause-bytes
 returns-clause-bytes g c =
-    let stop = stop_line c.args.halt (length c.args.world.now.machine.areas.pool.free) in
+    let stop = stop_line c.args.halt (free_count c.args.world.now.machine.areas.pool) in
     let caps = c.args.world.now.setting.caps in
     let stop_is : c.line-line.result ≡ stop = c.line-line.ensures ∙ ap (λ (n : ℕ). stop_line c.args.halt n) c.free.ensures in
     subst (λ (l : List ℕ). Puts (g.K.Sink.taken c.args.out.now) (g.K.Sink.taken c.write_line.new.out) l c.write_line.result)

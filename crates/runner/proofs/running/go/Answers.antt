@@ -13,6 +13,7 @@ use Rattle.runner.specs.declared.ends.Halt.{Halt}
 use Rattle.runner.specs.declared.ends.RunEnd.{RunEnd}
 use Rattle.runner.proofs.Rounds.{Ends, runs_first, stands_somehow, runs_step, run_fails, run_comes, run_unwritten, run_memory}
 use Rattle.runner.proofs.running.go.Goals as goal
+use Rattle.chunk_pool.specs.Pool.{free_count}
 
 pub returns-in_default-clause-answer : goal.returns-in_default-clause-answer
 returns-in_default-clause-answer g c = λ s at.
@@ -35,7 +36,7 @@ pub returns-in-Err-written-clause-answer : goal.returns-in-Err-written-clause-an
 returns-in-Err-written-clause-answer g c = λ s at.
     let ends = subst (λ (o : Option Halt). Ends c.loop-halt.course c.loop-halt.world (g.S.Source.left c.loop-halt.trace) (g.K.Sink.taken c.loop-halt.out) c.step.new.self c.step.new.world (g.S.Source.left c.step.new.trace) (g.K.Sink.taken c.step.new.out) (Ok o)) c.in-Ok-Some.field-0-is c.in-Ok-Some.ensures.ends in
     let edges : c.course.inside.graph.edges ≡ c.step.new.self.graph.edges = ap (λ (k : Kept). k.graph.edges) c.course.view_is in
-    let puts = subst (λ (es : List EdgeLine). Puts {E = Failure} (g.K.Sink.taken c.step.new.out) (g.K.Sink.taken c.write_end-written.new.out) (log_text (end_lines c.step.new.world.setting.caps es (stop_line c.in-Ok-Some.halt (length c.step.new.world.machine.areas.pool.free)))) (Err c.in-Err-written.failure)) edges
+    let puts = subst (λ (es : List EdgeLine). Puts {E = Failure} (g.K.Sink.taken c.step.new.out) (g.K.Sink.taken c.write_end-written.new.out) (log_text (end_lines c.step.new.world.setting.caps es (stop_line c.in-Ok-Some.halt (free_count c.step.new.world.machine.areas.pool)))) (Err c.in-Err-written.failure)) edges
     c.in-Err-written.ensures.bytes in
     run_unwritten c.args.world.now c.args.monitor (g.S.Source.left c.args.trace.now) (g.K.Sink.taken c.args.out.now) (g.S.Source.faults c.args.trace.now) (g.K.Sink.faults c.args.out.now) c.loop-halt.course c.loop-halt.world (g.S.Source.left c.loop-halt.trace) (g.K.Sink.taken c.loop-halt.out) (g.S.Source.faults c.loop-halt.trace) (g.K.Sink.faults c.loop-halt.out) c.loop-halt.invariant c.step.new.self c.step.new.world (g.S.Source.left c.step.new.trace) (g.K.Sink.taken c.step.new.out) (g.S.Source.faults c.step.new.trace) (g.K.Sink.faults c.step.new.out) c.step.ensures.keeps c.in-Ok-Some.halt ends c.in-Ok-Some.ensures.counts (g.K.Sink.taken c.write_end-written.new.out) (g.K.Sink.faults c.write_end-written.new.out)
     c.in-Err-written.failure puts c.in-Err-written.ensures.counts s at
@@ -44,7 +45,7 @@ pub returns-in-Ok-written-clause-answer : goal.returns-in-Ok-written-clause-answ
 returns-in-Ok-written-clause-answer g c = λ s at.
     let ends = subst (λ (o : Option Halt). Ends c.loop-halt.course c.loop-halt.world (g.S.Source.left c.loop-halt.trace) (g.K.Sink.taken c.loop-halt.out) c.step.new.self c.step.new.world (g.S.Source.left c.step.new.trace) (g.K.Sink.taken c.step.new.out) (Ok o)) c.in-Ok-Some.field-0-is c.in-Ok-Some.ensures.ends in
     let edges : c.course.inside.graph.edges ≡ c.step.new.self.graph.edges = ap (λ (k : Kept). k.graph.edges) c.course.view_is in
-    let puts = subst (λ (es : List EdgeLine). Appends (g.K.Sink.taken c.step.new.out) (g.K.Sink.taken c.write_end-written.new.out) (log_text (end_lines c.step.new.world.setting.caps es (stop_line c.in-Ok-Some.halt (length c.step.new.world.machine.areas.pool.free))))) edges
+    let puts = subst (λ (es : List EdgeLine). Appends (g.K.Sink.taken c.step.new.out) (g.K.Sink.taken c.write_end-written.new.out) (log_text (end_lines c.step.new.world.setting.caps es (stop_line c.in-Ok-Some.halt (free_count c.step.new.world.machine.areas.pool))))) edges
     c.in-Ok-written.ensures.bytes in
     subst (λ (e : RunEnd). IsRunEnd s c.step.new.world (g.S.Source.left c.args.trace.now) (g.K.Sink.taken c.args.out.now) (g.K.Sink.taken c.write_end-written.new.out) (g.S.Source.faults c.args.trace.now) (g.S.Source.faults c.step.new.trace) (g.K.Sink.faults c.args.out.now) (g.K.Sink.faults c.write_end-written.new.out) e) (sym c.end.ensures)
     (run_comes c.args.world.now c.args.monitor (g.S.Source.left c.args.trace.now) (g.K.Sink.taken c.args.out.now) (g.S.Source.faults c.args.trace.now) (g.K.Sink.faults c.args.out.now) c.loop-halt.course c.loop-halt.world (g.S.Source.left c.loop-halt.trace) (g.K.Sink.taken c.loop-halt.out) (g.S.Source.faults c.loop-halt.trace) (g.K.Sink.faults c.loop-halt.out) c.loop-halt.invariant c.step.new.self c.step.new.world (g.S.Source.left c.step.new.trace) (g.K.Sink.taken c.step.new.out) (g.S.Source.faults c.step.new.trace) (g.K.Sink.faults c.step.new.out) c.step.ensures.keeps c.in-Ok-Some.halt ends c.in-Ok-Some.ensures.counts (g.K.Sink.taken c.write_end-written.new.out) (g.K.Sink.faults c.write_end-written.new.out)
