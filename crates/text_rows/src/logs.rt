@@ -1,9 +1,11 @@
 // Lines of the log.
 ghost use Rattle.std.specs.Prelude.{◌≤◌};
 
-use cap_io::{CleanSink, MemSink};
+use cap_io::{CleanSink, MemSink, Sink};
 use cap_word::{SiteKey, Stop, TrapKind};
-use schedule_log::{Averages, Entry, Item, LogError, PutError, StopLine, put_entry, read_entry};
+use schedule_log::{
+    Averages, Entry, Item, LogError, LogWriter, PutError, StopLine, put_entry, read_entry,
+};
 use std::alloc::Global;
 
 // One line of each kind, from the format's table.
@@ -173,3 +175,110 @@ fn a_failed_write_leaves_a_prefix(rt: HostRuntime) {
     }
     assert!(rt; right);
 }
+
+/// How many times over the lines go through a writer: 9,570 bytes, which are two of its buffers and a part of one.
+const TIMES: u32 = 30;
+
+// The lines of the table, so many times over.
+fn long_log(alloc: Global) -> Option<Vec<u8>> {
+    let mut text = Vec::new(alloc);
+    for _ in 0..TIMES {
+        for line in LINES {
+            if text.extend_from_slice(line).is_err() {
+                drop(text);
+                return None;
+            }
+        }
+    }
+    Some(text)
+}
+
+// Puts the entries of the lines through a writer, so many times over, and tells whether each was put and, where one was
+// not, each later one and the end were refused too.
+fn put_through<K: Sink>(alloc: Global, out: &mut K) -> Option<bool> {
+    let Ok(mut writer) = LogWriter::new(alloc) else {
+        return None;
+    };
+    let mut put = true;
+    let mut lasts = true;
+    for _ in 0..TIMES {
+        for line in LINES {
+            let answer = put_line(&mut writer, out, line);
+            lasts = lasts && (put || !answer);
+            put = put && answer;
+        }
+    }
+    let finished = writer.finish(out).is_ok();
+    if lasts && (put || !finished) {
+        Some(finished)
+    } else {
+        None
+    }
+}
+
+// Whether the entry of a line is put.
+fn put_line<K: Sink>(writer: &mut LogWriter, out: &mut K, line: &[u8]) -> bool {
+    match line.split_last() {
+        Some((_, text)) => match read_entry(text) {
+            Ok(entry) => writer.put(out, &entry).is_ok(),
+            Err(LogError::Line) => false,
+        },
+        None => false,
+    }
+}
+
+// Whether a sink that takes so many bytes a call and fails at that call, 0 for none, has all of the long log, and where
+// it failed so many bytes of it.
+fn leaves_of_log(alloc: Global, per_call: u32, failing: u64, length: Option<usize>) -> bool
+    requires { 1 ≤ per_call }
+{
+    let Ok(fails) = Vec::from_slice(alloc, &[failing]) else {
+        return false;
+    };
+    let mut out = MemSink::new(alloc, per_call, fails);
+    let put = put_through(alloc, &mut out);
+    let left = is_left(alloc, out.bytes(), length);
+    drop(out);
+    left && put == Some(length.is_none())
+}
+
+// Whether these bytes are the first of the long log, so many of them, or all.
+fn is_left(alloc: Global, bytes: &[u8], length: Option<usize>) -> bool {
+    let Some(text) = long_log(alloc) else {
+        return false;
+    };
+    let left = text.starts_with(bytes) && bytes.len() == length.unwrap_or(text.len());
+    drop(text);
+    left
+}
+
+#[test]
+fn a_log_goes_through_a_writer_whole(rt: HostRuntime) {
+    let mut right = true;
+    for per_call in [1, 100, 4096, 100_000] {
+        right = right && leaves_of_log(rt.alloc(), per_call, 0, None);
+    }
+    assert!(rt; right);
+}
+
+#[test]
+fn each_write_of_a_log_may_fail(rt: HostRuntime) {
+    let alloc = rt.alloc();
+    let mut right = true;
+    // A buffer of 4,096 bytes is three calls of 1,500 bytes, 1,500 and 1,096; the last has 1,378.
+    for (failing, length) in FAILING {
+        right = right && leaves_of_log(alloc, 1500, *failing, Some(*length));
+    }
+    right = right && leaves_of_log(alloc, 1500, 8, None);
+    assert!(rt; right);
+}
+
+const FAILING: &[(u64, usize)] = &[
+    (1, 0),
+    (2, 1500),
+    (3, 3000),
+    (4, 4096),
+    (5, 5596),
+    (6, 7096),
+    (7, 8192),
+];

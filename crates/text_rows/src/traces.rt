@@ -2,6 +2,7 @@
 ghost use Rattle.std.specs.Prelude.{◌≤◌};
 
 use cap_io::{CleanSource, MemSource, Source};
+use cap_text::put_dec;
 use event_trace::{Event, EventKind, TraceError, TraceReader};
 use std::alloc::Global;
 
@@ -170,5 +171,79 @@ fn each_read_may_fail(rt: HostRuntime) {
     for call in 1..=11 {
         right = right && memory_gives(alloc, line, 1, &[call], &[], READ_FAULT);
     }
+    assert!(rt; right);
+}
+
+/// How many lines a long trace has: each has 15 bytes with its LF, so that each 4,096 bytes end in the midst of one.
+const LONG_LINES: u64 = 1_000;
+
+// A trace of that many lines `arrive T 12345`, T from 100 on, which is no multiple of a block.
+fn long_trace(alloc: Global) -> Option<Vec<u8>> {
+    let mut text = Vec::new(alloc);
+    for line in 0..LONG_LINES {
+        let whole = text.extend_from_slice(b"arrive ").is_ok()
+            && put_dec(&mut text, i128::from(line) + 100).is_ok()
+            && text.extend_from_slice(b" 12345\n").is_ok();
+        if !whole {
+            drop(text);
+            return None;
+        }
+    }
+    Some(text)
+}
+
+// Whether a source gives the events of the long trace, one after another, and then no more.
+fn gives_long<S: Source>(alloc: Global, source: &mut S) -> bool {
+    let Ok(mut reader) = TraceReader::new(alloc) else {
+        return false;
+    };
+    let mut same = true;
+    for line in 0..LONG_LINES {
+        same = same && next_is(&mut reader, source, line + 100);
+    }
+    let over = matches!(reader.next(source), Ok(None));
+    drop(reader);
+    same && over
+}
+
+// Whether the next event is the arrival of 12345 at that time.
+fn next_is<S: Source>(reader: &mut TraceReader, source: &mut S, time: u64) -> bool {
+    match reader.next(source) {
+        Ok(Some(event)) => numbers_of(event) == (time, ARRIVAL, 12_345),
+        Ok(None) | Err(_) => false,
+    }
+}
+
+// Whether a source that gives so many bytes a call gives the long trace.
+fn long_in_pieces(alloc: Global, per_call: u32) -> bool
+    requires { 1 ≤ per_call }
+{
+    let Some(text) = long_trace(alloc) else {
+        return false;
+    };
+    let mut source = MemSource::new(text, per_call, Vec::new(alloc));
+    let right = gives_long(alloc, &mut source);
+    drop(source);
+    right
+}
+
+#[test]
+fn lines_go_on_across_the_end_of_a_block(rt: HostRuntime) {
+    let mut right = true;
+    for per_call in [7, 4095, 4096, 5000, 100_000] {
+        right = right && long_in_pieces(rt.alloc(), per_call);
+    }
+    assert!(rt; right);
+}
+
+#[test]
+fn nothing_is_read_while_a_whole_line_is_held(rt: HostRuntime) {
+    let alloc = rt.alloc();
+    let events = [(0, ARRIVAL, 1), (1, ARRIVAL, 2), (2, ARRIVAL, 3)];
+    // The second read comes behind the three lines that the first one gave.
+    let lines = b"arrive 0 1\narrive 1 2\narrive 2 3\n";
+    let mut right = memory_gives(alloc, lines, 100, &[2], &events, READ_FAULT);
+    // It comes for the rest of a line that the first one cut.
+    right = right && memory_gives(alloc, lines, 30, &[2], &events[..2], READ_FAULT);
     assert!(rt; right);
 }

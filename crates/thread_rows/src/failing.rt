@@ -8,11 +8,13 @@ use runner::RunEnd;
 use std::alloc::{AllocError, Global};
 use std::test::Fail;
 
-// Whether the server's run ends so and writes so much of its log, where this read and this write fail: 0 stands for none.
+// Whether the server's run ends so and writes so much of its log, where this read and this write fail, 0 standing for none, and
+// each has so many bytes.
 fn serves(
     alloc: Global,
     read: u64,
     write: u64,
+    bytes: u32,
     end: RunEnd,
     share: Share,
 ) -> Result<bool, AllocError> {
@@ -22,7 +24,7 @@ fn serves(
         trace: SERVER_TRACE,
         read,
         write,
-        bytes: 64,
+        bytes,
     };
     ends(alloc, &given, end, share, SERVER_LOG)
 }
@@ -33,13 +35,27 @@ fn serves(
 fn each_read_and_each_write_fails(rt: HostRuntime) -> Result<(), Fail> {
     // The trace has 78 bytes, which are read one by one, and then its end once.
     for call in 1..=79u64 {
-        assert!(rt; serves(rt.alloc(), call, 0, RunEnd::ReadFault, Share::Beginning)?);
+        assert!(rt; serves(rt.alloc(), call, 0, 1, RunEnd::ReadFault, Share::Beginning)?);
     }
-    assert!(rt; serves(rt.alloc(), 80, 0, RunEnd::Idle, Share::Whole)?);
+    assert!(rt; serves(rt.alloc(), 80, 0, 1, RunEnd::Idle, Share::Whole)?);
+    // In blocks of at most 64 bytes they are two, and then the end.
+    for call in 1..=3u64 {
+        assert!(rt; serves(rt.alloc(), call, 0, 64, RunEnd::ReadFault, Share::Beginning)?);
+    }
+    assert!(rt; serves(rt.alloc(), 4, 0, 64, RunEnd::Idle, Share::Whole)?);
     // Each of the 39 lines is written by one call.
     for call in 1..=39u64 {
-        assert!(rt; serves(rt.alloc(), 0, call, RunEnd::WriteFault, Share::Beginning)?);
+        assert!(rt;
+            serves(
+                rt.alloc(),
+                0,
+                call,
+                64,
+                RunEnd::WriteFault,
+                Share::Beginning
+            )?
+        );
     }
-    assert!(rt; serves(rt.alloc(), 0, 40, RunEnd::Idle, Share::Whole)?);
+    assert!(rt; serves(rt.alloc(), 0, 40, 64, RunEnd::Idle, Share::Whole)?);
     Ok(())
 }
