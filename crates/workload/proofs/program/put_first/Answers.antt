@@ -1,0 +1,5 @@
+use Rattle.workload.proofs.Written.{after_three, first_written}
+use Rattle.workload.proofs.program.put_first.Goals as goal
+
+pub returns : goal.returns
+returns c = after_three c.args.text.now.items _ _ _ _ _ _ _ c.in_ok-extend_from_slice.ensures.items c.in_ok-put_number.ensures c.in_ok-extend_from_slice-2.ensures.items (first_written c.args.text.now.items)

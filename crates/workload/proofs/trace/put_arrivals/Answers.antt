@@ -1,0 +1,10 @@
+use Rattle.std.proofs.Common.{◌∙◌}
+use Rattle.workload.specs.Traces.{arrival_line}
+use Rattle.workload.proofs.Written.{lines_none, lines_more}
+use Rattle.workload.proofs.trace.put_arrivals.Goals as goal
+
+pub loop-j-init : goal.loop-j-init
+loop-j-init c = lines_none c.args.text.now.items arrival_line
+
+pub loop-j-preserved : goal.loop-j-preserved
+loop-j-preserved c = c.in_ok-put_arrival.ensures ∙ lines_more c.args.text.now.items c.loop-j.text.items arrival_line c.loop-j.j c.loop-j.invariant
