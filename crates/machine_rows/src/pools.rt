@@ -33,6 +33,7 @@ const OF_LARGEST: [(u32, Option<u32>); 3] = [
 
 // Whether two chunks are taken dry and given back in another order. The links are those of the machine's layout: the number
 // of the next free chunk, or 2 where there is none.
+#[tactic(auto, unfolding(chunk_pool::specs::Pool::words_in))]
 fn gives_back(alloc: Global) -> Result<bool, AllocError> {
     let mut pool = ChunkPool::new(alloc, 2, 64)?;
     let first = pool.take();
@@ -52,6 +53,7 @@ fn gives_back(alloc: Global) -> Result<bool, AllocError> {
 }
 
 // Whether a chunk keeps what is written.
+#[tactic(auto, unfolding(chunk_pool::specs::Pool::words_in))]
 fn keeps(alloc: Global) -> Result<bool, AllocError> {
     let mut pool = ChunkPool::new(alloc, 2, 64)?;
     pool.write(1, 4, 41);

@@ -53,6 +53,7 @@ pub fn accepted_of(alloc: Global, source: &[u8], options: Options) -> Option<Acc
 }
 
 /// A thread at the start of a program's `main`, over so many chunks; None where no pool has so many.
+#[tactic(auto, unfolding(chunk_pool::specs::Pool::first_bytes_in))]
 pub fn begin(alloc: Global, accepted: &Accepted, chunks: u32) -> Result<Option<Begun>, AllocError>
     ensures areas { IfOk result (λ some. IfSome some (λ begun. AreOf accepted.now begun.areas)) }
     ensures ready { IfOk result (λ some. IfSome some (λ begun. IsReady (checked_of accepted.now) (code_of accepted.now) (local_of begun.areas begun.context))) }

@@ -44,6 +44,7 @@ use Rattle.thread_core.specs.declared.records.Record.{Record}
 use Rattle.thread_core.specs.declared.state.State.{State}
 use Rattle.chunk_pool.proofs.ShapeLaws.{first_bytes-start}
 use Rattle.chunk_pool.proofs.NeedLaws.{taken_for-count}
+use Rattle.machine_world.proofs.CountedLaws.{all_free-new}
 
 chunk_fours : (chunk : ℕ) → chunk % 16 ≡ 0 → 4 * (chunk / 4) ≡ chunk
 chunk_fours chunk h = omega (arith, h)
@@ -207,9 +208,10 @@ module _ (accepted : Acceptance) (scoped : IsWellScoped (accepted_tree accepted)
 
     well : IsWellFormed (checked_of accepted) (setting_of accepted fuel st) (machine_of fuel st)
     well = subst (IsWellFormedIf (checked_of accepted) (setting_of accepted fuel st)) machine_is
-        (IsWellFormedIf-start (checked_of accepted) (setting_of accepted fuel st) policy.chunks (accepted.certificate.chunk / 4) accepted.image.globals accepted.image.tables
+        (IsWellFormedIf-start (checked_of accepted) (setting_of accepted fuel st) start
         (fact_at accepted.certificate program.main).entry (fact_at accepted.certificate program.main).bound
-        (subst (AreWellFormed (checked_of accepted)) are_parts.areas are_parts.formed) is_policy.most entry_below)
+        (subst (AreWellFormed (checked_of accepted)) are_parts.areas are_parts.formed)
+        (all_free-new policy.chunks (accepted.certificate.chunk / 4)) is_policy.most entry_below)
 
     -- ---- the places
 

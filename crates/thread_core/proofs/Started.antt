@@ -52,6 +52,7 @@ use Rattle.thread_core.proofs.OtherChains.{chain_stays}
 use Rattle.thread_core.proofs.Spawning as spawning
 use Rattle.thread_core.proofs.Spawning.{Takes}
 use Rattle.thread_core.proofs.TellingLaws.{number_at}
+use Rattle.chunk_pool.proofs.ShapeLaws.{count-same}
 
 module _ (accepted : Acceptance) (most : ℕ) (st : State) (thread : ThreadId) (runs : Runs accepted most st thread) (left : 0 < st.fuel.left) (function argument : ℕ)
     (at : LocalIs st thread (λ l. IsAtAsk (checked_of accepted) (code_of accepted) l (Ask.Spawn function argument))) (valid : IsValid (lowered (accepted_tree accepted)) accepted.image accepted.certificate)
@@ -296,7 +297,7 @@ module _ (accepted : Acceptance) (most : ℕ) (st : State) (thread : ThreadId) (
       rest = record {
         caps = refl;
         backlog = refl;
-        chunks = (chunks_kept thread.slot r there.1).count;
+        chunks = count-same st.areas.pool pool (chunks_kept thread.slot r there.1).shape;
         begun = refl;
       };
       places = λ other is alive. number_at new other.slot ∙ places_by other (which other.slot) (sym (number_at st other.slot) ∙ is);
