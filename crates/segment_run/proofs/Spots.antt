@@ -2,7 +2,7 @@
 use Rattle.std.proofs.Common.{◌≡◌, ℕ, ◌+◌, ◌-◌, ◌*◌, ◌/◌, ◌<◌, ◌≤◌, true, false, List, length, Some, None, ap, ◌∙◌, arith}
 use Rattle.std.specs.Prelude.{nat_le, nat_lt}
 use Rattle.std.proofs.lemmas.Bool.{cond-true, cond-false, lt-ltb, le-ltb, le-leb, lt-leb, and_from, and_left, and_right}
-use Rattle.chunk_pool.specs.Pool.{Pool, IsPool, HasAddress, place_of, payload_place_of, payload_bytes_of, chunk_at, first_place}
+use Rattle.chunk_pool.specs.Pool.{Pool, IsPool, HasAddress, place_of, payload_place_of, chunk_at, first_place}
 use Rattle.chunk_pool.proofs.AddressLaws.{chunk_at-some}
 use Rattle.machine_world.specs.Areas.{Areas, InGlobals, InTables, InPayload, globals_place, tables_place, is_within, payload_spot, spot_of}
 use Rattle.segment_run.specs.Payloads.{IsPayloadOf}

@@ -1,4 +1,3 @@
-use Rattle.std.proofs.Common.{sym}
 use Rattle.segment_run.specs.Contexts.{checked_of}
 use Rattle.segment_run.proofs.Standing.{entry_stands, entry_of}
 use Rattle.segment_run.proofs.lookups.function_with_entry.Goals as goal
