@@ -5,8 +5,9 @@
 // numbers that are no memory, and shows what a memory above the machine has to prove. `accepted_of` builds a source,
 // `begin` starts its `main` over a pool of chunks, and `run_on` runs that to where it ends, blocks or can't go on; a
 // benchmark uses them too. The rest is tests: `words` has the public suite's rows of each operator, `instructions` the
-// manual's vectors, `steps` each fault, extension, store and link, `pools` links and addresses worked out by hand,
-// `recursions`, `operations` and `stops` programs run as segments, each with counts worked out by hand from the templates.
+// manual's vectors, `steps` each fault, extension, store and link, of both forms of the step, `pools` links and addresses
+// worked out by hand, `recursions`, `operations` and `stops` programs run as segments, each with counts worked out by hand
+// from the templates.
 #![tactic(auto)]
 
 mod ram;

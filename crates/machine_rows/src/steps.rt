@@ -1,7 +1,8 @@
 use crate::{Ram, WordRam};
 use cap_word::{FaultKind, Words};
+use decoded_code::decode_all;
 use rv_code::Register;
-use rv_machine::{Memory, Regs, StepResult, step};
+use rv_machine::{Memory, Regs, StepResult, step, step_decoded};
 use stack_image::Image;
 use std::alloc::{AllocError, Global};
 use std::test::Fail;
@@ -73,6 +74,13 @@ const WORDS: [(u32, u32, u32); 5] = [
     (0x0050_2423, 0x7f01_ff80, 0x4433_2211), // sw x5,8(x0), which isn't writable
 ];
 
+// A step over the words of the code, or over the code decoded before.
+#[derive(Clone, Copy)]
+enum Form {
+    Words,
+    Decoded,
+}
+
 // What a step answers, and the registers and the memory after it.
 #[derive(Clone, Copy)]
 struct After<M> {
@@ -91,8 +99,39 @@ fn start(pc: u32) -> Regs {
     Regs { pc, x }
 }
 
-// One step over an image whose code is that word.
+// One step in that form over code that is that word.
 fn stepped<M: Memory + Copy>(
+    alloc: Global,
+    form: Form,
+    word: u32,
+    now: Regs,
+    memory: M,
+) -> Result<After<M>, AllocError> {
+    match form {
+        Form::Words => stepped_in_words(alloc, word, now, memory),
+        Form::Decoded => stepped_decoded(alloc, word, now, memory),
+    }
+}
+
+fn stepped_decoded<M: Memory + Copy>(
+    alloc: Global,
+    word: u32,
+    now: Regs,
+    memory: M,
+) -> Result<After<M>, AllocError> {
+    let code = decode_all(alloc, &[word])?;
+    let (mut now, mut memory) = (now, memory);
+    let result = step_decoded(code.as_slice(), &mut memory, &mut now);
+    drop(code);
+    Ok(After {
+        result,
+        now,
+        memory,
+    })
+}
+
+// Over an image whose code is that word.
+fn stepped_in_words<M: Memory + Copy>(
     alloc: Global,
     word: u32,
     now: Regs,
@@ -115,8 +154,14 @@ fn stepped<M: Memory + Copy>(
 }
 
 // Whether the step fails with that fault, and nothing changes.
-fn fails(alloc: Global, word: u32, pc: u32, kind: FaultKind) -> Result<bool, AllocError> {
-    let after = stepped(alloc, word, start(pc), SAMPLE)?;
+fn fails(
+    alloc: Global,
+    form: Form,
+    word: u32,
+    pc: u32,
+    kind: FaultKind,
+) -> Result<bool, AllocError> {
+    let after = stepped(alloc, form, word, start(pc), SAMPLE)?;
     Ok(
         after.result == StepResult::Fault { pc, kind }
             && after.now == start(pc)
@@ -125,8 +170,8 @@ fn fails(alloc: Global, word: u32, pc: u32, kind: FaultKind) -> Result<bool, All
 }
 
 // Whether the step leaves that value in register 5, goes on there, and stores nothing.
-fn leaves(alloc: Global, word: u32, value: u32, pc: u32) -> Result<bool, AllocError> {
-    let after = stepped(alloc, word, start(0x1000), SAMPLE)?;
+fn leaves(alloc: Global, form: Form, word: u32, value: u32, pc: u32) -> Result<bool, AllocError> {
+    let after = stepped(alloc, form, word, start(0x1000), SAMPLE)?;
     Ok(
         after.result == StepResult::Went
             && after.now.pc == pc
@@ -136,8 +181,8 @@ fn leaves(alloc: Global, word: u32, value: u32, pc: u32) -> Result<bool, AllocEr
 }
 
 // Whether the step leaves these first four bytes, and the other ones as they were.
-fn stores(alloc: Global, word: u32, bytes: [u8; 4]) -> Result<bool, AllocError> {
-    let after = stepped(alloc, word, start(0x1000), SAMPLE)?;
+fn stores(alloc: Global, form: Form, word: u32, bytes: [u8; 4]) -> Result<bool, AllocError> {
+    let after = stepped(alloc, form, word, start(0x1000), SAMPLE)?;
     Ok(
         after.result == StepResult::Went
             && after.memory.bytes[..4] == bytes[..]
@@ -147,12 +192,18 @@ fn stores(alloc: Global, word: u32, bytes: [u8; 4]) -> Result<bool, AllocError> 
 
 // Whether a memory of words has the same bytes after the store, reads a word as the memory of bytes does, and what is no
 // memory stays.
-fn stores_in_words(alloc: Global, word: u32, first: u32, second: u32) -> Result<bool, AllocError> {
+fn stores_in_words(
+    alloc: Global,
+    form: Form,
+    word: u32,
+    first: u32,
+    second: u32,
+) -> Result<bool, AllocError> {
     let words = WordRam {
         words: [0x7f01_ff80, 0x4433_2211, 0x0302_0100, 0x0706_0504],
         free: [8, 9],
     };
-    let memory = stepped(alloc, word, start(0x1000), words)?.memory;
+    let memory = stepped(alloc, form, word, start(0x1000), words)?.memory;
     Ok(
         memory.words == [first, second, 0x0302_0100, 0x0706_0504]
             && memory.free == [8, 9]
@@ -162,9 +213,9 @@ fn stores_in_words(alloc: Global, word: u32, first: u32, second: u32) -> Result<
 }
 
 // Whether ECALL tells register 17 and stays, JALR reads its register before it writes it, and register 0 stays 0.
-fn calls_and_links(alloc: Global) -> Result<bool, AllocError> {
-    let call = stepped(alloc, 0x0000_0073, start(0x1000), SAMPLE)?;
-    let link = stepped(alloc, 0x0050_80e7, call.now, call.memory)?; // jalr x1,5(x1)
+fn calls_and_links(alloc: Global, form: Form) -> Result<bool, AllocError> {
+    let call = stepped(alloc, form, 0x0000_0073, start(0x1000), SAMPLE)?;
+    let link = stepped(alloc, form, 0x0050_80e7, call.now, call.memory)?; // jalr x1,5(x1)
     let mut now = link.now;
     now.write(Register::ZERO, 9);
     Ok(
@@ -177,47 +228,61 @@ fn calls_and_links(alloc: Global) -> Result<bool, AllocError> {
     )
 }
 
-fn all_fail(alloc: Global, rows: &[(u32, u32, FaultKind)]) -> Result<bool, AllocError> {
+fn all_fail(alloc: Global, form: Form, rows: &[(u32, u32, FaultKind)]) -> Result<bool, AllocError> {
     for (word, pc, kind) in rows {
-        if !fails(alloc, *word, *pc, *kind)? {
+        if !fails(alloc, form, *word, *pc, *kind)? {
             return Ok(false);
         }
     }
     Ok(true)
 }
 
-fn all_leave(alloc: Global, rows: &[(u32, u32, u32)]) -> Result<bool, AllocError> {
+fn all_leave(alloc: Global, form: Form, rows: &[(u32, u32, u32)]) -> Result<bool, AllocError> {
     for (word, value, pc) in rows {
-        if !leaves(alloc, *word, *value, *pc)? {
+        if !leaves(alloc, form, *word, *value, *pc)? {
             return Ok(false);
         }
     }
     Ok(true)
 }
 
-fn all_store(alloc: Global, rows: &[(u32, [u8; 4])]) -> Result<bool, AllocError> {
+fn all_store(alloc: Global, form: Form, rows: &[(u32, [u8; 4])]) -> Result<bool, AllocError> {
     for (word, bytes) in rows {
-        if !stores(alloc, *word, *bytes)? {
+        if !stores(alloc, form, *word, *bytes)? {
             return Ok(false);
         }
     }
     Ok(true)
 }
 
-fn all_store_in_words(alloc: Global, rows: &[(u32, u32, u32)]) -> Result<bool, AllocError> {
+fn all_store_in_words(
+    alloc: Global,
+    form: Form,
+    rows: &[(u32, u32, u32)],
+) -> Result<bool, AllocError> {
     for (word, first, second) in rows {
-        if !stores_in_words(alloc, *word, *first, *second)? {
+        if !stores_in_words(alloc, form, *word, *first, *second)? {
             return Ok(false);
         }
     }
     Ok(true)
+}
+
+// Whether every row holds of a form of the step.
+fn holds_of(alloc: Global, form: Form) -> Result<bool, AllocError> {
+    Ok(
+        all_fail(alloc, form, &FAULTS)?
+            && all_leave(alloc, form, &REGISTERS)?
+            && all_store(alloc, form, &STORES)?
+            && all_store_in_words(alloc, form, &WORDS)?
+            && calls_and_links(alloc, form)?,
+    )
 }
 
 #[test]
 fn steps(rt: HostRuntime) -> Result<(), Fail> {
     let alloc = rt.alloc();
-    assert!(rt; all_fail(alloc, &FAULTS)? && all_leave(alloc, &REGISTERS)?);
-    assert!(rt; all_store(alloc, &STORES)? && all_store_in_words(alloc, &WORDS)?);
-    assert!(rt; calls_and_links(alloc)?);
+    assert!(rt; holds_of(alloc, Form::Words)?);
+    assert!(rt; holds_of(alloc, Form::Decoded)?);
     Ok(())
 }

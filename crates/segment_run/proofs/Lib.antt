@@ -2,7 +2,6 @@ pub mod Behind
 pub mod Calls
 pub mod Chains
 pub mod Fetching
-pub mod FewFunctions
 pub mod FewWords
 pub mod Forming
 pub mod FromSource

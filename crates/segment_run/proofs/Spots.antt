@@ -2,8 +2,11 @@
 use Rattle.std.proofs.Common.{◌≡◌, ℕ, ◌+◌, ◌-◌, ◌*◌, ◌/◌, ◌<◌, ◌≤◌, true, false, List, length, Some, None, ap, ◌∙◌, arith}
 use Rattle.std.specs.Prelude.{nat_le, nat_lt}
 use Rattle.std.proofs.lemmas.Bool.{cond-true, cond-false, lt-ltb, le-ltb, le-leb, lt-leb, and_from, and_left, and_right}
-use Rattle.chunk_pool.specs.Pool.{Pool, place_of, payload_place_of, chunk_at, first_place, chunk_in}
+use Rattle.chunk_pool.specs.Pool.{Pool, IsPool, HasAddress, place_of, payload_place_of, chunk_at, first_place, chunk_in}
+use Rattle.chunk_pool.proofs.AddressLaws.{chunk_at-some}
 use Rattle.machine_world.specs.Areas.{Areas, InGlobals, InTables, InPayload, globals_place, tables_place, is_within, payload_spot, spot_of}
+use Rattle.segment_run.specs.Payloads.{IsPayloadOf}
+use Rattle.segment_run.specs.declared.areas.Payload.{Payload}
 
 outside : (place : ℕ) (words : List ℕ) (address : ℕ) → place + 4 * length words ≤ address → is_within place words address ≡ false
 outside place words address past = and_right (nat_le place address) (nat_lt address (place + 4 * length words)) (le-ltb address (place + 4 * length words) past)
@@ -71,3 +74,13 @@ pub spot_of-below : (areas : Areas) (address : ℕ) → address < globals_place 
 spot_of-below areas address low =
     spot_of-chunks areas address (before globals_place areas.globals address low) (before tables_place areas.tables address (omega arith))
     ∙ nothing_low areas address (omega arith)
+
+-- in a payload that is looked at first
+pub spot_of-in_payload : (areas : Areas) (address : ℕ) (payload : Payload) → AreFew areas → IsPool areas.pool → IsPayloadOf areas.pool payload →
+    payload.low ≤ address → address - payload.low < payload.bytes → spot_of areas address ≡ Some (InPayload payload.chunk (address - payload.low + 16))
+spot_of-in_payload areas address payload few sound is from within =
+    let has : HasAddress areas.pool payload.chunk address = (is.there, omega (arith, is.low, from), omega (arith, is.low, is.bytes, from, within)) in
+    spot_of-high areas address few (omega (arith, is.low, from))
+    ∙ ap (payload_spot areas.pool address) (chunk_at-some areas.pool payload.chunk address has)
+    ∙ payload_spot-in areas.pool address payload.chunk (omega (arith, is.low, from))
+    ∙ ap (λ (offset : ℕ). Some (InPayload payload.chunk offset)) (let e : address - place_of areas.pool payload.chunk ≡ address - payload.low + 16 = omega (arith, is.low, from) in e)

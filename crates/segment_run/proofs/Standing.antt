@@ -15,7 +15,8 @@ use Rattle.certificate_rules.specs.Validity.{IsValid}
 use Rattle.machine_world.specs.Keys.{site_in}
 use Rattle.machine_world.specs.Places.{Checked, InOperation, IsAt, size_in}
 use Rattle.segment_rest.proofs.OnePlace.{one_place}
-use Rattle.segment_run.specs.Lookups.{StandsIn}
+use Rattle.certificate_check.specs.CodeLists.{StandsIn}
+use Rattle.segment_run.specs.Lookups.{HasEntry}
 use Rattle.segment_run.specs.Walking.{IsInCall}
 
 -- an operation of a function, and the words before it and behind it
@@ -68,6 +69,19 @@ module _ (flat : FlatCode) (image : Image) (certificate : Certificate) (valid : 
       (cases_lt g f)))
       (cases_eq f g)
 
+  -- the function that begins at an address, which is among its words
+  pub entry_stands : (entry f : ℕ) → HasEntry certificate entry f → StandsIn certificate entry f
+  entry_stands entry f has =
+      let over : words_before flat certificate f (length (function_at flat f).ops) ≡ (fact_at certificate f).words = ((valid.holds 6 f (length (function_at flat f).ops)).v6 refl).over (omega (arith, has.there, same_count)) refl in
+      record { there = has.there; low = omega (arith, has.entry_is); high = omega (arith, has.entry_is, over) }
+
+  pub entry_of : (entry f g : ℕ) → HasEntry certificate entry f → StandsIn certificate entry g → HasEntry certificate entry g
+  entry_of entry f g has stands = subst (HasEntry certificate entry) (one_function entry f g (entry_stands entry f has) stands) has
+
+  -- the words before the first operation are not more than those before another
+  pub first_words : (f i : ℕ) → words_before flat certificate f 0 ≤ words_before flat certificate f i
+  first_words f i = omega arith
+
   -- the operation whose words a word of a function is among
   pub one_operation : (address f i j word : ℕ) (op : Op) → IsAt c address (InOperation f i word) → operation_at flat f j ≡ Some op
       → words_before flat certificate f j ≤ words_before flat certificate f i + word → words_before flat certificate f i + word < words_before flat certificate f (j + 1) → j ≡ i
@@ -94,6 +108,12 @@ module _ (flat : FlatCode) (image : Image) (certificate : Certificate) (valid : 
       let operation : first.operation ≡ second.operation = cc in
       let sites : Some site ≡ Some other = sym first.site_is ∙ (λ i. site_in (operation_at flat (function i) (operation i))) ∙ second.site_is in
       (function, cc)
+
+-- an element stands at each index
+pub some_at : {X : Type 0} (xs : List X) (k : ℕ) → k < length xs → (x : X) × (slice_get xs k ≡ Some x)
+some_at [] k small = absurd (omega arith)
+some_at (x ∷ xs) zero small = (x, refl)
+some_at (x ∷ xs) (suc k) small = some_at xs k (omega arith)
 
 -- what is read of an operation
 pub at_index : {X : Type 0} (xs : List X) (j : ℕ) (x : X) → j < length xs → x ≡ get_or xs j x → slice_get xs j ≡ Some x

@@ -2,6 +2,7 @@ ghost use Rattle.std.specs.Prelude.{◌≡◌, ◌≤◌, ◌<◌, ◌%◌, leng
 ghost use Rattle.machine_world.specs.Areas.{byte_at, is_writable, is_writable_on, spot_of, with_byte};
 ghost use Rattle.machine_world.specs.WellFormed.{AreWords};
 ghost use Rattle.rv_machine.specs.WordBytes.{word_with};
+ghost use Rattle.segment_run.specs.Payloads.{IsPayloadOf};
 
 use chunk_pool::ChunkPool;
 use rv_machine::Memory;
@@ -23,22 +24,35 @@ const HEADER: u32 = 16;
 ///
 /// As memory by bytes, the globals stand from 0x10000000 and the tables from 0x20000000; a chunk's payload stands behind
 /// its header. Tables can't be written. Every other byte, and so every header, is neither readable nor writable.
+///
+/// An address is looked for in one payload first, mostly that of the running thread's innermost chunk, where nearly all
+/// loads and stores of a thread lie. Contracts don't see which one.
 #[derive(Drop)]
 pub struct Areas {
     pub(crate) pool: ChunkPool,
     pub(crate) globals: Vec<u32>,
     pub(crate) tables: Vec<u32>,
+    first: Payload,
+}
+
+// The payload of a chunk: its chunk, the address of its first byte, and its bytes.
+#[derive(Clone, Copy, Drop)]
+struct Payload {
+    chunk: u32,
+    low: u32,
+    bytes: u32,
 }
 
 impl Model for Areas {
     ghost use Rattle.machine_world.specs.Areas as world;
     ghost use Rattle.segment_run.specs.Kept.{areas_of, AreKept};
+    ghost use Rattle.segment_run.specs.Payloads.{IsPayloadOf};
 
     ghost Value = { world.Areas };
 
     ghost view = { areas_of };
 
-    ghost invariant = { λ a. AreKept (areas_of a) };
+    ghost invariant = { λ a. AreKept (areas_of a) × IsPayloadOf a.pool a.first };
 }
 
 impl Areas {
@@ -52,10 +66,12 @@ impl Areas {
     {
         let globals = copied(alloc, image.globals.as_slice())?;
         let tables = copied(alloc, image.tables.as_slice())?;
+        let first = payload_of(&pool, 0);
         Ok(Areas {
             pool,
             globals,
             tables,
+            first,
         })
     }
 
@@ -66,11 +82,32 @@ impl Areas {
         &self.pool
     }
 
+    // From now on addresses are looked for in the payload of the chunk of this address first, if a chunk has it.
+    pub(crate) fn look_first_at(&mut self, address: u32)
+        ensures { self.new ≡ self.old }
+    {
+        if let Some(chunk) = self.pool.chunk_at(address) {
+            self.first = payload_of(&self.pool, chunk);
+        }
+    }
+
     // What all areas keep.
     pub(crate) fn are_kept(&self)
         ensures { AreKept self.now }
     {
         let _words = self.globals.len();
+    }
+}
+
+// The payload of a chunk.
+fn payload_of(pool: &ChunkPool, chunk: u32) -> Payload
+    requires { chunk < pool.now.count }
+    ensures { IsPayloadOf pool.now result }
+{
+    Payload {
+        chunk,
+        low: pool.place_of(chunk) + HEADER,
+        bytes: pool.bytes_of(chunk) - HEADER,
     }
 }
 
@@ -115,7 +152,11 @@ impl Areas {
         ensures on { IfSome result (IsOn self.now address) }
         ensures kept { AreKept self.now }
     {
-        if address >= CHUNKS {
+        let Payload { chunk, low, bytes } = self.first;
+        if address >= low && address - low < bytes {
+            let offset = address - low + HEADER;
+            Some(Spot::InPayload { chunk, offset })
+        } else if address >= CHUNKS {
             self.payload_spot(address)
         } else if address >= TABLES {
             let offset = address - TABLES;

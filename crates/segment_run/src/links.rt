@@ -11,6 +11,7 @@ use crate::areas::Areas;
 use crate::running::Thread;
 use cap_word::add;
 use chunk_pool::ChunkPool;
+use rv_code::Register;
 
 // Registers by their numbers.
 const SP: usize = 2;
@@ -26,6 +27,18 @@ pub(crate) fn link(areas: &mut Areas, thread: &mut Thread) -> bool
     requires owns { Owns (thread_of areas.old thread.old) }
     requires front { TpIsFront areas.old.pool (thread_of areas.old thread.old).core (thread_of areas.old thread.old).core.chain }
     requires room { taken_for areas.old.pool (read thread.old.regs.x 6) ≡ None → all_free areas.old.pool ≡ [] }
+    ensures { IsLink result (thread_of areas.old thread.old) (thread_of areas.new thread.new) }
+{
+    let linked = link_chunk(areas, thread);
+    areas.look_first_at(thread.regs.read(Register::TP));
+    linked
+}
+
+// The same, whichever payload is looked at first.
+fn link_chunk(areas: &mut Areas, thread: &mut Thread) -> bool
+    requires owns { Owns (thread_of areas.old thread.old) }
+    requires front { TpIsFront areas.old.pool (thread_of areas.old thread.old).core (thread_of areas.old thread.old).core.chain }
+    requires room { taken_for areas.old.pool (read thread.old.regs.x 6) ≡ None → areas.old.pool.free ≡ [] }
     ensures { IsLink result (thread_of areas.old thread.old) (thread_of areas.new thread.new) }
 {
     let Some(chunk) = areas.pool.take() else {
@@ -44,6 +57,17 @@ pub(crate) fn link(areas: &mut Areas, thread: &mut Thread) -> bool
 
 // UNLINK: tp and sp come back from the header of the innermost chunk, which goes back to the pool.
 pub(crate) fn unlink(areas: &mut Areas, thread: &mut Thread)
+    requires owns { Owns (thread_of areas.old thread.old) }
+    requires front { TpIsFront areas.old.pool (thread_of areas.old thread.old).core (thread_of areas.old thread.old).core.chain }
+    requires headers { HeadersName areas.old.pool (thread_of areas.old thread.old).core.chain }
+    ensures { unlinked (thread_of areas.old thread.old) ≡ Goes (thread_of areas.new thread.new) }
+{
+    unlink_chunk(areas, thread);
+    areas.look_first_at(thread.regs.read(Register::TP));
+}
+
+// The same, whichever payload is looked at first.
+fn unlink_chunk(areas: &mut Areas, thread: &mut Thread)
     requires owns { Owns (thread_of areas.old thread.old) }
     requires front { TpIsFront areas.old.pool (thread_of areas.old thread.old).core (thread_of areas.old thread.old).core.chain }
     requires headers { HeadersName areas.old.pool (thread_of areas.old thread.old).core.chain }

@@ -1,10 +1,12 @@
 // What an accepted program holds at a number or an address.
 
-ghost use Rattle.std.specs.Prelude.{◌≡◌, ℕ, ◌^◌, ◌<◌, ◌≤◌, length};
+ghost use Rattle.std.specs.Prelude.{◌≡◌, ℕ, ◌<◌, length};
+ghost use Rattle.certificate_rules.specs.Validity.{IsValid};
 ghost use Rattle.flat_code.specs.Codes as codes;
 ghost use Rattle.flat_code.specs.ProgramView.{program_code};
 ghost use Rattle.stack_certificate.specs.Certificates.{fact_at};
-ghost use Rattle.segment_run.specs.Lookups.{HasEntry, StandsIn};
+ghost use Rattle.segment_run.specs.Contexts.{checked_of};
+ghost use Rattle.segment_run.specs.Lookups.{HasEntry};
 
 use certificate_check::Accepted;
 use flat_code::{FlatFunction, FlatProgram, Op};
@@ -26,35 +28,13 @@ pub(crate) fn function_of(flat: &FlatProgram, function: u32) -> &FlatFunction
     &flat.functions()[function as usize]
 }
 
-// The function that begins at an address.
+// The function that begins at an address: every function has words.
 pub(crate) fn function_with_entry(accepted: &Accepted, entry: u32) -> u32
-    requires few { length accepted.now.certificate.functions ≤ 2 ^ 32 }
+    requires valid { IsValid (checked_of accepted.now).flat accepted.now.image accepted.now.certificate }
     requires there { (f : ℕ) × HasEntry accepted.now.certificate entry f }
     ensures { HasEntry accepted.now.certificate entry result }
 {
-    let facts = accepted.certificate().functions.as_slice();
-    for function in 0..facts.len() {
-        if facts[function].entry == entry {
-            return function as u32;
-        }
-    }
-    unreachable!()
-}
-
-// The function among whose words an address stands.
-pub(crate) fn function_at(accepted: &Accepted, address: u32) -> u32
-    requires few { length accepted.now.certificate.functions ≤ 2 ^ 32 }
-    requires there { (f : ℕ) × StandsIn accepted.now.certificate address f }
-    ensures { StandsIn accepted.now.certificate address result }
-{
-    let facts = accepted.certificate().functions.as_slice();
-    for function in 0..facts.len() {
-        let fact = &facts[function];
-        if address >= fact.entry && (address - fact.entry) / 4 < fact.words {
-            return function as u32;
-        }
-    }
-    unreachable!()
+    accepted.function_at(entry)
 }
 
 // The site of an operation, where it is a call.

@@ -7,9 +7,8 @@ ghost use Rattle.machine_world.specs.Places.{InOperation, IsAt};
 ghost use Rattle.segment_run.specs.Contexts.{checked_of};
 ghost use Rattle.segment_run.specs.Walking.{IsInCall};
 
-use crate::lookups::{fact_of, function_at, function_of, site_of};
-use certificate_check::{Accepted, kind_of_operation};
-use stack_certificate::operation_size;
+use crate::lookups::{fact_of, function_of, site_of};
+use certificate_check::Accepted;
 
 // A call in the code: its function and the number of its site.
 #[derive(Clone, Copy)]
@@ -25,7 +24,7 @@ pub(crate) fn call_at(accepted: &Accepted, address: u32) -> CallPlace
     ensures function { (f site : ℕ) → IsInCall (checked_of accepted.now) address f site → result.function ≡ f }
     ensures site { (f site : ℕ) → IsInCall (checked_of accepted.now) address f site → result.site ≡ site }
 {
-    let function = function_at(accepted, address);
+    let function = accepted.function_at(address);
     let op = operation_with(accepted, function, address);
     let body = function_of(accepted.flat(), function);
     match site_of(&body.ops.as_slice()[op as usize]) {
@@ -34,23 +33,24 @@ pub(crate) fn call_at(accepted: &Accepted, address: u32) -> CallPlace
     }
 }
 
-// The operation of a function among whose words an address stands.
+// The operation of a function among whose words an address stands, by halving.
 fn operation_with(accepted: &Accepted, function: u32, address: u32) -> u32
     requires valid { IsValid (lowered (accepted_tree accepted.now)) accepted.now.image accepted.now.certificate }
     requires there { (i : ℕ) × (word : ℕ) × IsAt (checked_of accepted.now) address (InOperation function i word) }
     ensures { (i word : ℕ) → IsAt (checked_of accepted.now) address (InOperation function i word) → result ≡ i }
 {
-    let flat = accepted.flat();
-    let certificate = accepted.certificate();
-    let body = function_of(flat, function);
-    let word = u64::from((address - fact_of(certificate, function).entry) / 4);
-    let mut words = 2 + u64::from(body.params);
-    for op in 0..body.ops.len() as u64 {
-        let kind = kind_of_operation(certificate, &body.ops.as_slice()[op as usize]);
-        words += u64::from(operation_size(flat, function, op as u32, kind));
-        if word < words {
-            return op as u32;
+    let body = function_of(accepted.flat(), function);
+    let before = accepted.words_before(function);
+    let word = u64::from((address - fact_of(accepted.certificate(), function).entry) / 4);
+    let mut low = 0;
+    let mut high = body.ops.len();
+    'halving: while high - low > 1 {
+        let middle = low + (high - low) / 2;
+        if before[middle] <= word {
+            low = middle;
+        } else {
+            high = middle;
         }
     }
-    unreachable!()
+    low as u32
 }

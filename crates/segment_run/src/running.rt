@@ -1,4 +1,4 @@
-ghost use Rattle.std.specs.Prelude.{◌≡◌, ◌≤◌, ◌^◌, ◌⊎◌, length, option_map};
+ghost use Rattle.std.specs.Prelude.{◌≡◌, ◌⊎◌, option_map};
 ghost use Rattle.machine_world.specs.Local.{system_call, local_step, trapped, Trapped};
 ghost use Rattle.cap_word.specs.Runs.{Stops};
 ghost use Rattle.certificate_rules.specs.Validity.{IsValid};
@@ -12,7 +12,7 @@ use crate::links::{end, link, unlink};
 use crate::lookups::function_with_entry;
 use cap_word::{Ask, Block, TrapKind};
 use certificate_check::Accepted;
-use rv_machine::{Regs, StepResult, step};
+use rv_machine::{Regs, StepResult, step_decoded};
 
 // A thread that runs: its registers, the innermost of its chunks and how many it holds.
 #[derive(Clone, Copy)]
@@ -36,12 +36,11 @@ pub(crate) enum Turn {
 // One instruction of a thread that never comes to a fault.
 pub(crate) fn do_instruction(accepted: &Accepted, areas: &mut Areas, thread: &mut Thread) -> Turn
     requires valid { IsValid (checked_of accepted.now).flat accepted.now.image accepted.now.certificate }
-    requires few { length accepted.now.certificate.functions ≤ 2 ^ 32 }
     requires form { HasForm (checked_of accepted.now) (thread_of areas.old thread.old) }
     requires safe { IsSafe (checked_of accepted.now) (code_of accepted.now) (thread_of areas.old thread.old) }
     ensures { IsTurn (checked_of accepted.now) (code_of accepted.now) (thread_of areas.old thread.old) result (thread_of areas.new thread.new) }
 {
-    match step(accepted.image(), areas, &mut thread.regs) {
+    match step_decoded(accepted.instrs(), areas, &mut thread.regs) {
         StepResult::Went => Turn::Goes,
         StepResult::Call { number } => call(accepted, areas, thread, number),
         StepResult::Fault { .. } => unreachable!(),
@@ -51,7 +50,6 @@ pub(crate) fn do_instruction(accepted: &Accepted, areas: &mut Areas, thread: &mu
 // The call of a number, at an ECALL.
 fn call(accepted: &Accepted, areas: &mut Areas, thread: &mut Thread, number: u32) -> Turn
     requires valid { IsValid (checked_of accepted.now).flat accepted.now.image accepted.now.certificate }
-    requires few { length accepted.now.certificate.functions ≤ 2 ^ 32 }
     requires form { HasForm (checked_of accepted.now) (thread_of areas.old thread.old) }
     requires safe { IsSafe (checked_of accepted.now) (code_of accepted.now) (thread_of areas.old thread.old) }
     requires calls { local_step (code_of accepted.now) (thread_of areas.old thread.old) ≡ system_call (thread_of areas.old thread.old) number }

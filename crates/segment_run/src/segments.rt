@@ -1,4 +1,4 @@
-ghost use Rattle.std.specs.Prelude.{◌≡◌, ℕ, ◌^◌, ◌≤◌, List, length};
+ghost use Rattle.std.specs.Prelude.{◌≡◌, ℕ, List};
 ghost use Rattle.certificate_check.specs.Accepting.{accepted_tree};
 ghost use Rattle.certificate_rules.specs.Validity.{IsValid};
 ghost use Rattle.flat_code.specs.WellFormed.{IsWellFormed};
@@ -16,6 +16,7 @@ use crate::contexts::{Context, Fuel, are_registers};
 use crate::running::{Thread, Turn, do_instruction};
 use cap_word::{Ask, Block, TrapKind};
 use certificate_check::Accepted;
+use rv_code::Register;
 use rv_machine::Regs;
 
 /// How far a segment came.
@@ -82,9 +83,8 @@ pub fn run_segment(
 pub(crate) fn are_sound(accepted: &Accepted)
     ensures valid { IsValid (checked_of accepted.now).flat accepted.now.image accepted.now.certificate }
     ensures formed { IsWellFormed (checked_of accepted.now).flat }
-    ensures few { length accepted.now.certificate.functions ≤ 2 ^ 32 }
 {
-    let _image = accepted.image();
+    accepted.is_valid();
 }
 
 // The same, of a thread whose registers stand together.
@@ -96,7 +96,24 @@ fn run_thread(
 ) -> Segment
     requires valid { IsValid (checked_of accepted.now).flat accepted.now.image accepted.now.certificate }
     requires formed { IsWellFormed (checked_of accepted.now).flat }
-    requires few { length accepted.now.certificate.functions ≤ 2 ^ 32 }
+    requires form { HasForm (checked_of accepted.now) (thread_of areas.old thread.old) }
+    requires safe { StaysSafe (checked_of accepted.now) (code_of accepted.now) (thread_of areas.old thread.old) }
+    ensures machine { IsSegment (checked_of accepted.now) (code_of accepted.now) result (thread_of areas.old thread.old) fuel.old.left (thread_of areas.new thread.new) fuel.new.left }
+    ensures counts { KeepsCounts (checked_of accepted.now) (thread_of areas.old thread.old) (thread_of areas.new thread.new) }
+{
+    areas.look_first_at(thread.regs.read(Register::TP));
+    run_turns(accepted, areas, thread, fuel)
+}
+
+// The same, whichever payload is looked at first.
+fn run_turns(
+    accepted: &Accepted,
+    areas: &mut Areas,
+    thread: &mut Thread,
+    fuel: &mut Fuel,
+) -> Segment
+    requires valid { IsValid (checked_of accepted.now).flat accepted.now.image accepted.now.certificate }
+    requires formed { IsWellFormed (checked_of accepted.now).flat }
     requires form { HasForm (checked_of accepted.now) (thread_of areas.old thread.old) }
     requires safe { StaysSafe (checked_of accepted.now) (code_of accepted.now) (thread_of areas.old thread.old) }
     ensures machine { IsSegment (checked_of accepted.now) (code_of accepted.now) result (thread_of areas.old thread.old) fuel.old.left (thread_of areas.new thread.new) fuel.new.left }

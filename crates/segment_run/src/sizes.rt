@@ -11,5 +11,5 @@ pub fn sizes_law(accepted: &Accepted)
     ensures least { 64 ≤ accepted.now.certificate.chunk }
     ensures most { accepted.now.certificate.chunk ≤ 65536 }
 {
-    let _image = accepted.image();
+    accepted.is_valid();
 }

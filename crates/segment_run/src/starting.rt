@@ -42,8 +42,7 @@ pub fn start(
         StandsForThread (checked_of accepted.now) (accepted_tree accepted.now) (local_of areas.new context)
         (Starts (pushed (accepted_tree accepted.now) function (first_arguments (function_at (accepted_tree accepted.now) function).params argument)) []) globals) }
 {
-    // What the image's call tells: the pair is valid.
-    let _image = accepted.image();
+    accepted.is_valid();
     let entry = fact_of(accepted.certificate(), function).entry;
     let chunk = areas.pool.take()?;
     areas.pool.write(chunk, 0, 0);

@@ -9,13 +9,13 @@ use Rattle.segment_laws.specs.Ways.{Owns}
 use Rattle.segment_run.specs.Kept.{areas_of}
 use Rattle.segment_run.specs.Turns.{thread_of}
 use Rattle.segment_run.proofs.Linking.{front_of, depth_below, link_goes}
-use Rattle.segment_run.proofs.links.link.Goals as goal
+use Rattle.segment_run.proofs.links.link_chunk.Goals as goal
 use Rattle.chunk_pool.proofs.ShapeLaws.{words_of-payload}
 
 pub overflow_add-thread-3 : goal.overflow_add-thread-3
 overflow_add-thread-3 c =
     let owns = subst (λ (a : Areas). Owns (thread_of a c.args.thread.now)) (sym c.areas.view_is) c.requires.owns in
-    omega (arith, depth_below (areas_of c.areas.inside) c.args.thread.now owns, c.areas.invariant.pool.chunks_bounded)
+    omega (arith, depth_below (areas_of c.areas.inside) c.args.thread.now owns, c.areas.invariant.0.pool.chunks_bounded)
 
 pub returns : goal.returns
 returns c =

@@ -8,11 +8,10 @@ use Rattle.flat_code.specs.Codes.{site_of}
 use Rattle.certificate_rules.specs.Validity.{IsValid}
 use Rattle.machine_world.specs.Places.{Checked, InOperation, IsAt}
 use Rattle.segment_run.specs.Contexts.{checked_of}
-use Rattle.segment_run.specs.Lookups.{StandsIn}
+use Rattle.certificate_check.specs.CodeLists.{StandsIn}
 use Rattle.segment_run.specs.Walking.{IsInCall}
 use Rattle.stack_certificate.specs.declared.certificates.Certificate.{Certificate}
 use Rattle.stack_image.specs.declared.images.Image.{Image}
-use Rattle.segment_run.proofs.FewFunctions.{few_functions}
 use Rattle.segment_run.proofs.Standing.{stands_in, one_function, has_word, read_operation, read_site, read_at}
 use Rattle.segment_run.proofs.places.call_at.Goals as goal
 
@@ -41,11 +40,8 @@ found flat code image certificate valid address f j g site body ops call stands 
       read = λ op is. read_site c address f g j site op call same operation (read_operation flat f j ops op ops_there small is);
     }
 
-pub function_at-function-requires-clause-few : goal.function_at-function-requires-clause-few
-function_at-function-requires-clause-few c = few_functions (lowered (accepted_tree c.args.accepted.now)) c.args.accepted.now.image c.args.accepted.now.certificate c.requires.valid
-
-pub function_at-function-requires-clause-there : goal.function_at-function-requires-clause-there
-function_at-function-requires-clause-there c =
+pub function_at-function-requires : goal.function_at-function-requires
+function_at-function-requires c =
     let call = c.requires.there in
     (call.0, stands_in (lowered (accepted_tree c.args.accepted.now)) c.args.accepted.now.image c.args.accepted.now.certificate c.requires.valid c.args.address call.0 call.2.operation call.2.word call.2.at)
 

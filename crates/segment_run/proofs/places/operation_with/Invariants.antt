@@ -1,8 +1,18 @@
-use Rattle.std.proofs.Common.{◌≡◌, ◌≤◌}
+use Rattle.std.proofs.Common.{◌-◌, ◌^◌, ◌<◌, ◌≤◌, length}
+use Rattle.flat_code.specs.Codes.{function_at}
 use Rattle.segment_run.specs.Contexts.{checked_of}
 use Rattle.stack_certificate.specs.Templates.{words_before}
 use Rattle.segment_run.proofs.places.operation_with.Given as goal
 
--- the words before this operation, which are not more than those before the sought one
-abbrev pub invariant-loop-op : goal.invariant-loop-op
-invariant-loop-op l = (l.words ≡ words_before (checked_of l.accepted).flat (checked_of l.accepted).certificate l.function l.op) × (l.words ≤ l.word)
+-- the word is not before the lower operation, and before the upper one
+abbrev pub invariant-halving : goal.invariant-halving
+invariant-halving l = record {
+  apart : l.low < l.high;
+  inside : l.high ≤ length (function_at (checked_of l.accepted).flat l.function).ops;
+  few : l.high ≤ 2 ^ 32;
+  below : words_before (checked_of l.accepted).flat (checked_of l.accepted).certificate l.function l.low ≤ l.word;
+  above : l.word < words_before (checked_of l.accepted).flat (checked_of l.accepted).certificate l.function l.high;
+}
+
+abbrev pub decreases-halving : goal.decreases-halving
+decreases-halving l = l.high - l.low

@@ -3,7 +3,7 @@ use Rattle.segment_run.specs.Contexts.{checked_of, code_of}
 use Rattle.segment_run.specs.Turns.{thread_of}
 use Rattle.segment_run.specs.declared.segments.Segment.TheVariants as answer
 use Rattle.segment_run.proofs.UnderWay.{safe_now, goes_on, counts_ended, ends_here}
-use Rattle.segment_run.proofs.segments.run_thread.Goals as goal
+use Rattle.segment_run.proofs.segments.run_turns.Goals as goal
 
 pub do_instruction-requires-clause-safe : goal.do_instruction-requires-clause-safe
 do_instruction-requires-clause-safe c =

@@ -1,7 +1,7 @@
 use Rattle.segment_run.specs.Contexts.{checked_of, code_of}
 use Rattle.segment_run.specs.Turns.{thread_of}
 use Rattle.segment_run.proofs.UnderWay.{IsUnderWay}
-use Rattle.segment_run.proofs.segments.run_thread.Given as goal
+use Rattle.segment_run.proofs.segments.run_turns.Given as goal
 
 abbrev pub invariant-loop-fuel : goal.invariant-loop-fuel
 invariant-loop-fuel l = IsUnderWay (checked_of l.accepted) (code_of l.accepted) (thread_of l.initial.areas l.initial.thread) l.initial.fuel.left (thread_of l.areas l.thread) l.fuel.left

@@ -10,20 +10,20 @@ returns-clause-globals c =
     let program = accepted_tree c.args.accepted.now in
     let image = c.args.accepted.now.image in
     let certificate = c.args.accepted.now.certificate in
-    few_globals (lowered program) image certificate (formed program image certificate c.args.accepted.now.program.well_scoped c.image-image.ensures.valid) c.image-image.ensures.valid
+    few_globals (lowered program) image certificate (formed program image certificate c.args.accepted.now.program.well_scoped c.is_valid.ensures) c.is_valid.ensures
 
 pub returns-clause-tables : goal.returns-clause-tables
 returns-clause-tables c =
     let program = accepted_tree c.args.accepted.now in
     let image = c.args.accepted.now.image in
     let certificate = c.args.accepted.now.certificate in
-    few_tables (lowered program) image certificate (formed program image certificate c.args.accepted.now.program.well_scoped c.image-image.ensures.valid) c.image-image.ensures.valid
+    few_tables (lowered program) image certificate (formed program image certificate c.args.accepted.now.program.well_scoped c.is_valid.ensures) c.is_valid.ensures
 
 pub returns-clause-aligned : goal.returns-clause-aligned
-returns-clause-aligned c = (((c.image-image.ensures.valid.holds 1 0 1).v1 refl).chunk refl).0
+returns-clause-aligned c = (((c.is_valid.ensures.holds 1 0 1).v1 refl).chunk refl).0
 
 pub returns-clause-least : goal.returns-clause-least
-returns-clause-least c = (((c.image-image.ensures.valid.holds 1 0 1).v1 refl).chunk refl).1
+returns-clause-least c = (((c.is_valid.ensures.holds 1 0 1).v1 refl).chunk refl).1
 
 pub returns-clause-most : goal.returns-clause-most
-returns-clause-most c = (((c.image-image.ensures.valid.holds 1 0 1).v1 refl).chunk refl).2
+returns-clause-most c = (((c.is_valid.ensures.holds 1 0 1).v1 refl).chunk refl).2

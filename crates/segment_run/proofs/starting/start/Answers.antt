@@ -22,14 +22,14 @@ returns-clause-ready c =
     let old = areas_of c.areas.inside in
     let f = c.args.function in
     let one = takes_one old.pool c.take.new.self c.in_ok-chunk.chunk c.in_ok-chunk.ensures.needed in
-    let is = before accepted old f c.image-image.ensures.valid c.areas.invariant (subst (AreOf accepted) (sym c.areas.view_is) c.requires.areas) c.requires.function in
+    let is = before accepted old f c.is_valid.ensures c.areas.invariant.0 (subst (AreOf accepted) (sym c.areas.view_is) c.requires.areas) c.requires.function in
     let pools : c.write-2.new.self ≡ with_header one.taken.pool one.taken.chunk 0 0 =
     c.write-2.ensures.after ∙ ap (λ (q : Pool). with_word q c.in_ok-chunk.chunk 1 0) (c.write.ensures.after ∙ ap (λ (q : Pool). with_word q c.in_ok-chunk.chunk 0 0) one.pool)
     ∙ ap (λ (id : ℕ). with_header one.taken.pool id 0 0) one.chunk in
     let entry : c.fact_of.result.now.entry ≡ (fact_at accepted.certificate f).entry = ap (λ fact. fact.entry) (c.fact_of.ensures ∙ ap (λ (k : Certificate). fact_at k f) c.certificate.ensures) in
     subst (IsReady (checked_of accepted) (code_of accepted))
     (sym (made (checked_of accepted) old one.taken c.write-2.new.self c.fact_of.result.now.entry c.place_of-place.result c.bytes_of.result f c.args.argument c.in_ok-chunk.chunk pools entry one.chunk c.place_of-place.ensures.place c.bytes_of.ensures.value))
-    (new_ready (accepted_tree accepted) accepted.image accepted.certificate accepted.program.well_scoped c.image-image.ensures.valid old one.taken 0 f c.args.argument is.form one.is is.there c.ranges.argument.fits)
+    (new_ready (accepted_tree accepted) accepted.image accepted.certificate accepted.program.well_scoped c.is_valid.ensures old one.taken 0 f c.args.argument is.form one.is is.there c.ranges.argument.fits)
 
 -- src/starting.rt:24:1
 pub returns-clause-source : goal.returns-clause-source
@@ -38,14 +38,14 @@ returns-clause-source c = λ globals are.
     let old = areas_of c.areas.inside in
     let f = c.args.function in
     let one = takes_one old.pool c.take.new.self c.in_ok-chunk.chunk c.in_ok-chunk.ensures.needed in
-    let is = before accepted old f c.image-image.ensures.valid c.areas.invariant (subst (AreOf accepted) (sym c.areas.view_is) c.requires.areas) c.requires.function in
+    let is = before accepted old f c.is_valid.ensures c.areas.invariant.0 (subst (AreOf accepted) (sym c.areas.view_is) c.requires.areas) c.requires.function in
     let pools : c.write-2.new.self ≡ with_header one.taken.pool one.taken.chunk 0 0 =
     c.write-2.ensures.after ∙ ap (λ (q : Pool). with_word q c.in_ok-chunk.chunk 1 0) (c.write.ensures.after ∙ ap (λ (q : Pool). with_word q c.in_ok-chunk.chunk 0 0) one.pool)
     ∙ ap (λ (id : ℕ). with_header one.taken.pool id 0 0) one.chunk in
     let entry : c.fact_of.result.now.entry ≡ (fact_at accepted.certificate f).entry = ap (λ fact. fact.entry) (c.fact_of.ensures ∙ ap (λ (k : Certificate). fact_at k f) c.certificate.ensures) in
     subst (λ (l : Local). StandsForThread (checked_of accepted) (accepted_tree accepted) l (Starts (pushed (accepted_tree accepted) f (first_arguments (function_at (accepted_tree accepted) f).params c.args.argument)) []) globals)
     (sym (made (checked_of accepted) old one.taken c.write-2.new.self c.fact_of.result.now.entry c.place_of-place.result c.bytes_of.result f c.args.argument c.in_ok-chunk.chunk pools entry one.chunk c.place_of-place.ensures.place c.bytes_of.ensures.value))
-    (new_source (accepted_tree accepted) accepted.image accepted.certificate accepted.program.well_scoped c.image-image.ensures.valid old one.taken 0 f c.args.argument is.form one.is is.there c.ranges.argument.fits globals are)
+    (new_source (accepted_tree accepted) accepted.image accepted.certificate accepted.program.well_scoped c.is_valid.ensures old one.taken 0 f c.args.argument is.form one.is is.there c.ranges.argument.fits globals are)
 
 pub write-requires-clause-word_in_range : goal.write-requires-clause-word_in_range
 write-requires-clause-word_in_range c =
@@ -62,7 +62,7 @@ returns-clause-machine c need fit =
     let old = areas_of c.areas.inside in
     let f = c.args.function in
     let fit_old : need + 16 ≤ first_bytes old.pool = subst (λ (a : Areas). need + 16 ≤ first_bytes a.pool) (sym c.areas.view_is) fit in
-    let one = takes_for old.pool c.take.new.self need c.in_ok-chunk.chunk (c.in_ok-chunk.ensures.needed need (each_fits old.pool need c.areas.invariant.pool fit_old)) in
+    let one = takes_for old.pool c.take.new.self need c.in_ok-chunk.chunk (c.in_ok-chunk.ensures.needed need (each_fits old.pool need c.areas.invariant.0.pool fit_old)) in
     let pools : c.write-2.new.self ≡ with_header one.taken.pool one.taken.chunk 0 0 =
     c.write-2.ensures.after ∙ ap (λ (q : Pool). with_word q c.in_ok-chunk.chunk 1 0) (c.write.ensures.after ∙ ap (λ (q : Pool). with_word q c.in_ok-chunk.chunk 0 0) one.pool)
     ∙ ap (λ (id : ℕ). with_header one.taken.pool id 0 0) one.chunk in
