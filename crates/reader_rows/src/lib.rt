@@ -26,3 +26,5 @@ mod tokens;
 mod trees;
 #[cfg(test)]
 mod values;
+#[cfg(test)]
+mod workloads;
