@@ -6,6 +6,7 @@ pub mod SimpleRules
 pub mod LocalRules
 pub mod SignTests
 pub mod Paths
+pub mod HeldValues
 pub mod PlainRules
 pub mod LoopRules
 pub mod BodyRules

@@ -1,6 +1,7 @@
 // Values that are held while what stands behind them is read. Each function is generic, so that what becomes of such a
-// value at a refusal is proved once, and not for each form of a tree.
-ghost use Rattle.std.specs.Prelude.{◌≡◌, ◌≢◌, [], ◌∷◌, Ok, Err, IfOk, IfErr};
+// value at a refusal is proved once, and not for each form of a tree. For the same reason a caller that holds a tree lets
+// it go by `drop` in the arm of a refusal, in place of a `?` at which it would fall.
+ghost use Rattle.std.specs.Prelude.{◌≡◌, ◌≢◌, ◌⊎◌, [], ◌∷◌, ◌++◌, Ok, Err, IfOk, IfErr, MatchResult};
 ghost use Rattle.c_grammar.specs.declared.errors.ParseError.TheVariants.{Unexpected, Memory};
 ghost use Rattle.c_grammar.specs.Tokens.{next_sign, next_place, Passes};
 
@@ -36,6 +37,27 @@ pub(crate) fn before_sign<T: Drop>(
 {
     cursor.take(text, sign)?;
     Ok(held)
+}
+
+/// The value in a box, where it could be had.
+pub(crate) fn boxed<T: Drop>(text: Text, value: Result<T, ParseError>) -> Result<Box<T>, ParseError>
+    ensures had { IfOk result (λ made. value ≡ Ok made.value) }
+    ensures refused { IfErr result (λ error. (error ≡ Memory) ⊎ (value ≡ Err error)) }
+{
+    let made = Box::new(text.alloc, value?)?;
+    Ok(made)
+}
+
+/// Puts the next value, where it could be had, behind the others.
+pub(crate) fn push_next<T: Drop>(
+    list: &mut Vec<T>,
+    next: Result<T, ParseError>,
+) -> Result<(), ParseError>
+    ensures pushed { IfOk result (λ _. MatchResult next (λ value. list.new.items ≡ list.old.items ++ (value ∷ [])) (λ _. ⊥)) }
+    ensures refused { IfErr result (λ error. (error ≡ Memory) ⊎ (next ≡ Err error)) }
+{
+    list.push(next?)?;
+    Ok(())
 }
 
 /// Each value of the pair in a box of its own.

@@ -10,6 +10,7 @@ ghost use Rattle.grammar_reader.specs.ItemSteps.{RefusedItems, ReadsItems, Reads
 use crate::cursor::{Cursor, Text};
 use crate::functions::function;
 use crate::globals::globals;
+use crate::held::push_next;
 use crate::tables::table;
 use c_grammar::{ParseError, Sign};
 use c_tree::RawItem;
@@ -45,9 +46,7 @@ fn item(text: Text, cursor: &mut Cursor, items: &mut Vec<RawItem>) -> Result<(),
         }
         Sign::Void => {
             cursor.pass();
-            let item = after_void(text, cursor)?;
-            items.push(item)?;
-            Ok(())
+            push_next(items, after_void(text, cursor))
         }
         _ => Err(cursor.unexpected(text)),
     }
@@ -65,9 +64,7 @@ fn after_int(text: Text, cursor: &mut Cursor, items: &mut Vec<RawItem>) -> Resul
     }
     let name = cursor.take_name(text)?;
     if cursor.sign() == Sign::LeftParenthesis {
-        let item = function(text, cursor, true, name)?;
-        items.push(item)?;
-        return Ok(());
+        return push_next(items, function(text, cursor, true, name));
     }
     globals(text, cursor, name, items)
 }

@@ -9,7 +9,7 @@ ghost use Rattle.grammar_reader.specs.BodySteps.{RefusedInside, ReadsBody, Reads
 
 use crate::cursor::{Cursor, Text};
 use crate::expressions::parenthesized;
-use crate::held::both;
+use crate::held::{boxed, push_next};
 use crate::loops::{Parts, for_parts};
 use crate::plain_statements::{
     break_statement, continue_statement, declarations, return_statement, simple_statement,
@@ -29,7 +29,13 @@ pub(crate) fn block(text: Text, cursor: &mut Cursor, depth: u32) -> Result<Vec<R
     let inside = cursor.open(text, depth)?;
     let mut stmts = Vec::new(text.alloc);
     while cursor.sign() != Sign::RightBrace {
-        block_item(text, cursor, inside, &mut stmts)?;
+        match block_item(text, cursor, inside, &mut stmts) {
+            Ok(()) => {}
+            Err(error) => {
+                drop(stmts);
+                return Err(error);
+            }
+        }
     }
     cursor.pass();
     Ok(stmts)
@@ -51,9 +57,7 @@ fn block_item(
     if cursor.sign() == Sign::Int {
         return declarations(text, cursor, depth, stmts);
     }
-    let stmt = statement(text, cursor, depth)?;
-    stmts.push(stmt)?;
-    Ok(())
+    push_next(stmts, statement(text, cursor, depth))
 }
 
 // A statement that is no declaration.
@@ -68,10 +72,10 @@ fn statement(text: Text, cursor: &mut Cursor, depth: u32) -> Result<RawStmt, Par
             cursor.pass();
             Ok(RawStmt::Empty)
         }
-        Sign::LeftBrace => {
-            let stmts = block(text, cursor, depth)?;
-            Ok(RawStmt::Block(stmts))
-        }
+        Sign::LeftBrace => match block(text, cursor, depth) {
+            Ok(stmts) => Ok(RawStmt::Block(stmts)),
+            Err(error) => Err(error),
+        },
         Sign::If => if_statement(text, cursor, depth),
         Sign::While => while_statement(text, cursor, depth),
         Sign::For => for_statement(text, cursor, depth),
@@ -89,9 +93,7 @@ fn boxed_statement(text: Text, cursor: &mut Cursor, depth: u32) -> Result<Box<Ra
     ensures read { IfOk result (λ made. ReadsBody text.entry.bytes.now text.entry.end depth cursor.old.tokens.now (raw_stmt_tree made.value) cursor.new.tokens.now) }
     ensures refused { IfErr result (λ error. Refused text.entry.end depth (Body ∷ []) cursor.old.tokens.now error) }
 {
-    let stmt = statement(text, cursor, depth)?;
-    let made = Box::new(text.alloc, stmt)?;
-    Ok(made)
+    boxed(text, statement(text, cursor, depth))
 }
 
 // An `if`, which comes next, with the `else` behind it, which belongs to the nearest `if`.
@@ -104,18 +106,29 @@ fn if_statement(text: Text, cursor: &mut Cursor, depth: u32) -> Result<RawStmt, 
 {
     let inside = cursor.open(text, depth)?;
     let condition = parenthesized(text, cursor, inside)?;
-    let (condition, then) = both(condition, boxed_statement(text, cursor, inside))?;
+    let then = match boxed_statement(text, cursor, inside) {
+        Ok(then) => then,
+        Err(error) => {
+            drop(condition);
+            return Err(error);
+        }
+    };
     if cursor.sign() != Sign::Else {
         return Ok(RawStmt::If { condition, then });
     }
     cursor.pass();
-    let (held, otherwise) = both((condition, then), boxed_statement(text, cursor, inside))?;
-    let (condition, then) = held;
-    Ok(RawStmt::IfElse {
-        condition,
-        then,
-        otherwise,
-    })
+    match boxed_statement(text, cursor, inside) {
+        Ok(otherwise) => Ok(RawStmt::IfElse {
+            condition,
+            then,
+            otherwise,
+        }),
+        Err(error) => {
+            drop(condition);
+            drop(then);
+            Err(error)
+        }
+    }
 }
 
 // A `while`, which comes next.
@@ -128,8 +141,13 @@ fn while_statement(text: Text, cursor: &mut Cursor, depth: u32) -> Result<RawStm
 {
     let inside = cursor.open(text, depth)?;
     let condition = parenthesized(text, cursor, inside)?;
-    let (condition, body) = both(condition, boxed_statement(text, cursor, inside))?;
-    Ok(RawStmt::While { condition, body })
+    match boxed_statement(text, cursor, inside) {
+        Ok(body) => Ok(RawStmt::While { condition, body }),
+        Err(error) => {
+            drop(condition);
+            Err(error)
+        }
+    }
 }
 
 // A `for`, which comes next.
@@ -142,16 +160,23 @@ fn for_statement(text: Text, cursor: &mut Cursor, depth: u32) -> Result<RawStmt,
 {
     let inside = cursor.open(text, depth)?;
     let parts = for_parts(text, cursor, inside)?;
-    let (parts, body) = both(parts, boxed_statement(text, cursor, inside))?;
-    let Parts {
-        init,
-        condition,
-        step,
-    } = parts;
-    Ok(RawStmt::For {
-        init,
-        condition,
-        step,
-        body,
-    })
+    match boxed_statement(text, cursor, inside) {
+        Ok(body) => {
+            let Parts {
+                init,
+                condition,
+                step,
+            } = parts;
+            Ok(RawStmt::For {
+                init,
+                condition,
+                step,
+                body,
+            })
+        }
+        Err(error) => {
+            drop(parts);
+            Err(error)
+        }
+    }
 }
