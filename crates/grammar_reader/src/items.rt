@@ -58,9 +58,7 @@ fn after_int(text: Text, cursor: &mut Cursor, items: &mut Vec<RawItem>) -> Resul
     ensures refused { IfErr result (λ error. Refused text.entry.end 0 (AfterInt ∷ []) cursor.old.tokens.now error) }
 {
     if cursor.sign() == Sign::LeftParenthesis {
-        let table = table(text, cursor)?;
-        items.push(RawItem::Table(table))?;
-        return Ok(());
+        return push_next(items, table(text, cursor));
     }
     let name = cursor.take_name(text)?;
     if cursor.sign() == Sign::LeftParenthesis {

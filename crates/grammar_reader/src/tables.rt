@@ -1,7 +1,6 @@
 // Declarations of tables of functions (ISO/IEC 9899:2018, 6.7.6).
 ghost use Rattle.std.specs.Prelude.{◌≡◌, [], ◌∷◌, IfOk, IfErr, map};
-ghost use Rattle.c_tree.specs.RawTrees.{RawTableItem};
-ghost use Rattle.c_tree.specs.RawViews.{name_tree};
+ghost use Rattle.c_tree.specs.RawViews.{name_tree, raw_item_tree};
 ghost use Rattle.c_grammar.specs.declared.signs.Sign.{Sign};
 ghost use Rattle.c_grammar.specs.Machine.{AfterInt, TableParameter, TableMembers};
 ghost use Rattle.c_grammar.specs.Tokens.{next_sign};
@@ -11,12 +10,12 @@ ghost use Rattle.grammar_reader.specs.ItemSteps.{ReadsTable, ReadsDeclared, Read
 use crate::cursor::{Cursor, Text};
 use crate::simples::size;
 use c_grammar::{ParseError, Sign};
-use c_tree::{Name, RawTable};
+use c_tree::{Name, RawItem, RawTable};
 
 /// What follows the `int` of a table, whose parenthesis comes next, up to its `;`.
-pub(crate) fn table(text: Text, cursor: &mut Cursor) -> Result<RawTable, ParseError>
+pub(crate) fn table(text: Text, cursor: &mut Cursor) -> Result<RawItem, ParseError>
     requires { next_sign cursor.old.tokens.now ≡ Sign.LeftParenthesis }
-    ensures read { IfOk result (λ t. ReadsTable text.entry.bytes.now text.entry.end cursor.old.tokens.now (RawTableItem (name_tree t.name) t.size (map name_tree t.members.items)) cursor.new.tokens.now) }
+    ensures read { IfOk result (λ item. ReadsTable text.entry.bytes.now text.entry.end cursor.old.tokens.now (raw_item_tree item) cursor.new.tokens.now) }
     ensures refused { IfErr result (λ error. Refused text.entry.end 0 (AfterInt ∷ []) cursor.old.tokens.now error) }
 {
     let (name, size) = declared(text, cursor)?;
@@ -24,11 +23,11 @@ pub(crate) fn table(text: Text, cursor: &mut Cursor) -> Result<RawTable, ParseEr
     cursor.take(text, Sign::Assign)?;
     let members = members(text, cursor)?;
     cursor.take(text, Sign::Semicolon)?;
-    Ok(RawTable {
+    Ok(RawItem::Table(RawTable {
         name,
         size,
         members,
-    })
+    }))
 }
 
 // The name and the size, with the `*` before them and the parentheses, the first of which comes next.
