@@ -15,7 +15,7 @@ use Rattle.event_trace.specs.Reader.{ReaderState, NextTold, NextAnswers, NextLea
 told_by : (E : Type 0) (old new : ReaderState) (before after : Option (List ℕ)) (line : List ℕ) (taken : Result Ending E) (r : Result (Option Event) TraceError)
     → Gathers (prepend_known old.held before) (prepend_known new.held after) line taken
     → ((bytes rest : List ℕ) → MatchResult taken (λ ending. GathersLine bytes rest line ending) (λ _. Unit {0})
-      → NextAnswers bytes old.lines old.last r × NextLeaves bytes rest r)
+    → NextAnswers bytes old.lines old.last r × NextLeaves bytes rest r)
     → NextTold old new before after r
 told_by E old new None after line taken r gathered answers = tt
 told_by E old new (Some b) None line taken r gathered answers = absurd gathered

@@ -35,8 +35,8 @@ loop-byte-preserved g c =
       gathered = rw c.push_reserved.ensures.items more;
       whole = whole_more _ _ _ c.in-Some.byte _ _ _ other c.loop-byte.invariant.whole (rw c.in-Some.is at c.in_ok-byte.ensures.held);
       first = λ none.
-        let empty = rw c.push_reserved.ensures.items at none
-        in absurd (omega (arith, ap length empty, length-append c.loop-byte.line.items (c.in-Some.byte ∷ [])));
+          let empty = rw c.push_reserved.ensures.items at none
+          in absurd (omega (arith, ap length empty, length-append c.loop-byte.line.items (c.in-Some.byte ∷ [])));
       tail = tail_more _ _ _ c.loop-byte.invariant.tail c.in_ok-byte.ensures.tail;
       counts = c.in_ok-byte.ensures.counts ∙ c.loop-byte.invariant.counts;
       short = omega arith;
