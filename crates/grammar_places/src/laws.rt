@@ -8,8 +8,9 @@ ghost use Rattle.grammar_places.specs.Nested.{IsFirstPlace, items_nested};
 ghost use Rattle.grammar_places.specs.Places.{Standing, items_places};
 ghost use Rattle.grammar_places.specs.Rising.{RiseWithin};
 
-/// Where the tokens of a program stand in order up to an end, the places of its names, calls and keywords, whichever of these are
-/// meant, rise strictly in the order of its tree, up to that end. It does nothing: the law is the contract.
+/// Where the tokens of a program stand in order up to an end, the places of its names, of its calls, and of its `break`,
+/// `continue` and `return`, whichever of these are meant, rise strictly in the order of its tree, up to that end. It does
+/// nothing: the law is the contract.
 pub fn places_rise()
     ensures { (source : List ℕ) (tokens : List Token) (end : ℕ) (items : List RawItemTree)
         (meant : Standing → Bool) → StandInOrder 0 tokens end → IsProgram source tokens items →

@@ -174,7 +174,7 @@ fn each_read_may_fail(rt: HostRuntime) {
     assert!(rt; right);
 }
 
-/// How many lines a long trace has: each has 15 bytes with its LF, so that each 4,096 bytes end in the midst of one.
+/// How many lines a long trace has: each has 17 bytes with its LF, and 18 from the time 1,000 on, so that each 4,096 bytes end in the midst of one.
 const LONG_LINES: u64 = 1_000;
 
 // A trace of that many lines `arrive T 12345`, T from 100 on, which is no multiple of a block.
