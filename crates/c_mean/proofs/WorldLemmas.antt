@@ -149,6 +149,7 @@ module _ (program : ProgramTree) (caps : List ℕ) (world : World) (t : ℕ) whe
   same_rows x (Block.Sleep ticks) = refl
   same_rows x Block.Yield = refl
   same_rows x (Block.Take resource amount) = refl
+  same_rows x (Block.WaitFor channel ticks) = refl
 
   kept_from : (start : Segment) (n : ℕ) (move : SegmentMove) → Keeps start → Some (moves (segment_machine program caps) n start) ≡ Some move → Kept move
   kept_from start n move k h = let e : moves (segment_machine program caps) n start ≡ move = cc in subst Kept e (kept_moves n start k)

@@ -99,6 +99,14 @@ blocking_row caps x (Block.Take resource amount) = record {
   result = 0;
   after = with_use x resource (use_of x resource + amount);
 }
+-- waitfor(channel, ticks) takes no message: its result is whether the channel holds one
+blocking_row caps x (Block.WaitFor channel ticks) = record {
+  trap = channel_trap channel;
+  ready = holds_some (channel_of x channel);
+  wait = Some (ticks_of ticks);
+  result = if holds_some (channel_of x channel) then 1 else 0;
+  after = x;
+}
 
 -- the clock at which a thread wakes that blocked at a time
 abbrev pub wake_of : ℕ → Option ℕ → Option ℕ
@@ -115,6 +123,10 @@ is_past clock (Some time) = nat_le time clock
 -- whether a thread that blocked at a time is ready
 abbrev pub is_ready : List ℕ → Exchange → ℕ → ℕ → Block → Bool
 is_ready caps x clock since block = (blocking_row caps x block).ready || is_past clock (wake_of since (blocking_row caps x block).wait)
+
+-- the clock until which it sleeps: none where it is ready, or where no time makes it so
+abbrev pub sleeps_until : List ℕ → Exchange → ℕ → ℕ → Block → Option ℕ
+sleeps_until caps x clock since block = if is_ready caps x clock since block then None else wakes_at since block
 
 -- ---- calls that are answered at once
 

@@ -10,7 +10,7 @@ ghost use Rattle.c_tree.specs.declared.operators.ModelledCall.{ModelledCall};
 ghost use Rattle.c_tree.specs.declared.operators.UnaryOperator.{UnaryOperator};
 ghost use Rattle.c_mean.specs.Examples.{divisions, one_call, recursion, index_beyond, table_calls, deep_yield, server, loop_jumps, while_jumps, leave_before_turns, skip_before_turns, turns_without_condition, one_turn, late_range_test, one_modelled, HasFrames, rests_in};
 ghost use Rattle.c_mean.specs.Frames.{InLocal};
-ghost use Rattle.c_mean.specs.ModelledCalls.{Arrival, Message, is_ready, wakes_at, with_delivery, with_use};
+ghost use Rattle.c_mean.specs.ModelledCalls.{Arrival, Message, blocking_row, is_ready, sleeps_until, wakes_at, with_delivery, with_use};
 ghost use Rattle.c_mean.specs.Operators.{binary_value, unary_value};
 ghost use Rattle.c_mean.specs.Values.{value};
 ghost use Rattle.c_mean.specs.World.{World, Ended, Fresh, Run, Deliver, RunsTo, IsAfter, thread_moves, empty_exchange, start_world};
@@ -106,6 +106,7 @@ pub fn calls_out_of_range_trap()
     ensures taken { RunsTo (one_modelled ModelledCall.Take (Number 1 ∷ Number 2 ∷ [])) (0 ∷ 1 ∷ []) (start_world (one_modelled ModelledCall.Take (Number 1 ∷ Number 2 ∷ []))) 0 (record { trap = Some TrapKind.Resource; world = start_world (one_modelled ModelledCall.Take (Number 1 ∷ Number 2 ∷ [])) }) }
     ensures given { RunsTo (one_modelled ModelledCall.Give (Number 1 ∷ Number 1 ∷ [])) (0 ∷ 1 ∷ []) (start_world (one_modelled ModelledCall.Give (Number 1 ∷ Number 1 ∷ []))) 0 (record { trap = Some TrapKind.Resource; world = start_world (one_modelled ModelledCall.Give (Number 1 ∷ Number 1 ∷ [])) }) }
     ensures waited { RunsTo (one_modelled ModelledCall.Wait (Number 64 ∷ [])) [] (start_world (one_modelled ModelledCall.Wait (Number 64 ∷ []))) 0 (record { trap = Some TrapKind.Channel; world = start_world (one_modelled ModelledCall.Wait (Number 64 ∷ [])) }) }
+    ensures waited_for { RunsTo (one_modelled ModelledCall.WaitFor (Number 64 ∷ Number 0 ∷ [])) [] (start_world (one_modelled ModelledCall.WaitFor (Number 64 ∷ Number 0 ∷ []))) 0 (record { trap = Some TrapKind.Channel; world = start_world (one_modelled ModelledCall.WaitFor (Number 64 ∷ Number 0 ∷ [])) }) }
 {}
 
 /// A thread that blocked at `sleep(50)` at the time 8 is ready from 58 on, one at `sleep(-1)` at once; one at `take` while
@@ -119,4 +120,19 @@ pub fn blocked_threads_are_ready()
     ensures room { is_ready (0 ∷ 3 ∷ []) (with_use empty_exchange 1 2) 0 0 (Block.Take 1 1) ≡ true }
     ensures nobody { is_ready [] empty_exchange 0 0 Block.Accept ≡ false }
     ensures somebody { is_ready [] (with_delivery empty_exchange (Arrival 3)) 0 0 Block.Accept ≡ true }
+{}
+
+/// A thread that blocked at `waitfor(2, 50)` at the time 8 sleeps until 58 while channel 2 holds no message: then, or as
+/// soon as it holds one, the thread is ready and sleeps no more, and its result tells which. The message stays.
+pub fn silent_threads_wake()
+    ensures silent { is_ready [] empty_exchange 57 8 (Block.WaitFor 2 50) ≡ false }
+    ensures sleeps { sleeps_until [] empty_exchange 57 8 (Block.WaitFor 2 50) ≡ Some 58 }
+    ensures late { is_ready [] empty_exchange 58 8 (Block.WaitFor 2 50) ≡ true }
+    ensures negative { is_ready [] empty_exchange 8 8 (Block.WaitFor 2 4294967295) ≡ true }
+    ensures spoken { is_ready [] (with_delivery empty_exchange (Message 2 7)) 9 8 (Block.WaitFor 2 50) ≡ true }
+    ensures awake { sleeps_until [] (with_delivery empty_exchange (Message 2 7)) 9 8 (Block.WaitFor 2 50) ≡ None }
+    ensures elsewhere { is_ready [] (with_delivery empty_exchange (Message 3 7)) 9 8 (Block.WaitFor 2 50) ≡ false }
+    ensures nothing { (blocking_row [] empty_exchange (Block.WaitFor 2 50)).result ≡ 0 }
+    ensures something { (blocking_row [] (with_delivery empty_exchange (Message 2 7)) (Block.WaitFor 2 50)).result ≡ 1 }
+    ensures stays { (blocking_row [] (with_delivery empty_exchange (Message 2 7)) (Block.WaitFor 2 50)).after ≡ with_delivery empty_exchange (Message 2 7) }
 {}

@@ -18,8 +18,8 @@ mod values;
 pub use examples::{
     blocked_threads_are_ready, call_pushes_frame, calls_out_of_range_trap, deep_thread_blocks,
     divisions_have_values, loops_turn, operands_are_evaluated_as_needed, operators_have_edges,
-    range_is_tested_last, recursion_returns, server_serves, stores_beyond_trap, tables_are_called,
-    turns_without_condition_are_left,
+    range_is_tested_last, recursion_returns, server_serves, silent_threads_wake,
+    stores_beyond_trap, tables_are_called, turns_without_condition_are_left,
 };
 pub use laws::{
     deliveries_change_one_queue, frames_wait_in_text, jumps_pass_statements,

@@ -2,31 +2,11 @@
 
 ghost use Rattle.std.specs.Prelude.{◌≡◌, ◌++◌, ◌∷◌, [], OnOk, map, option_map};
 ghost use Rattle.c_tree.specs.Views.{call_tree, right_tree, simple_tree, stmt_tree, stmt_trees, function_tree};
-ghost use Rattle.c_tree.specs.Modelled.{number_of};
 ghost use Rattle.c_tree.specs.TextOrder.{call_site, right_sites, returned_sites, simple_sites, simples_sites, step_sites, stmt_sites, stmts_sites, functions_sites};
 
 use crate::facts::{Function, Site, SiteKind};
-use crate::operators::ModelledCall;
 use crate::statements::{Call, RightSide, Simple, Stmt};
 use std::alloc::AllocError;
-
-impl ModelledCall {
-    /// The number that the run time knows the call by.
-    pub fn number(self) -> u32
-        ensures { result ≡ number_of self }
-    {
-        match self {
-            ModelledCall::Accept => 16,
-            ModelledCall::Wait => 17,
-            ModelledCall::Sleep => 18,
-            ModelledCall::Yield => 19,
-            ModelledCall::Take => 20,
-            ModelledCall::Put => 3,
-            ModelledCall::Give => 5,
-            ModelledCall::SelfNumber => 6,
-        }
-    }
-}
 
 impl Call {
     /// The call's site: its number, and what is called.

@@ -28,7 +28,8 @@ call_of_one number a =
 abbrev pub call_of_two : ℕ → ℕ → ℕ → Option Call
 call_of_two number a b =
     if nat_eq number 5 then Some (Immediate (Ask.Give a b)) else
-    if nat_eq number 20 then Some (Blocking (Block.Take a b)) else None
+    if nat_eq number 20 then Some (Blocking (Block.Take a b)) else
+    if nat_eq number 21 then Some (Blocking (Block.WaitFor a b)) else None
 
 -- the modelled call of a number with these arguments; `spawn` is none of them, since it names a function
 abbrev pub call_of : ℕ → List ℕ → Option Call

@@ -12,6 +12,9 @@ pub enum Block {
     Yield,
     /// `take(resource, amount)`: until that much of the resource is unused.
     Take { resource: u32, amount: u32 },
+    /// `waitfor(channel, ticks)`: until that channel holds a message, or that much time has passed; a
+    /// word from 2^31 on is a negative number.
+    WaitFor { channel: u32, ticks: u32 },
 }
 
 /// A modelled call that is answered at once. The fields are the call's arguments, as words.

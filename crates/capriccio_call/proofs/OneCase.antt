@@ -24,7 +24,6 @@ use Rattle.command_words.proofs.OneRequest.{one_request}
 use Rattle.analysis_lines.specs.Lines.{name_at}
 use Rattle.command_outcomes.specs.declared.documents.Document.{Document}
 use Rattle.command_outcomes.specs.declared.documents.Document.TheVariants as document
-use Rattle.command_outcomes.specs.declared.stops.Cause.{Cause}
 use Rattle.command_outcomes.specs.declared.stops.Cause.TheVariants as cause
 use Rattle.command_outcomes.specs.declared.faults.Fault.{Fault}
 use Rattle.command_outcomes.specs.declared.faults.Fault.TheVariants.{Read, Write, Memory}
@@ -40,13 +39,17 @@ use Rattle.command_words.specs.declared.options.Policy.{Policy as RunOptions}
 use Rattle.capriccio_commands.specs.BuildsFiles.{Builds, BuildsProgram, HasFittingCode, IsUnbuilt, built}
 use Rattle.capriccio_commands.specs.Runs.{RunsOn, Serves, ServesProgram, Runs, RunsBytes, RunsPair, setup_of}
 use Rattle.capriccio_commands.specs.RunSteps.{IsRunPolicy}
-use Rattle.capriccio_commands.specs.Due.{Does, IsDue, IsUnlisted, sizes_of}
+use Rattle.capriccio_commands.specs.Demos.{Demos, ShowsProgram, ShowsRun, demo_sizes, demo_policy}
+use Rattle.capriccio_commands.specs.Due.{Does, IsDue, sizes_of}
+use Rattle.workload_source.specs.Programs.{program_text}
+use Rattle.workload.specs.Traces.{trace_text}
 use Rattle.command_outcomes.specs.Done.{Outside, IsRisen, IsDone, IsExact}
 use Rattle.c_scope.proofs.SourceTexts.{one_program, one_source_error, never}
 use Rattle.capriccio_commands.proofs.OneBuild.{plans-are-one, words-are-one, texts-are-one}
 use Rattle.capriccio_call.proofs.OnePair.{pairs-are-one}
-use Rattle.capriccio_call.proofs.OneRun.{one-outcome}
+use Rattle.capriccio_call.proofs.OneRun.{one-outcome, one-shown}
 use Rattle.capriccio_commands.proofs.Options.{serve-policy, serve-pool, run-policy}
+use Rattle.capriccio_commands.proofs.Workloads.{demo-run-policy, demo-pool}
 
 alike : (a b o : Outcome) → a ≡ o → b ≡ o → a ≡ b
 alike a b o p q = p ∙ sym q
@@ -254,6 +257,21 @@ run-bytes-case trace policy source image certificate a b ranges h k =
     (λ p scoped x y. image-case image (λ i. AfterCertificate certificate (λ c. RunsPair (Some trace) policy p i c)) a b
     (λ i z w. certificate-case certificate (λ c. RunsPair (Some trace) policy p i c) a b (λ c u v. run-case trace policy p i c a b ranges u v) z w) x y) h k
 
+shows-case : (trace : List ℕ) (p : ProgramTree) (a b : Outcome) → IsWellScoped p → ShowsProgram trace p a → ShowsProgram trace p b → a ≡ b
+shows-case trace p a b scoped h k =
+    let is = k.2.2 in
+    let plans = plans-are-one p scoped demo_sizes.max_path h.2.0 k.2.0 h.2.1 k.2.1 in
+    let pairs = pairs-are-one (lowered p) demo_sizes h.0 k.0 h.1 k.1 h.2 k.2 plans in
+    let image : ShowsRun trace (setup_of p k.0 h.1 demo_policy) a = subst (λ (i : Image). ShowsRun trace (setup_of p i h.1 demo_policy) a) pairs.0 h.3 in
+    let runs : ShowsRun trace (setup_of p k.0 k.1 demo_policy) a = subst (λ (c : Certificate). ShowsRun trace (setup_of p k.0 c demo_policy) a) pairs.1 image in
+    one-shown (setup_of p k.0 k.1 demo_policy) trace a b demo-run-policy.some_chunks demo-run-policy.chunks demo-run-policy.fuel (demo-pool k.1.chunk is.chunk) runs k.3
+
+demo-case : (number : ℕ) (a b : Outcome) → Demos number a → Demos number b → a ≡ b
+demo-case number a b h k =
+    let left = h.1 in let right = k.1 in
+    let same : h.0 ≡ k.0 = one_program (program_text number) h.0 k.0 left.reads right.reads in
+    shows-case (trace_text number) k.0 a b right.scoped (subst (λ (p : ProgramTree). ShowsProgram (trace_text number) p a) same h.2) k.2
+
 request-case : (request : Request) (words : List (List ℕ)) (f : Files) (trace : List ℕ) (before : Outside) (a b : Outcome) → IsWordList words request → before.files ≡ Some f → before.left ≡ Some trace → Does request before a → Does request before b → a ≡ b
 request-case (Graph source placement) words f trace before a b asked told left h k =
     let P : Option Files → Outcome → Type 0 = λ files o. Graphs files source placement.max_path o in
@@ -278,14 +296,7 @@ request-case (Run source i c policy) words f trace before a b asked told left h 
     let P : Option Files → Option (List ℕ) → Outcome → Type 0 = λ files bytes o. Runs files bytes source i c policy o in
     three-case f source i c (RunsBytes (Some trace) policy) a b (λ s x y u v. run-bytes-case trace policy s x y a b (run-policy words source i c policy asked) u v)
     (subst (λ bytes. P (Some f) bytes a) left (subst (λ files. P files before.left a) told h)) (subst (λ bytes. P (Some f) bytes b) left (subst (λ files. P files before.left b) told k))
-request-case (Demo number) words f trace before a b asked told left h k = alike a b (refusal cause.NotBuilt) h k
-
-unlisted-one : (words : List (List ℕ)) (a b : Cause) → IsUnlisted words a → IsUnlisted words b → a ≡ b
-unlisted-one words a b h k =
-    ⊎_elim
-    (λ x. ⊎_elim (λ y. x.1 ∙ sym y.1) (λ y. absurd (y.0 x.0)) k)
-    (λ x. ⊎_elim (λ y. absurd (x.0 y.0)) (λ y. x.1 ∙ sym y.1) k)
-    h
+request-case (Demo number) words f trace before a b asked told left h k = demo-case number a b h k
 
 pub due-case : (words : List (List ℕ)) (f : Files) (trace : List ℕ) (before : Outside) (a b : Outcome) → before.files ≡ Some f → before.left ≡ Some trace → IsDue words before a → IsDue words before b → a ≡ b
 due-case words f trace before a b told left h k =
@@ -293,7 +304,7 @@ due-case words f trace before a b told left h k =
     (λ x. ⊎_elim
     (λ y. request-case y.0 words f trace before a b y.1 told left (subst (λ (r : Request). Does r before a) (one_request words x.0 y.0 x.1 y.1) x.2) y.2)
     (λ y. absurd (y.0 x.0 x.1)) k)
-    (λ x. ⊎_elim (λ y. absurd (x.0 y.0 y.1)) (λ y. alike a b (refusal y.1) (x.3 ∙ ap (λ (why : Cause). refusal why) (unlisted-one words x.1 y.1 x.2 y.2)) y.3) k)
+    (λ x. ⊎_elim (λ y. absurd (x.0 y.0 y.1)) (λ y. alike a b (refusal cause.Usage) x.1 y.1) k)
     h
 
 -- Exactly there.
@@ -304,7 +315,7 @@ not-risen old new risen stayed = let less = risen.rose stayed.1 in let same = st
 pub exact : (words : List (List ℕ)) (before after : Outside) (given : Result Outcome Fault) → IsDone (IsDue words before) before after given → IsExact (IsDue words) before after given
 exact words before after (Ok o) h = λ none files trace outcome told left due. due-case words files trace before o outcome told left h.0 due
 exact words before after (Err Read) h = λ none files trace outcome told left due.
-    ⊎_elim (λ x. let counted = x.1 in not-risen before.loads after.loads counted.loads none.loads) (λ x. let counted = x.5 in not-risen before.reads after.reads counted.reads none.reads) h
+    ⊎_elim (λ x. let counted = x.1 in not-risen before.loads after.loads counted.loads none.loads) (λ x. let counted = x.4 in not-risen before.reads after.reads counted.reads none.reads) h
 exact words before after (Err Write) h = λ none files trace outcome told left due.
     ⊎_elim (λ x. let counted = x.1 in not-risen before.stores after.stores counted.stores none.stores) (λ x. let counted = x.1 in not-risen before.writes after.writes counted.writes none.writes) h.2
 exact words before after (Err Memory) h = λ none files trace outcome told left due. tt

@@ -10,6 +10,7 @@ use Rattle.one_log.specs.One.{HasOneLog}
 use Rattle.one_log.proofs.Starting.{one_log}
 use Rattle.segment_run.proofs.Forming.{areas_formed}
 use Rattle.command_outcomes.specs.Outcome.{Outcome}
+use Rattle.capriccio_commands.specs.Demos.{ShowsRun, shown_outcome}
 use Rattle.capriccio_commands.specs.Runs.{IsAccepted, RunsOn, run_outcome}
 use Rattle.chunk_pool.proofs.ShapeLaws.{first_bytes-start}
 
@@ -39,3 +40,14 @@ one-outcome g trace a b some few fuel fits h k =
     let stops : h.2 ≡ k.2 = first.1.0 ∙ sym second.1.0 in
     let ends : h.3 ≡ k.3 = first.1.1 ∙ sym second.1.1 in
     h.5 ∙ ((λ j. run_outcome g (entries j) (stops j) (ends j)) ∙ sym k.5)
+
+-- the same of what `demo` shows of it
+pub one-shown : (g : Setup) (trace : List ℕ) (a b : Outcome) → 1 ≤ g.policy.chunks → g.policy.chunks ≤ 65536 → g.policy.fuel ≤ 1000000000 → g.policy.chunks * g.certificate.chunk ≤ 67108864 → ShowsRun trace g a → ShowsRun trace g b → a ≡ b
+one-shown g trace a b some few fuel fits h k =
+    let one = one-run g trace h.0 some few fuel fits in
+    let first = one.only h.1 h.2 h.3 h.4.lawful in
+    let second = one.only k.1 k.2 k.3 k.4.lawful in
+    let entries : h.1 ≡ k.1 = first.0 ∙ sym second.0 in
+    let stops : h.2 ≡ k.2 = first.1.0 ∙ sym second.1.0 in
+    let ends : h.3 ≡ k.3 = first.1.1 ∙ sym second.1.1 in
+    h.5 ∙ ((λ j. shown_outcome g (entries j) (stops j) (ends j)) ∙ sym k.5)

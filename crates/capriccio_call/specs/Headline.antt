@@ -4,6 +4,7 @@
 -- that the run was good whose world is handed out. docs/HEADLINE.md reads both part by part.
 use Rattle.std.specs.Prelude.{ℕ, ◌≡◌, List, Option, IfSome, Some, None, Result}
 use Rattle.std.specs.Io.KnownBytes.{Appends}
+use Rattle.command_words.specs.WordList.{IsWordList, Request, Demo}
 use Rattle.lawful_log.specs.Setup.{Setup}
 use Rattle.machine_world.specs.Threads.{World}
 use Rattle.schedule_log.specs.EntryText.{log_text}
@@ -11,10 +12,14 @@ use Rattle.schedule_log.specs.declared.entries.Entry.{Entry}
 use Rattle.schedule_log.specs.declared.entries.StopLine.{StopLine}
 use Rattle.thread_core.specs.Worlds.{Held}
 use Rattle.command_outcomes.specs.declared.faults.Fault.{Fault}
+use Rattle.command_outcomes.specs.Loads.{IsSourceText}
 use Rattle.command_outcomes.specs.Outcome.{Outcome}
 use Rattle.command_outcomes.specs.Done.{Outside, IsDone, IsExact, IsTold, IsLast, IsWorldOf, status_of, line_of, last_of}
 use Rattle.capriccio_commands.specs.Due.{IsDue}
 use Rattle.capriccio_commands.specs.Runs.{IsAccepted, IsRun, stop_status}
+use Rattle.capriccio_commands.specs.Summary.{summary_of}
+use Rattle.workload.specs.Traces.{trace_text}
+use Rattle.workload_source.specs.Programs.{program_text}
 
 -- What is due is done as a whole, or after a fault or a want of memory in part; where nothing failed it is just what is due. Standard
 -- error takes the line, the status is that of the outcome or of the fault, and the world that was run is handed out exactly where
@@ -31,20 +36,33 @@ IsAnswerOf due before after err err' faults faults' last status =
 abbrev pub IsAnswer : (words : List (List ℕ)) → (before after : Outside) → (err err' : Option (List ℕ)) → (faults faults' : ℕ) → (last : Option Held) → (status : ℕ) → Type 0
 IsAnswer words = IsAnswerOf (IsDue words)
 
--- A run came to its stop in this world, and was good: the checker accepts its program, image and certificate; the lines that the
--- output took are the lawful log on the trace up to the stop, and that log is good; the status is that of the stop.
-pub record RanWell (before after : Outside) (world : Held) (status : ℕ) : Type 0 where
+-- What a run wrote, by what the words ask for: the entries are the lawful log of the run up to the stop, and that log is good. For `demo`
+-- the program is the workload's of its number, the log is that on the workload's trace, and the output took the summary that is counted over it.
+-- For every other request the log is that on the trace that is handed in, and the output took its lines.
+abbrev pub IsLogFor : Request → Setup → (before after : Outside) → List Entry → StopLine → World → Type 0
+IsLogFor (Demo number) setup before after entries stop end =
+    IsSourceText (program_text number) setup.program
+    × IsRun setup (trace_text number) entries stop end
+    × Appends before.taken after.taken (summary_of setup entries stop)
+IsLogFor request setup before after entries stop end =
+    IfSome before.left (λ trace. IsRun setup trace entries stop end)
+    × Appends before.taken after.taken (log_text entries)
+
+-- A run that the words ask for came to its stop in this world, and was good: the checker accepts its program, image and certificate; the
+-- output took its lawful log, which is good, or for `demo` a summary of it; the status is that of the stop.
+pub record RanWell (words : List (List ℕ)) (before after : Outside) (world : Held) (status : ℕ) : Type 0 where
+  pub request : Request
+  pub asked : IsWordList words request
   pub setup : Setup
   pub entries : List Entry
   pub stop : StopLine
   pub end : World
   pub accepted : IsAccepted setup
-  pub run : IfSome before.left (λ trace. IsRun setup trace entries stop end)
-  pub printed : Appends before.taken after.taken (log_text entries)
+  pub log : IsLogFor request setup before after entries stop end
   pub stopped : status ≡ stop_status stop
   pub handed_out : IsWorldOf (record { setup = setup; end = end }) world
 
 -- where a world is handed out, its run was good
-abbrev pub WasGood : (before after : Outside) → (last : Option Held) → (status : ℕ) → Type 0
-WasGood before after None status = Unit {0}
-WasGood before after (Some world) status = RanWell before after world status
+abbrev pub WasGood : (words : List (List ℕ)) → (before after : Outside) → (last : Option Held) → (status : ℕ) → Type 0
+WasGood words before after None status = Unit {0}
+WasGood words before after (Some world) status = RanWell words before after world status

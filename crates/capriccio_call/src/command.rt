@@ -24,7 +24,7 @@ pub fn capriccio<F: Shelf, S: Source, K: Sink, E: Sink>(
     ensures answer { let outside = outside_by F.files F.load_faults F.store_faults S.left S.faults K.taken K.faults in
         IsAnswer (map (λ word. string_bytes word) words.now.items) (outside shelf.old trace.old out.old) (outside shelf.new trace.new out.new) (E.taken err.old) (E.taken err.new) (E.faults err.old) (E.faults err.new) last.new result }
     ensures good { let outside = outside_by F.files F.load_faults F.store_faults S.left S.faults K.taken K.faults in
-        WasGood (outside shelf.old trace.old out.old) (outside shelf.new trace.new out.new) last.new result }
+        WasGood (map (λ word. string_bytes word) words.now.items) (outside shelf.old trace.old out.old) (outside shelf.new trace.new out.new) last.new result }
 {
     match do_words(alloc, words, shelf, trace, out) {
         Ok(

@@ -8,20 +8,16 @@
 use cap_io::{DirShelf, StdSink, StdSource};
 use capriccio_call::{capriccio, words_of};
 use command_outcomes::{Fault, tell};
-use std::io::BufReader;
 use std::process::ExitCode;
 
 fn main(rt: HostRuntime) -> ExitCode {
     let mut shelf = DirShelf::new(&rt);
     let mut out = StdSink::new(rt.stdout());
     let mut err = StdSink::new(rt.stderr());
-    let (Ok(words), Ok(input)) = (
-        words_of(&rt, rt.alloc()),
-        BufReader::new(rt.alloc(), rt.stdin()),
-    ) else {
+    let Ok(words) = words_of(&rt, rt.alloc()) else {
         return ExitCode::from(tell(&mut err, Fault::Memory.line(), Fault::Memory.status()));
     };
-    let mut trace = StdSource::new(input);
+    let mut trace = StdSource::new(rt.stdin());
     let mut last = None;
     let status = capriccio(
         rt.alloc(),

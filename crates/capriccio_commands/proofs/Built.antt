@@ -1,5 +1,5 @@
 -- What a build answers, from what it was laid out to.
-use Rattle.std.proofs.Common.{◌≡◌, ◌⊎◌, ℕ, List, [], ◌∷◌, Some, None, refl, ap, ◌∙◌, inr, ⊎_elim}
+use Rattle.std.proofs.Common.{◌≡◌, ◌⊎◌, ℕ, false, List, [], ◌∷◌, Some, None, refl, ap, ◌∙◌, inr, ⊎_elim}
 use Rattle.c_tree.specs.Trees.{ProgramTree}
 use Rattle.c_tree.specs.WellScoped.{IsWellScoped}
 use Rattle.c_lower.specs.ProgramCode.{lowered}
@@ -30,9 +30,9 @@ code-of code options words h = ⊎_elim (λ e. cc) (λ x. ⊎_elim (λ e. absurd
 
 same-products : (n m : List ℕ) (i : Image) (c : Certificate) (products : Products) → IsProductsOf i c products → stored_products n m products ≡ built n m i c
 same-products n m i c products is =
-    let line = ap (λ (x : List ℕ). let o : Outcome = record { status = 0; out = x; line = []; stores = (n, products.image.items) ∷ (m, products.certificate.items) ∷ []; last = None } in o) is.line in
-    let image_bytes = ap (λ (x : List ℕ). let o : Outcome = record { status = 0; out = (built n m i c).out; line = []; stores = (n, x) ∷ (m, products.certificate.items) ∷ []; last = None } in o) is.image_bytes in
-    let certificate_bytes = ap (λ (x : List ℕ). let o : Outcome = record { status = 0; out = (built n m i c).out; line = []; stores = (n, image.spelling i) ∷ (m, x) ∷ []; last = None } in o) is.certificate_bytes in
+    let line = ap (λ (x : List ℕ). let o : Outcome = record { status = 0; out = x; line = []; stores = (n, products.image.items) ∷ (m, products.certificate.items) ∷ []; last = None; reads_trace = false } in o) is.line in
+    let image_bytes = ap (λ (x : List ℕ). let o : Outcome = record { status = 0; out = (built n m i c).out; line = []; stores = (n, x) ∷ (m, products.certificate.items) ∷ []; last = None; reads_trace = false } in o) is.image_bytes in
+    let certificate_bytes = ap (λ (x : List ℕ). let o : Outcome = record { status = 0; out = (built n m i c).out; line = []; stores = (n, image.spelling i) ∷ (m, x) ∷ []; last = None; reads_trace = false } in o) is.certificate_bytes in
     line ∙ (image_bytes ∙ certificate_bytes)
 
 pub pair-built : (p : ProgramTree) (options : Options) (n m : List ℕ) (i : Image) (c : Certificate) (products : Products) → IsWellScoped p → IsWellFormed (lowered p) → frame_refusal (lowered p) options.max_path ≡ None → IsValid (lowered p) i c → IsLaidOut (lowered p) options i c → IsProductsOf i c products →

@@ -9,3 +9,6 @@ pub mod LoweredGraph
 pub mod OneBuild
 pub mod Making
 pub mod Options
+pub mod Counting
+pub mod Shown
+pub mod Workloads

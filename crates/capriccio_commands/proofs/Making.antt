@@ -1,10 +1,11 @@
 -- What is known of a world that was just made, and of the world of a run at its end.
-use Rattle.std.proofs.Common.{◌≡◌, ℕ, zero, suc, ◌+◌, ◌*◌, ◌/◌, ◌≤◌, ◌∷◌, ◌++◌, Bool, true, false, List, [], Option, Some, None, refl, sym, ap, subst, ◌∙◌, add-one}
-use Rattle.std.specs.Prelude.{IsTrue, if◌then◌else◌, drop, replicate}
+use Rattle.std.proofs.Common.{◌≡◌, ℕ, zero, suc, ◌+◌, ◌*◌, ◌≤◌, ◌∷◌, ◌++◌, List, [], Option, Some, None, refl, sym, ap, subst, ◌∙◌, add-one}
+use Rattle.std.specs.Prelude.{replicate}
 use Rattle.c_lower.specs.ProgramCode.{lowered}
 use Rattle.certificate_check.specs.Accepting.{accepted_tree}
 use Rattle.certificate_check.specs.Acceptance.{Acceptance}
 use Rattle.certificate_rules.specs.Validity.{IsValid}
+use Rattle.choice_rules.specs.Policy.{Rule}
 use Rattle.chunk_pool.specs.Pool.{Taken, taken_for}
 use Rattle.command_words.specs.declared.options.Policy.{Policy as RunOptions}
 use Rattle.machine_world.specs.Areas.{Areas}
@@ -13,14 +14,13 @@ use Rattle.machine_world.specs.Threads.{World, with_thread}
 use Rattle.machine_world.specs.WellFormed.{AreWords}
 use Rattle.resource_monitor.specs.Monitor.{MonitorState}
 use Rattle.resource_monitor.specs.declared.curves.Curve.{Curve}
-use Rattle.resource_monitor.specs.declared.curves.Curve.TheVariants.{Linear}
-use Rattle.runner.specs.Answers.{IsAtStart, KeepsRun}
+use Rattle.runner.specs.Answers.{IsAtStartBy, KeepsRun}
 use Rattle.stack_certificate.specs.Certificates.{fact_at}
 use Rattle.thread_core.specs.Making.{IsPolicy, IsStart, start_areas}
 use Rattle.thread_core.specs.Worlds.{Held}
 use Rattle.command_outcomes.specs.Done.{IsWorldOf}
-use Rattle.capriccio_commands.specs.Runs.{IsAccepted}
-use Rattle.capriccio_commands.specs.RunSteps.{IsMade, IsRunPolicy, setup_in, world_policy_of}
+use Rattle.capriccio_commands.specs.Runs.{IsAccepted, rule_of}
+use Rattle.capriccio_commands.specs.RunSteps.{IsMade, IsNewMonitor, IsRunPolicy, setup_in, world_policy_of}
 use Rattle.chunk_pool.proofs.NeedLaws.{taken_for-count}
 
 started : (areas : Areas) (entry : ℕ) (found : Option Taken) (w : World) → ((taken : Taken) → found ≡ Some taken → taken.pool.count ≡ areas.pool.count) → started_on (empty_world areas) entry found ≡ Some w →
@@ -58,9 +58,9 @@ made-world options accepted held h fits valid start =
     record { ranges = subst P is (policy-ranges options accepted h fits); made = subst Q is start; valid = subst R is valid }
 
 -- one more gauge
-pub one-more : (n : ℕ) → replicate (n + 1) Linear ≡ replicate n Linear ++ (Linear ∷ [])
-one-more zero = refl
-one-more (suc n) = rw add-one (ap (λ (curves : List Curve). Linear ∷ curves) (let e = one-more n in rw add-one at e))
+pub one-more : (curve : Curve) (n : ℕ) → replicate (n + 1) curve ≡ replicate n curve ++ (curve ∷ [])
+one-more curve zero = refl
+one-more curve (suc n) = rw add-one (ap (λ (curves : List Curve). curve ∷ curves) (let e = one-more curve n in rw add-one at e))
 
 module _ (options : RunOptions) (held : Held) (made : IsMade options held) where
   kept : (held.machine.areas.globals ≡ held.accepted.image.globals) × (held.machine.areas.pool.count ≡ options.chunks)
@@ -74,18 +74,17 @@ module _ (options : RunOptions) (held : Held) (made : IsMade options held) where
     valid = made.valid;
   }
 
-  -- a run of it starts
-  pub at-start : (monitor : MonitorState) → monitor.curves ≡ replicate 8 Linear → monitor.caps ≡ options.chunks ∷ drop 1 options.caps → monitor.high ≡ options.high → monitor.low ≡ options.low → IsTrue monitor.is_open →
-      IsAtStart (setup_in held options) held monitor
-  at-start monitor curves caps high low open' = record {
+  -- a run of it starts, by the rule of its options
+  pub at-start : (choosing : Rule) (monitor : MonitorState) → rule_of options.rule ≡ choosing → IsNewMonitor options monitor → IsAtStartBy choosing (setup_in held options) held monitor
+  at-start choosing monitor rule is = record {
     program = refl;
     image = refl;
     certificate = refl;
-    rule = refl;
+    rule = rule;
     ranges = made.ranges;
     made = made.made;
-    monitor_is = record { curves = curves; caps = caps; high = high; low = low };
-    gate = open';
+    monitor_is = record { curves = is.curves; caps = is.caps; high = is.high; low = is.low };
+    gate = is.gate;
   }
 
   -- the world at the end of a run is that of the pair and the options

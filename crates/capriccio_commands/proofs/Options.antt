@@ -1,14 +1,18 @@
 -- What the options of a word list are, by its command.
-use Rattle.std.proofs.Common.{ℕ, zero, suc, ◌*◌, ◌≤◌, List, [], ◌∷◌, map, replicate, slice_index, Option, Some, None, sym, subst, arith, mul_comm}
-use Rattle.std.specs.Prelude.{◌==◌}
+use Rattle.std.proofs.Common.{ℕ, zero, suc, ◌≡◌, ◌-◌, ◌*◌, ◌≤◌, List, [], ◌∷◌, ◌++◌, map, length, take, replicate, slice_index, Option, Some, None, refl, sym, ap, subst, arith, mul_comm}
+use Rattle.std.specs.Prelude.{◌==◌, codes}
 use Rattle.call_graph.proofs.ListLemmas.{by_test}
 use Rattle.codegen_link.specs.Plans.{AreInRange}
-use Rattle.command_words.specs.Values.{IsPlacement, IsPolicy, AreCaps, AreCapsAbove, cap_of}
+use Rattle.command_words.specs.Values.{IsPlacement, IsPolicy, AreCaps, AreCapsAbove, cap_of, AreTickets, AreTicketsFrom, IsRule}
 use Rattle.command_words.specs.WordList.{IsWordList, Serve, Run, Build}
 use Rattle.command_words.specs.declared.options.Placement.{Placement}
 use Rattle.command_words.specs.declared.options.Policy.{Policy}
+use Rattle.command_words.specs.declared.options.Rule.{Rule}
+use Rattle.command_words.specs.declared.options.Rule.TheVariants.{Graph, Stride}
+use Rattle.command_words.specs.declared.options.Tickets.{Tickets}
+use Rattle.stride_rule.specs.Tickets as strides
 use Rattle.capriccio_commands.specs.Due.{sizes_of}
-use Rattle.capriccio_commands.specs.RunSteps.{IsRunPolicy}
+use Rattle.capriccio_commands.specs.RunSteps.{IsRunPolicy, IsRuleInRange}
 
 in-range : (given : List ℕ → Option (List ℕ)) (placement : Placement) → IsPlacement given placement → AreInRange (sizes_of placement)
 in-range given placement h =
@@ -31,7 +35,7 @@ caps-most pairs h [] (suc r) = omega arith
 caps-most pairs h (x ∷ resources) zero = cap-most 0 pairs x h
 caps-most pairs h (x ∷ resources) (suc r) = caps-most pairs h resources r
 
-none-most : (n r : ℕ) → slice_index (replicate n 0) r ≤ 1000000
+pub none-most : (n r : ℕ) → slice_index (replicate n 0) r ≤ 1000000
 none-most zero zero = omega arith
 none-most zero (suc r) = omega arith
 none-most (suc n) zero = omega arith
@@ -40,6 +44,25 @@ none-most (suc n) (suc r) = none-most n r
 caps-in-range : (given : Option (List ℕ)) (caps : List ℕ) → AreCaps given caps → (r : ℕ) → slice_index caps r ≤ 1000000
 caps-in-range None caps h r = subst (λ (xs : List ℕ). slice_index xs r ≤ 1000000) (sym h) (none-most 8 r)
 caps-in-range (Some text) caps h r = let is = h.1 in subst (λ (xs : List ℕ). slice_index xs r ≤ 1000000) (sym h.2) (caps-most h.0 is.in_range (0 ∷ 1 ∷ 2 ∷ 3 ∷ 4 ∷ 5 ∷ 6 ∷ 7 ∷ []) r)
+
+-- the tickets that are handed out are those of the text
+taken-pairs : (pairs : List (ℕ × ℕ)) (n : ℕ) → take (length pairs) (pairs ++ replicate n (0, 0)) ≡ pairs
+taken-pairs [] n = refl
+taken-pairs (pair ∷ pairs) n = ap (λ (ps : List (ℕ × ℕ)). pair ∷ ps) (taken-pairs pairs n)
+
+rising-tickets : (least : ℕ) (pairs : List (ℕ × ℕ)) → AreTicketsFrom least pairs → strides.AreTicketsFrom least pairs
+rising-tickets least [] h = tt
+rising-tickets least ((thread, tickets) ∷ rest) h = (h.0, h.2, h.3, rising-tickets (suc thread) rest h.4)
+
+tickets-in-range : (given : Option (List ℕ)) (tickets : Tickets) → AreTickets given tickets → IsRuleInRange (Stride tickets)
+tickets-in-range None tickets h = subst (λ (t : Tickets). IsRuleInRange (Stride t)) (sym h) (omega arith, tt)
+tickets-in-range (Some text) tickets h =
+    subst (λ (t : Tickets). IsRuleInRange (Stride t)) (sym h.2)
+    (h.1.few, subst (λ (ps : List (ℕ × ℕ)). strides.AreTickets ps) (sym (taken-pairs h.0 (64 - length h.0))) (rising-tickets 0 h.0 h.1.in_range))
+
+rule-in-range : (given tickets_given : Option (List ℕ)) (rule : Rule) → IsRule given tickets_given rule → IsRuleInRange rule
+rule-in-range given tickets_given Graph h = tt
+rule-in-range given tickets_given (Stride tickets) h = tickets-in-range tickets_given tickets h.1
 
 run-policy-of : (given : List ℕ → Option (List ℕ)) (policy : Policy) → IsPolicy given policy → IsRunPolicy policy
 run-policy-of given policy h =
@@ -57,6 +80,8 @@ run-policy-of given policy h =
       caps = λ r some lt. caps-in-range _ policy.caps h.caps r;
       high = high.not_more;
       low = (let some = high.not_less in let most = low.not_more in omega arith);
+      rule = rule-in-range (given (codes "--rule")) (given (codes "--tickets")) policy.rule h.rule;
+      knee = h.knee.not_more;
     }
 
 -- a list for `build`

@@ -83,7 +83,7 @@ closed g before after held end.ReadFault r ok files loads stores of h is =
     let cut-short : IsCutInOut outcome before after = record { files = kept-are-stored before.files after.files files; trace = tt; out = (short.count, short.part, short.writes) } in
     let counted : TraceCounted before after = record { loads = loads; stores = stores; reads = record { rose = risen.rose; never_falls = risen.never_falls }; writes = h.2 } in
     let ends : EndsAs (RunsOn before.left g) before after (Err (Failed Read)) =
-    inr (outcome, record { setup = g; end = short.end }, refl, short-due g before.left before.taken after.taken held ok short, cut-short, counted) in
+    inr (outcome, refl, short-due g before.left before.taken after.taken held ok short, cut-short, counted) in
     subst (λ (a : Result Ended Stop). EndsAs (RunsOn before.left g) before after a) (sym is) ends
 closed g before after held end.WriteFault r ok files loads stores of h is =
     let short = h.0 in let risen = h.2 in

@@ -1,5 +1,5 @@
 -- What the command `build` does.
-use Rattle.std.specs.Prelude.{ℕ, ◌≡◌, ◌⊎◌, List, [], ◌∷◌, ◌++◌, length, codes, Option, None}
+use Rattle.std.specs.Prelude.{ℕ, ◌≡◌, ◌⊎◌, false, List, [], ◌∷◌, ◌++◌, length, codes, Option, None}
 use Rattle.cap_io.specs.Files.{Files}
 use Rattle.cap_text.specs.Decimals.{canonical_decimal}
 use Rattle.c_tree.specs.Trees.{ProgramTree}
@@ -28,7 +28,7 @@ built_line i =
 -- the image, then the certificate, are stored under these names
 abbrev pub built : (image_name certificate_name : List ℕ) → Image → Certificate → Outcome
 built image_name certificate_name i c =
-    record { status = 0; out = built_line i; line = []; stores = (image_name, image.spelling i) ∷ (certificate_name, certificate.spelling c) ∷ []; last = None }
+    record { status = 0; out = built_line i; line = []; stores = (image_name, image.spelling i) ∷ (certificate_name, certificate.spelling c) ∷ []; last = None; reads_trace = false }
 
 -- what is written of an image and a certificate
 pub record IsProductsOf (i : Image) (c : Certificate) (products : Products) : Type 0 where
@@ -38,7 +38,7 @@ pub record IsProductsOf (i : Image) (c : Certificate) (products : Products) : Ty
 
 abbrev pub stored_products : (image_name certificate_name : List ℕ) → Products → Outcome
 stored_products image_name certificate_name products =
-    record { status = 0; out = products.line.items; line = []; stores = (image_name, products.image.items) ∷ (certificate_name, products.certificate.items) ∷ []; last = None }
+    record { status = 0; out = products.line.items; line = []; stores = (image_name, products.image.items) ∷ (certificate_name, products.certificate.items) ∷ []; last = None; reads_trace = false }
 
 -- no placement's code is too large
 abbrev pub HasFittingCode : ProgramTree → Options → Type 0

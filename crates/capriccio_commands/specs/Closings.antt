@@ -1,5 +1,5 @@
 -- Why a run doesn't begin, and how a command ends by the end of its run.
-use Rattle.std.specs.Prelude.{◌≡◌, Option, Some, Result, Ok, Err}
+use Rattle.std.specs.Prelude.{◌≡◌, Some, Result, Ok, Err}
 use Rattle.certificate_check.specs.declared.checking.CheckError.{CheckError}
 use Rattle.certificate_check.specs.declared.checking.CheckError.TheVariants as checking
 use Rattle.runner.specs.declared.ends.RunEnd.{RunEnd}

@@ -1,9 +1,8 @@
 -- What is due for the words, the files and the trace: the command as a whole.
-use Rattle.std.specs.Prelude.{ℕ, ◌≡◌, ◌⊎◌, List, [], ◌∷◌, codes}
+use Rattle.std.specs.Prelude.{ℕ, ◌≡◌, ◌⊎◌, List}
 use Rattle.codegen_link.specs.declared.options.Options.{Options}
 use Rattle.command_words.specs.WordList.{IsWordList, Request, Serve, Run, Build, Check, Graph, Demo}
 use Rattle.command_words.specs.declared.options.Placement.{Placement}
-use Rattle.command_outcomes.specs.declared.stops.Cause.{Cause}
 use Rattle.command_outcomes.specs.declared.stops.Cause.TheVariants as cause
 use Rattle.command_outcomes.specs.Outcome.{Outcome}
 use Rattle.command_outcomes.specs.CauseLines.{refusal}
@@ -12,31 +11,23 @@ use Rattle.capriccio_commands.specs.Checks.{Checks}
 use Rattle.capriccio_commands.specs.BuildsFiles.{Builds}
 use Rattle.command_outcomes.specs.Done.{Outside}
 use Rattle.capriccio_commands.specs.Runs.{Serves, Runs}
+use Rattle.capriccio_commands.specs.Demos.{Demos}
 
 -- the sizes that the words give, for the generator
 abbrev pub sizes_of : Placement → Options
 sizes_of placement = record { chunk = placement.chunk; max_path = placement.max_path }
 
--- what a request does; `demo` is not built yet
+-- what a request does
 abbrev pub Does : Request → Outside → Outcome → Type 0
 Does (Serve source placement policy) before = Serves before.files before.left source (sizes_of placement) policy
 Does (Run source image certificate policy) before = Runs before.files before.left source image certificate policy
 Does (Build source image certificate placement) before = Builds before.files source image certificate (sizes_of placement)
 Does (Check source image certificate) before = Checks before.files source image certificate
 Does (Graph source placement) before = Graphs before.files source placement.max_path
-Does (Demo number) before = λ outcome. outcome ≡ refusal cause.NotBuilt
-
--- the words begin with `demo`
-abbrev pub BeginWithDemo : List (List ℕ) → Type 0
-BeginWithDemo [] = ⊥
-BeginWithDemo (first ∷ rest) = first ≡ codes "demo"
-
--- why words that are no word list are refused: of `demo` nothing is built yet
-abbrev pub IsUnlisted : List (List ℕ) → Cause → Type 0
-IsUnlisted words why = (BeginWithDemo words × (why ≡ cause.NotBuilt)) ⊎ (¬ BeginWithDemo words × (why ≡ cause.Usage))
+Does (Demo number) before = Demos number
 
 -- what the words do: what they ask for, or a refusal where they are no word list
 abbrev pub IsDue : List (List ℕ) → Outside → Outcome → Type 0
 IsDue words before outcome =
     ((request : Request) × IsWordList words request × Does request before outcome)
-    ⊎ (((request : Request) → ¬ IsWordList words request) × (why : Cause) × IsUnlisted words why × (outcome ≡ refusal why))
+    ⊎ (((request : Request) → ¬ IsWordList words request) × (outcome ≡ refusal cause.Usage))

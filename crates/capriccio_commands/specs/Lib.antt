@@ -5,3 +5,5 @@ pub mod Due
 pub mod Runs
 pub mod RunSteps
 pub mod Closings
+pub mod Summary
+pub mod Demos

@@ -1,16 +1,27 @@
 -- What the steps of a run are given, and what they hand on.
-use Rattle.std.specs.Prelude.{ℕ, ◌<◌, ◌≤◌, List, slice_index, Option}
+use Rattle.std.specs.Prelude.{ℕ, ⊤, ◌≡◌, ◌<◌, ◌≤◌, IsTrue, List, ◌∷◌, drop, replicate, slice_index, Option}
 use Rattle.c_lower.specs.ProgramCode.{lowered}
 use Rattle.certificate_rules.specs.Validity.{IsValid}
+use Rattle.command_words.specs.Values.{pairs_of}
 use Rattle.command_words.specs.declared.options.Policy.{Policy as RunOptions}
+use Rattle.command_words.specs.declared.options.Rule.{Rule as RuleOption}
+use Rattle.command_words.specs.declared.options.Rule.TheVariants as option
 use Rattle.lawful_log.specs.Setup.{Setup}
 use Rattle.certificate_check.specs.Accepting.{accepted_tree}
 use Rattle.certificate_check.specs.Acceptance.{Acceptance}
+use Rattle.resource_monitor.specs.Monitor.{MonitorState}
+use Rattle.resource_monitor.specs.declared.curves.Curve.TheVariants.{Knee}
+use Rattle.stride_rule.specs.Tickets.{AreTickets}
 use Rattle.thread_core.specs.Making.{IsPolicy, IsStart}
 use Rattle.thread_core.specs.Worlds.{Held}
 use Rattle.thread_core.specs.declared.policy.WorldPolicy.{WorldPolicy}
 use Rattle.command_outcomes.specs.Outcome.{Outcome}
 use Rattle.capriccio_commands.specs.Runs.{RunsOn, setup_of}
+
+-- the tickets of a rule by strides are in their ranges
+abbrev pub IsRuleInRange : RuleOption → Type 0
+IsRuleInRange option.Graph = ⊤
+IsRuleInRange (option.Stride tickets) = (tickets.count ≤ 64) × AreTickets (pairs_of tickets)
 
 -- the options of a run are in their ranges
 pub record IsRunPolicy (options : RunOptions) : Type 0 where
@@ -22,6 +33,16 @@ pub record IsRunPolicy (options : RunOptions) : Type 0 where
   pub caps : (r : ℕ) → 0 < r → r < 8 → slice_index options.caps r ≤ 1000000
   pub high : options.high ≤ 1000
   pub low : options.low < options.high
+  pub rule : IsRuleInRange options.rule
+  pub knee : options.knee ≤ 999
+
+-- a monitor of these options, whose gate is open
+pub record IsNewMonitor (options : RunOptions) (monitor : MonitorState) : Type 0 where
+  pub curves : monitor.curves ≡ replicate 8 (Knee options.knee)
+  pub caps : monitor.caps ≡ options.chunks ∷ drop 1 options.caps
+  pub high : monitor.high ≡ options.high
+  pub low : monitor.low ≡ options.low
+  pub gate : IsTrue monitor.is_open
 
 -- what the run of an accepted pair does under these options is due
 abbrev pub LeadsOn : Option (List ℕ) → RunOptions → Acceptance → (Outcome → Type 0) → Type 0

@@ -1,5 +1,5 @@
 -- What the commands `serve` and `run` do: the run of a checked pair on the trace.
-use Rattle.std.specs.Prelude.{ℕ, ◌≡◌, ◌*◌, ◌<◌, ◌≤◌, ◌⊎◌, List, [], replicate, Option, IfSome, Some}
+use Rattle.std.specs.Prelude.{ℕ, ◌≡◌, ◌*◌, ◌<◌, ◌≤◌, ◌⊎◌, true, List, [], replicate, Option, IfSome, Some}
 use Rattle.c_tree.specs.Trees.{ProgramTree}
 use Rattle.c_tree.specs.WellScoped.{IsWellScoped}
 use Rattle.c_lower.specs.ProgramCode.{lowered}
@@ -7,14 +7,17 @@ use Rattle.cap_io.specs.Files.{Files}
 use Rattle.cap_word.specs.declared.stops.Stop.TheVariants as cut
 use Rattle.certificate_rules.specs.Validity.{IsValid, IsFirstFailure}
 use Rattle.codegen_link.specs.declared.options.Options.{Options}
+use Rattle.command_words.specs.Values.{pairs_of}
 use Rattle.command_words.specs.declared.options.Policy.{Policy as RunOptions}
-use Rattle.choice_rules.specs.Policy.{by_graph, Policy}
+use Rattle.command_words.specs.declared.options.Rule.{Rule as RuleOption}
+use Rattle.command_words.specs.declared.options.Rule.TheVariants as option
+use Rattle.choice_rules.specs.Policy.{Rule, by_graph, by_stride, Policy}
 use Rattle.lawful_log.specs.Good.{IsGoodLog}
 use Rattle.lawful_log.specs.Lawful.{IsLawfulLog}
 use Rattle.lawful_log.specs.Setup.{Setup}
 use Rattle.machine_world.specs.Threads.{World}
 use Rattle.machine_world.specs.WellFormed.{AreWords}
-use Rattle.resource_monitor.specs.declared.curves.Curve.TheVariants.{Linear}
+use Rattle.resource_monitor.specs.declared.curves.Curve.TheVariants.{Knee}
 use Rattle.schedule_log.specs.EntryText.{log_text}
 use Rattle.schedule_log.specs.declared.entries.Entry.{Entry}
 use Rattle.schedule_log.specs.declared.entries.StopLine.{StopLine}
@@ -41,18 +44,22 @@ stop_status (StopLine.Cut thread cut.NoChunk cost free) = 12
 stop_status (StopLine.Cut thread cut.Fuel cost free) = 13
 stop_status (StopLine.Cut thread cut.Threads cost free) = 14
 
--- the policy of a run, by the options of its words: the pressure of each resource is linear in its use, and threads are
--- chosen by the graph
+-- the rule of choices of a run, by the options of its words
+abbrev pub rule_of : RuleOption → Rule
+rule_of option.Graph = by_graph
+rule_of (option.Stride tickets) = by_stride (pairs_of tickets)
+
+-- the policy of a run, by the options of its words: the pressures of all resources have one knee, which is 0 where none is given
 abbrev pub policy_of : RunOptions → Policy
 policy_of options = record {
   chunks = options.chunks;
   fuel = options.fuel;
   backlog = options.backlog;
   caps = options.caps;
-  curves = replicate 8 Linear;
+  curves = replicate 8 (Knee options.knee);
   high = options.high;
   low = options.low;
-  rule = by_graph;
+  rule = rule_of options.rule;
 }
 
 abbrev pub setup_of : ProgramTree → Image → Certificate → RunOptions → Setup
@@ -72,6 +79,7 @@ run_outcome setup entries stop end = record {
   line = [];
   stores = [];
   last = Some (record { setup = setup; end = end });
+  reads_trace = true;
 }
 
 -- the checker accepts: the program is well scoped, the globals start with words, and every rule holds of the pair

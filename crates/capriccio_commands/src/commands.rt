@@ -6,7 +6,9 @@ ghost use Rattle.codegen_link.specs.Plans.{AreInRange};
 ghost use Rattle.capriccio_commands.specs.BuildsFiles.{Builds};
 ghost use Rattle.capriccio_commands.specs.Checks.{Checks};
 ghost use Rattle.command_outcomes.specs.Done.{Outside, outside_by};
-ghost use Rattle.capriccio_commands.specs.Due.{Does, IsDue, IsUnlisted, sizes_of};
+ghost use Rattle.capriccio_commands.specs.Due.{Does, IsDue, sizes_of};
+ghost use Rattle.capriccio_commands.specs.Demos.{Demos};
+ghost use Rattle.cap_io.specs.Files.{Files};
 ghost use Rattle.capriccio_commands.specs.Graphs.{Graphs};
 ghost use Rattle.capriccio_commands.specs.Runs.{Serves, Runs};
 ghost use Rattle.capriccio_commands.specs.RunSteps.{IsRunPolicy};
@@ -14,6 +16,7 @@ ghost use Rattle.command_outcomes.specs.Steps.{EndsAs};
 
 use crate::build_command::build_source;
 use crate::check_command::check_files;
+use crate::demo_command::{Shown, show_workload};
 use crate::graph_command::graph_source;
 use crate::run_command::{accept_files, accept_source};
 use crate::running::run_accepted;
@@ -38,21 +41,8 @@ pub fn do_words<F: Shelf, S: Source, K: Sink>(
 {
     match read_words(alloc, words) {
         Ok(command) => do_command(alloc, shelf, trace, out, command),
-        Err(WordsError::NotWords) => Err(Stop::Refused(unlisted(words.as_slice()))),
+        Err(WordsError::NotWords) => Err(Stop::Refused(Cause::Usage)),
         Err(WordsError::Memory) => Err(Stop::Failed(Fault::Memory)),
-    }
-}
-
-/// Why words that are no word list are refused.
-fn unlisted(words: &[String]) -> Cause
-    ensures { IsUnlisted (map (λ word. string_bytes word) words.now) result }
-{
-    match words {
-        [first, ..] => match first.as_str() {
-            "demo" => Cause::NotBuilt,
-            _ => Cause::Usage,
-        },
-        [] => Cause::Usage,
     }
 }
 
@@ -112,7 +102,7 @@ fn do_command<F: Shelf, S: Source, K: Sink>(
             certificate,
             options_of(placement),
         ),
-        Command::Demo { .. } => Err(Stop::Refused(Cause::NotBuilt)),
+        Command::Demo { number } => demo(alloc, out, number),
     }
 }
 
@@ -232,5 +222,31 @@ fn check<F: Shelf, K: Sink>(
     match verdict.line(alloc) {
         Ok(line) => print(out, line.as_slice(), verdict.status()),
         Err(_) => Err(Stop::Failed(Fault::Memory)),
+    }
+}
+
+/// The command `demo`.
+fn demo<K: Sink>(alloc: Global, out: &mut K, number: u32) -> Result<Ended, Stop>
+    requires some { 1 ≤ number }
+    requires few { number ≤ 1000 }
+    ensures { (files : Option Files) (loads stores : ℕ) (left : Option (List ℕ)) (reads : ℕ) →
+        let before : Outside = record { files = files; loads = loads; stores = stores; left = left; reads = reads; taken = K.taken out.old; writes = K.faults out.old } in
+        let after : Outside = record { files = files; loads = loads; stores = stores; left = left; reads = reads; taken = K.taken out.new; writes = K.faults out.new } in
+        EndsAs (Demos number) before after result }
+{
+    let Shown {
+        status,
+        text,
+        world,
+    } = show_workload(alloc, number)?;
+    match print(out, text.as_slice(), status) {
+        Ok(told) => Ok(Ended {
+            status: told.status,
+            last: Some(world),
+        }),
+        Err(stop) => {
+            drop(world);
+            Err(stop)
+        }
     }
 }

@@ -9,10 +9,14 @@
 mod build_command;
 mod check_command;
 mod commands;
+mod demo_command;
 mod frames;
 mod graph_command;
 mod layouts;
+mod pressures;
 mod run_command;
 mod running;
+mod strides;
+mod summaries;
 
 pub use commands::do_words;

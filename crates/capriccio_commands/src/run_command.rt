@@ -57,7 +57,11 @@ fn accept_source_bytes(alloc: Global, source: &[u8], sizes: Options) -> Result<A
 }
 
 /// A program, built and accepted.
-fn accept_program(alloc: Global, program: Program, sizes: Options) -> Result<Accepted, Stop>
+pub(crate) fn accept_program(
+    alloc: Global,
+    program: Program,
+    sizes: Options,
+) -> Result<Accepted, Stop>
     requires { AreInRange sizes }
     ensures { (trace : Option (List ℕ)) (policy : RunOptions) → MatchResult result
         (λ accepted. LeadsOn trace policy accepted (ServesProgram trace sizes policy (program_tree program)) × (accepted.certificate.chunk ≡ sizes.chunk))

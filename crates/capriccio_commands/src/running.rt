@@ -1,21 +1,26 @@
 // A run of an accepted program on the trace, under a policy.
-ghost use Rattle.std.specs.Prelude.{◌≡◌, ◌≤◌, ◌*◌, ◌∷◌, Some, IfOk, IsTrue, replicate, drop};
-ghost use Rattle.certificate_check.specs.Accepting.{accepted_tree};
-ghost use Rattle.resource_monitor.specs.Pressure.{AnswersCurve, IsReading, curve_value};
-ghost use Rattle.resource_monitor.specs.declared.curves.Curve.TheVariants.{Linear};
-ghost use Rattle.command_outcomes.specs.declared.stops.Stop.TheVariants.{Failed};
-ghost use Rattle.capriccio_commands.specs.Runs.{RunsOn, setup_of};
-ghost use Rattle.capriccio_commands.specs.RunSteps.{IsRunPolicy, IsMade, setup_in, world_policy_of};
-ghost use Rattle.command_outcomes.specs.Steps.{RunEnds};
+ghost use Rattle.std.specs.Prelude.{◌≡◌, ◌≤◌, ◌*◌, Some, IfOk};
 ghost use Rattle.capriccio_commands.specs.Closings.{IsClosed};
+ghost use Rattle.capriccio_commands.specs.RunSteps.{IsRunPolicy, IsMade, IsNewMonitor, setup_in, world_policy_of};
+ghost use Rattle.capriccio_commands.specs.Runs.{RunsOn, rule_of, setup_of};
+ghost use Rattle.certificate_check.specs.Accepting.{accepted_tree};
+ghost use Rattle.choice_rules.specs.Policy.{by_graph, by_stride};
+ghost use Rattle.command_outcomes.specs.declared.stops.Stop.TheVariants.{Failed};
+ghost use Rattle.command_outcomes.specs.Steps.{RunEnds};
+ghost use Rattle.resource_monitor.specs.Pressure.{AnswersCurve, IsReading, curve_value};
+ghost use Rattle.resource_monitor.specs.declared.curves.Curve.TheVariants.{Knee};
+ghost use Rattle.stride_rule.specs.State.{new_rule};
 
+use crate::pressures::past_knee;
+use crate::strides::stride_rule_of;
 use cap_io::{Sink, Source};
 use certificate_check::Accepted;
 use command_outcomes::{Ended, Fault, Stop};
-use command_words::Policy;
+use command_words::{Policy, Rule};
 use resource_monitor::{Curve, Gauge, Measure, Monitor};
-use runner::{RunEnd, run};
+use runner::{RunEnd, run, run_stride};
 use std::alloc::{AllocError, Global};
+use stride_rule::StrideRule;
 use thread_core::{World, WorldError, WorldPolicy};
 
 /// Runs an accepted program to its stop.
@@ -41,7 +46,7 @@ pub(crate) fn run_accepted<S: Source, K: Sink>(
     }
 }
 
-/// Runs a world that was just made, with the pressures of all resources linear in their uses.
+/// Runs a world that was just made, with the policy's knee in the pressures of all resources.
 fn run_world<S: Source, K: Sink>(
     alloc: Global,
     world: World,
@@ -53,37 +58,96 @@ fn run_world<S: Source, K: Sink>(
     requires made { IsMade policy world }
     ensures { RunEnds (RunsOn (S.left trace.old) (setup_in world policy)) (S.left trace.old) (S.left trace.new) (S.faults trace.old) (S.faults trace.new) (K.taken out.old) (K.taken out.new) (K.faults out.old) (K.faults out.new) result }
 {
-    let linear = |used: u32, cap: u32| -> u32
-        requires { IsReading used cap }
-        ensures { result ≡ curve_value Linear used cap }
-    { 1000 * used / cap };
-    run_measured(alloc, world, policy, trace, out, linear)
+    let knee = policy.knee;
+    let call = move |used: u32, cap: u32| -> u32
+        requires { (knee ≤ 999) × IsReading used cap }
+        ensures { result ≡ curve_value (Knee knee) used cap }
+    { past_knee(knee, used, cap) };
+    run_measured(alloc, world, policy, trace, out, call)
 }
 
 /// Runs a world that was just made, with this way to measure pressures.
 fn run_measured<S: Source, K: Sink, C: Measure + Copy + Drop>(
     alloc: Global,
-    mut world: World,
+    world: World,
     policy: Policy,
     trace: &mut S,
     out: &mut K,
     call: C,
 ) -> Result<Ended, Stop>
-    requires curve { AnswersCurve (C.can_measure call) (C.measure_gives call) Linear }
+    requires curve { AnswersCurve (C.can_measure call) (C.measure_gives call) (Knee policy.knee) }
     requires range { IsRunPolicy policy }
     requires made { IsMade policy world }
     ensures { RunEnds (RunsOn (S.left trace.old) (setup_in world policy)) (S.left trace.old) (S.left trace.new) (S.faults trace.old) (S.faults trace.new) (K.taken out.old) (K.taken out.new) (K.faults out.old) (K.faults out.new) result }
 {
     match monitor_of(alloc, policy, call) {
-        Ok(monitor) => {
-            let end = run(alloc, &mut world, monitor, trace, out);
-            close(world, end)
-        }
-        Err(AllocError) => {
-            drop(world);
-            Err(Stop::Failed(Fault::Memory))
-        }
+        Ok(monitor) => run_by_rule(alloc, world, policy, monitor, trace, out),
+        Err(AllocError) => Err(failed(world, Fault::Memory)),
     }
+}
+
+/// Runs a world that was just made by the rule of its policy, with the policy's monitor.
+fn run_by_rule<S: Source, K: Sink, C: Measure + Drop>(
+    alloc: Global,
+    world: World,
+    policy: Policy,
+    monitor: Monitor<C>,
+    trace: &mut S,
+    out: &mut K,
+) -> Result<Ended, Stop>
+    requires range { IsRunPolicy policy }
+    requires made { IsMade policy world }
+    requires monitor { IsNewMonitor policy monitor }
+    ensures { RunEnds (RunsOn (S.left trace.old) (setup_in world policy)) (S.left trace.old) (S.left trace.new) (S.faults trace.old) (S.faults trace.new) (K.taken out.old) (K.taken out.new) (K.faults out.old) (K.faults out.new) result }
+{
+    match policy.rule {
+        Rule::Graph => run_by_graph(alloc, world, policy, monitor, trace, out),
+        Rule::Stride { tickets } => match stride_rule_of(alloc, &tickets) {
+            Ok(rule) => run_by_strides(alloc, world, policy, rule, monitor, trace, out),
+            Err(AllocError) => {
+                drop(monitor);
+                Err(failed(world, Fault::Memory))
+            }
+        },
+    }
+}
+
+/// Runs a world that was just made by the graph.
+fn run_by_graph<S: Source, K: Sink, C: Measure + Drop>(
+    alloc: Global,
+    mut world: World,
+    policy: Policy,
+    monitor: Monitor<C>,
+    trace: &mut S,
+    out: &mut K,
+) -> Result<Ended, Stop>
+    requires made { IsMade policy world }
+    requires monitor { IsNewMonitor policy monitor }
+    requires rule { rule_of policy.rule ≡ by_graph }
+    ensures { RunEnds (RunsOn (S.left trace.old) (setup_in world policy)) (S.left trace.old) (S.left trace.new) (S.faults trace.old) (S.faults trace.new) (K.taken out.old) (K.taken out.new) (K.faults out.old) (K.faults out.new) result }
+{
+    let end = run(alloc, &mut world, monitor, trace, out);
+    close(world, end)
+}
+
+/// Runs a world that was just made by strides.
+fn run_by_strides<S: Source, K: Sink, C: Measure + Drop>(
+    alloc: Global,
+    mut world: World,
+    policy: Policy,
+    rule: StrideRule,
+    monitor: Monitor<C>,
+    trace: &mut S,
+    out: &mut K,
+) -> Result<Ended, Stop>
+    requires made { IsMade policy world }
+    requires monitor { IsNewMonitor policy monitor }
+    requires rule { rule_of policy.rule ≡ by_stride rule.tickets }
+    requires fresh { rule ≡ new_rule rule.tickets }
+    ensures { RunEnds (RunsOn (S.left trace.old) (setup_in world policy)) (S.left trace.old) (S.left trace.new) (S.faults trace.old) (S.faults trace.new) (K.taken out.old) (K.taken out.new) (K.faults out.old) (K.faults out.new) result }
+{
+    let end = run_stride(alloc, &mut world, rule, monitor, trace, out);
+    close(world, end)
 }
 
 /// What a world is given of a policy.
@@ -104,13 +168,13 @@ fn monitor_of<C: Measure + Copy>(
     policy: Policy,
     call: C,
 ) -> Result<Monitor<C>, AllocError>
-    requires curve { AnswersCurve (C.can_measure call) (C.measure_gives call) Linear }
+    requires curve { AnswersCurve (C.can_measure call) (C.measure_gives call) (Knee policy.knee) }
     requires range { IsRunPolicy policy }
-    ensures { IfOk result (λ monitor. (monitor.curves ≡ replicate 8 Linear) × (monitor.caps ≡ policy.chunks ∷ drop 1 policy.caps) × (monitor.high ≡ policy.high) × (monitor.low ≡ policy.low) × IsTrue monitor.is_open) }
+    ensures { IfOk result (IsNewMonitor policy) }
 {
     let mut gauges = Vec::new(alloc);
     for _ in 0..8usize {
-        gauges.push(Gauge::new(Curve::Linear, call))?;
+        gauges.push(Gauge::new(Curve::Knee { knee: policy.knee }, call))?;
     }
     let mut caps = policy.caps;
     caps[0] = policy.chunks;

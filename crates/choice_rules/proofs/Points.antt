@@ -7,14 +7,17 @@ use Rattle.event_trace.specs.declared.events.Event.{Event}
 use Rattle.schedule_log.specs.declared.entries.Item.{Item}
 use Rattle.scheduler.specs.Scores.{comes_before}
 use Rattle.scheduler.proofs.OrderLemmas.{comes_before-asym}
-use Rattle.choice_rules.specs.Policy.{Rule, by_graph, Policy}
+use Rattle.choice_rules.specs.Policy.{Rule, by_graph, by_stride, Policy}
 use Rattle.choice_rules.specs.Trace.{Trace, IsNext, IsRefused}
 use Rattle.choice_rules.specs.Seen.{Waiter, Seen, last_choice}
 use Rattle.choice_rules.specs.Readiness.{any_ready, waking_times}
 use Rattle.choice_rules.specs.Clock.{is_due, IsLeastOf, IsClockBy, IsChoicePoint}
 use Rattle.choice_rules.specs.Deliveries.{IsDelivery}
-use Rattle.choice_rules.specs.Choice.{is_eligible, queue_at, score_of, IsGraphChoice, IsLawfulBy, IsLawful, IsChoice}
+use Rattle.choice_rules.specs.Choice.{is_eligible, queue_at, score_of, IsGraphChoice, goes_before_at, IsStrideChoice, IsLawfulBy, IsLawful, IsChoice}
 use Rattle.choice_rules.specs.Stops.{IsDone, IsBadTrace, IsIdle}
+use Rattle.choice_rules.specs.Strides.{pass_of}
+use Rattle.choice_rules.proofs.Strides.{all_found, first_passes, one_thread}
+use Rattle.stride_rule.proofs.OrderLemmas.{goes_before-asym}
 
 -- ---- tests
 
@@ -123,8 +126,21 @@ module _ (policy : Policy) (seen : Seen) (clock : ℕ) where
       (λ ne. absurd (none_both (score_of policy seen) (last_choice seen.past.taken) a.node b.node
       (p.least b.node (λ e. ne (sym e)) (some_found _ b q.first)) (q.least a.node ne (some_found _ a p.first))))
 
+  none_both_at : (tickets : List (ℕ × ℕ)) (a b : ℕ) → IsTrue (goes_before_at tickets seen a b) → IsTrue (goes_before_at tickets seen b a) → ⊥
+  none_both_at tickets a b p q =
+      let e : goes_before_at tickets seen b a ≡ false = goes_before-asym (pass_of tickets seen.past.taken a) a (pass_of tickets seen.past.taken b) b p in
+      absurd (false_true _ e q)
+
+  one_stride_choice : (tickets : List (ℕ × ℕ)) (a b : Waiter) → IsStrideChoice tickets policy seen clock a → IsStrideChoice tickets policy seen clock b → a ≡ b
+  one_stride_choice tickets a b p q = by_node a.thread b.thread _
+      (λ e. one_thread (is_eligible policy seen clock) seen.waiting a b e p.first q.first)
+      (λ ne. absurd (none_both_at tickets a.thread b.thread
+      (all_found _ _ seen.waiting b p.least q.first (first_passes (is_eligible policy seen clock) b.thread seen.waiting b q.first) (λ e. ne (sym e)))
+      (all_found _ _ seen.waiting a q.least p.first (first_passes (is_eligible policy seen clock) a.thread seen.waiting a p.first) ne)))
+
   one_by : (rule : Rule) (a b : Waiter) → IsLawfulBy rule policy seen clock a → IsLawfulBy rule policy seen clock b → a ≡ b
   one_by by_graph a b p q = one_graph_choice a b p q
+  one_by (by_stride tickets) a b p q = one_stride_choice tickets a b p q
 
   pub one_choice : (a b : Waiter) → IsLawful policy seen clock a → IsLawful policy seen clock b → a ≡ b
   one_choice a b p q = one_by policy.rule a b p q

@@ -6,10 +6,13 @@ use Rattle.resource_monitor.specs.Gate.{gate}
 use Rattle.resource_monitor.specs.Monitor.{MonitorState}
 use Rattle.scheduler.specs.Scores as scores
 use Rattle.scheduler.specs.Scores.{comes_before}
-use Rattle.choice_rules.specs.Policy.{Rule, by_graph, Policy, all_caps}
+use Rattle.choice_rules.specs.Policy.{Rule, by_graph, by_stride, Policy, all_caps}
 use Rattle.choice_rules.specs.Seen.{Waiter, Past, Seen, uses_of, last_choice}
 use Rattle.choice_rules.specs.Readiness.{is_ready, at_accept, any_elsewhere}
 use Rattle.choice_rules.specs.Clock.{is_due, IsChoicePoint}
+use Rattle.choice_rules.specs.Strides.{pass_of}
+use Rattle.std.specs.List.{AllByRecursion}
+use Rattle.stride_rule.specs.Clients.{goes_before}
 
 -- ---- who is eligible
 
@@ -50,10 +53,24 @@ pub record IsGraphChoice (policy : Policy) (seen : Seen) (clock : ℕ) (chosen :
   pub least : (other : ℕ) → other ≢ chosen.node → IsSome (find (is_eligible policy seen clock) (queue_at seen other)) →
       IsTrue (comes_before (score_of policy seen) (last_choice seen.past.taken) chosen.node other)
 
+-- ---- the choice by strides: by the passes, and the numbers of the threads
+
+-- a thread goes before another: by pass, and by number where the passes are the same
+abbrev pub goes_before_at : List (ℕ × ℕ) → Seen → ℕ → ℕ → Bool
+goes_before_at tickets seen thread other =
+    goes_before (pass_of tickets seen.past.taken thread) thread (pass_of tickets seen.past.taken other) other
+
+-- the first eligible waiter of its thread, which goes before every other eligible thread
+pub record IsStrideChoice (tickets : List (ℕ × ℕ)) (policy : Policy) (seen : Seen) (clock : ℕ) (chosen : Waiter) : Type 0 where
+  pub first : find (λ w. is_eligible policy seen clock w && nat_eq w.thread chosen.thread) seen.waiting ≡ Some chosen
+  pub least : AllByRecursion (λ other. IsTrue (is_eligible policy seen clock other) → other.thread ≢ chosen.thread →
+      IsTrue (goes_before_at tickets seen chosen.thread other.thread)) seen.waiting
+
 -- ---- the choice, by the rule
 
 abbrev pub IsLawfulBy : Rule → Policy → Seen → ℕ → Waiter → Type 0
 IsLawfulBy by_graph policy seen clock chosen = IsGraphChoice policy seen clock chosen
+IsLawfulBy (by_stride tickets) policy seen clock chosen = IsStrideChoice tickets policy seen clock chosen
 
 abbrev pub IsLawful : Policy → Seen → ℕ → Waiter → Type 0
 IsLawful policy seen clock chosen = IsLawfulBy policy.rule policy seen clock chosen

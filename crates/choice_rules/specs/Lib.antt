@@ -4,6 +4,7 @@ pub mod Seen
 pub mod Readiness
 pub mod Clock
 pub mod Deliveries
+pub mod Strides
 pub mod Choice
 pub mod Stops
 pub mod SourceRuns

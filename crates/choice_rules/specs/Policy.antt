@@ -6,6 +6,8 @@ use Rattle.resource_monitor.specs.declared.curves.Curve.{Curve}
 pub data Rule : Type 0 where
   -- by the blocking graph and the pressure on the resources
   by_graph : Rule
+  -- by strides, of the tickets that threads have, by their numbers; every other thread has one
+  by_stride : (tickets : List (ℕ × ℕ)) → Rule
 
 pub record Policy : Type 0 where
   -- the number of chunks, the most instructions, and how many items may wait in a queue

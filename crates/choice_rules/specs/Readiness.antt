@@ -30,6 +30,7 @@ is_accept (Block.Wait channel) = false
 is_accept (Block.Sleep ticks) = false
 is_accept Block.Yield = false
 is_accept (Block.Take resource amount) = false
+is_accept (Block.WaitFor channel ticks) = false
 
 -- it is blocked at `accept`
 abbrev pub is_accepting : Option Rest → Bool
@@ -46,11 +47,11 @@ any_ready policy seen clock = list_any (is_ready policy seen clock) seen.waiting
 abbrev pub any_elsewhere : Policy → Seen → ℕ → Bool
 any_elsewhere policy seen clock = list_any (λ w. is_ready policy seen clock w && not (at_accept seen w)) seen.waiting
 
--- the clock at which a thread wakes, if it sleeps
+-- the clock at which a thread is ready whatever comes, if there is one: where it isn't ready before, it sleeps until then
 abbrev pub wakes : ℕ → Option Rest → Option ℕ
 wakes since (Some (Blocked block waiting)) = wakes_at since block
 wakes since _ = None
 
--- and of all that sleep
+-- and of all threads: where none is ready, these are the times of those that sleep
 abbrev pub waking_times : Seen → List ℕ
 waking_times seen = filter_map (λ w. wakes w.since (rest_of seen w.thread)) seen.waiting

@@ -1,5 +1,5 @@
 -- How a command ends, from what its last step did.
-use Rattle.std.proofs.Common.{◌≡◌, ◌≢◌, ℕ, List, [], ◌∷◌, Option, Some, None, Result, Ok, Err, refl, sym, ap, ◌∙◌, subst, inl, inr, ⊎_elim}
+use Rattle.std.proofs.Common.{◌≡◌, ◌≢◌, ℕ, Bool, false, List, [], ◌∷◌, Option, Some, None, Result, Ok, Err, refl, sym, ap, ◌∙◌, subst, inl, inr, ⊎_elim}
 use Rattle.std.proofs.lemmas.List.{append-nil}
 use Rattle.std.specs.Io.KnownBytes.{Keeps, Appends}
 use Rattle.cap_io.specs.Files.{Files, KeepsFiles, KeepsOthers}
@@ -79,20 +79,20 @@ stopped due before after (Failed Memory) files stores left reads taken writes h 
     (inl (record { files = files; trace = left; out = taken }), record { loads = h; stores = stores; reads = reads; writes = writes })
 
 -- the stores of an outcome are made, and its text is printed
-pub printed-ends : (due : Outcome → Type 0) (before after : Outside) (o : Outcome) (r : Result Ended Stop) → due o → o.line ≡ [] → o.last ≡ None → WhereTold (AreStored o.stores) before.files after.files → Keeps before.left after.left → after.loads ≡ before.loads → after.stores ≡ before.stores → after.reads ≡ before.reads →
+pub printed-ends : (due : Outcome → Type 0) (before after : Outside) (o : Outcome) (r : Result Ended Stop) → due o → o.line ≡ [] → o.last ≡ None → o.reads_trace ≡ false → WhereTold (AreStored o.stores) before.files after.files → Keeps before.left after.left → after.loads ≡ before.loads → after.stores ≡ before.stores → after.reads ≡ before.reads →
     IsPrinted o.status o.out before.taken after.taken before.writes after.writes r → EndsAs due before after r
-printed-ends due before after o (Ok given) is line none files left loads stores reads h =
-    let trace = subst (λ (ran : Option Ran). IsTraceLeft ran before.left after.left) (sym none) left in
+printed-ends due before after o (Ok given) is line none unread files left loads stores reads h =
+    let trace = subst (λ (reads : Bool). IsTraceLeft reads before.left after.left) (sym unread) left in
     let here = subst (λ (ran : Option Ran). IsLast ran None) (sym none) tt in
     let last = subst (λ (held : Option Held). IsLast o.last held) (sym (ap (λ (e : Ended). e.last) h.0)) here in
     (o, (is, record { files = files; trace = trace; out = h.1 }, record { loads = loads; stores = stores; reads = reads; writes = h.2 }), sym (ap (λ (e : Ended). e.status) h.0), line, last)
-printed-ends due before after o (Err (Refused cause)) is line none files left loads stores reads h = absurd h
-printed-ends due before after o (Err (Failed Read)) is line none files left loads stores reads h = absurd h
-printed-ends due before after o (Err (Failed Write)) is line none files left loads stores reads h =
-    let trace = subst (λ (ran : Option Ran). IsTraceLeft ran before.left after.left) (sym none) left in
+printed-ends due before after o (Err (Refused cause)) is line none unread files left loads stores reads h = absurd h
+printed-ends due before after o (Err (Failed Read)) is line none unread files left loads stores reads h = absurd h
+printed-ends due before after o (Err (Failed Write)) is line none unread files left loads stores reads h =
+    let trace = subst (λ (reads : Bool). IsTraceLeft reads before.left after.left) (sym unread) left in
     (o, is, inr (record { files = files; trace = trace; out = h.0 }, record { loads = loads; stores = stores; reads = reads; writes = h.1 }))
-printed-ends due before after o (Err (Failed Memory)) is line none files left loads stores reads h =
-    let trace = subst (λ (ran : Option Ran). IsTraceLeft ran before.left after.left) (sym none) left in
+printed-ends due before after o (Err (Failed Memory)) is line none unread files left loads stores reads h =
+    let trace = subst (λ (reads : Bool). IsTraceLeft reads before.left after.left) (sym unread) left in
     (inr (o, is, inr (record { files = files; trace = trace; out = h.0 })), record { loads = loads; stores = stores; reads = reads; writes = h.1 })
 
 -- a store of an outcome was cut short
@@ -108,11 +108,11 @@ stores-cut due before after o (Failed Memory) is some left taken loads reads wri
 pub printed-now : (due : Outcome → Type 0) (before after : Outside) (status : ℕ) (text : List ℕ) (r : Result Ended Stop) → due (printed status text) → KeepsFiles before.files after.files → Keeps before.left after.left → after.loads ≡ before.loads → after.stores ≡ before.stores → after.reads ≡ before.reads →
     IsPrinted status text before.taken after.taken before.writes after.writes r → EndsAs due before after r
 printed-now due before after status text r is files left loads stores reads h =
-    printed-ends due before after (printed status text) r is refl refl (kept-are-stored before.files after.files files) left loads stores reads h
+    printed-ends due before after (printed status text) r is refl refl refl (kept-are-stored before.files after.files files) left loads stores reads h
 
 -- Nothing is done at all.
 
-files-keep : (files : Option Files) → KeepsFiles files files
+pub files-keep : (files : Option Files) → KeepsFiles files files
 files-keep None = tt
 files-keep (Some f) = λ name. refl
 
@@ -132,7 +132,7 @@ memory-before due left reads taken writes = λ files files' loads loads' stores 
 
 done-follows : (P Q : Outcome → Type 0) (before after : Outside) (given : Result Outcome Fault) → ((o : Outcome) → P o → Q o) → IsDone P before after given → IsDone Q before after given
 done-follows P Q before after (Ok o) step h = (step o h.0, h.1, h.2)
-done-follows P Q before after (Err Read) step h = ⊎_elim (λ x. inl x) (λ x. inr (x.0, x.1, x.2, step x.0 x.3, x.4, x.5)) h
+done-follows P Q before after (Err Read) step h = ⊎_elim (λ x. inl x) (λ x. inr (x.0, x.1, step x.0 x.2, x.3, x.4)) h
 done-follows P Q before after (Err Write) step h = (h.0, step h.0 h.1, h.2)
 done-follows P Q before after (Err Memory) step h = (⊎_elim (λ x. inl x) (λ x. inr (x.0, step x.0 x.1, x.2)) h.0, h.1)
 

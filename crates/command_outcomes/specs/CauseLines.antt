@@ -9,7 +9,7 @@ use Rattle.stack_image.specs.declared.refusals.ImageError.TheVariants as image
 use Rattle.command_outcomes.specs.declared.documents.Document.{Document}
 use Rattle.command_outcomes.specs.declared.documents.Document.TheVariants as document
 use Rattle.command_outcomes.specs.declared.stops.Cause.{Cause}
-use Rattle.command_outcomes.specs.declared.stops.Cause.TheVariants.{Usage, NotBuilt, Absent, TooLong, Source, Image, CertificateLine, Rejected, Frame, Code, Pool}
+use Rattle.command_outcomes.specs.declared.stops.Cause.TheVariants.{Usage, Absent, TooLong, Source, Image, CertificateLine, Rejected, Frame, Code, Pool}
 use Rattle.command_outcomes.specs.Outcome.{Outcome, refused}
 
 abbrev pub document_name : Document → List ℕ
@@ -68,7 +68,6 @@ rejected_words rule function index =
 -- a cause, without its line feed
 abbrev pub cause_words : Cause → List ℕ
 cause_words Usage = codes "usage: capriccio serve SRC, run SRC IMG CRT, build SRC IMG CRT, check SRC IMG CRT, graph SRC, demo N"
-cause_words NotBuilt = codes "usage: not built"
 cause_words (Absent document) = codes "absent: " ++ document_name document
 cause_words (TooLong document) = document_name document ++ codes ": TooLong"
 cause_words (Source error) = codes "source: " ++ source_words error
@@ -81,7 +80,6 @@ cause_words (Code words) = (codes "limit: code is " ++ canonical_decimal words) 
 
 abbrev pub cause_status : Cause → ℕ
 cause_status Usage = 1
-cause_status NotBuilt = 1
 cause_status (Absent document) = 9
 cause_status (TooLong document) = too_long_status document
 cause_status (Source error) = 2

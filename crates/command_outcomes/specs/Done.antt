@@ -1,5 +1,5 @@
 -- What a call leaves outside: of an outcome that is due all, or after a fault or where memory is wanting a part.
-use Rattle.std.specs.Prelude.{ℕ, ◌≡◌, ◌≢◌, ◌≤◌, ◌⊎◌, List, [], ◌∷◌, Option, Some, None, Result, Ok, Err}
+use Rattle.std.specs.Prelude.{ℕ, ◌≡◌, ◌≢◌, ◌≤◌, ◌⊎◌, Bool, true, false, List, [], ◌∷◌, Option, Some, None, Result, Ok, Err}
 use Rattle.std.specs.Io.KnownBytes.{Keeps, Appends}
 use Rattle.cap_io.specs.Faults.{Rose, Stayed}
 use Rattle.cap_io.specs.Files.{Files, KeepsFiles, KeepsOthers}
@@ -108,10 +108,10 @@ pub record NoFault (before after : Outside) : Type 0 where
 
 -- What was done.
 
--- the trace is read by a run alone
-abbrev pub IsTraceLeft : Option Ran → Option (List ℕ) → Option (List ℕ) → Type 0
-IsTraceLeft None left left' = Keeps left left'
-IsTraceLeft (Some ran) left left' = Unit {0}
+-- the trace is left as it is where the outcome doesn't read it
+abbrev pub IsTraceLeft : (reads_trace : Bool) → Option (List ℕ) → Option (List ℕ) → Type 0
+IsTraceLeft false left left' = Keeps left left'
+IsTraceLeft true left left' = Unit {0}
 
 -- nothing: no file has changed, the trace wasn't read, and the output took nothing
 pub record IsNothing (before after : Outside) : Type 0 where
@@ -122,7 +122,7 @@ pub record IsNothing (before after : Outside) : Type 0 where
 -- all of an outcome
 pub record IsWhole (outcome : Outcome) (before after : Outside) : Type 0 where
   pub files : WhereTold (AreStored outcome.stores) before.files after.files
-  pub trace : IsTraceLeft outcome.last before.left after.left
+  pub trace : IsTraceLeft outcome.reads_trace before.left after.left
   pub out : Appends before.taken after.taken outcome.out
 
 -- a store was cut short, before the output took anything
@@ -135,7 +135,7 @@ pub record IsCutInStores (outcome : Outcome) (before after : Outside) : Type 0 w
 -- all is stored, and the output took a prefix
 pub record IsCutInOut (outcome : Outcome) (before after : Outside) : Type 0 where
   pub files : WhereTold (AreStored outcome.stores) before.files after.files
-  pub trace : IsTraceLeft outcome.last before.left after.left
+  pub trace : IsTraceLeft outcome.reads_trace before.left after.left
   pub out : TakesPrefix before.taken after.taken outcome.out
 
 -- what was done where that is due: `Ok` is the whole outcome
@@ -143,7 +143,7 @@ abbrev pub IsDone : (Outcome → Type 0) → (before after : Outside) → Result
 IsDone due before after (Ok outcome) = due outcome × IsWhole outcome before after × NoneCounted before after
 IsDone due before after (Err Read) =
     (IsNothing before after × LoadCounted before after)
-    ⊎ ((outcome : Outcome) × (ran : Ran) × (outcome.last ≡ Some ran) × due outcome × IsCutInOut outcome before after × TraceCounted before after)
+    ⊎ ((outcome : Outcome) × (outcome.reads_trace ≡ true) × due outcome × IsCutInOut outcome before after × TraceCounted before after)
 IsDone due before after (Err Write) =
     (outcome : Outcome) × due outcome
     × ((IsCutInStores outcome before after × StoreCounted before after) ⊎ (IsCutInOut outcome before after × WriteCounted before after))

@@ -32,7 +32,6 @@ fn put_cause(line: &mut Vec<u8>, cause: &Cause) -> Result<(), AllocError>
 {
     match cause {
         Cause::Usage => put_text(line, USAGE),
-        Cause::NotBuilt => put_text(line, b"usage: not built"),
         Cause::Absent(document) => put_absent(line, *document),
         Cause::TooLong(document) => put_too_long(line, *document),
         Cause::Source(error) => put_source(line, error),

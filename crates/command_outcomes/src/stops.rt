@@ -12,8 +12,6 @@ use stack_image::ImageError;
 pub enum Cause {
     /// The words are no word list.
     Usage,
-    /// The words ask for a command that is not built yet.
-    NotBuilt,
     /// A file that the command loads isn't there.
     Absent(Document),
     /// A file has more bytes than it may.
@@ -58,7 +56,7 @@ impl Cause {
         ensures { result ≡ cause_status self.now }
     {
         match self {
-            Cause::Usage | Cause::NotBuilt => 1,
+            Cause::Usage => 1,
             Cause::Absent(_) => 9,
             Cause::TooLong(Document::Source) | Cause::Source(_) => 2,
             Cause::TooLong(Document::Image | Document::Certificate)

@@ -52,8 +52,30 @@ const TRACE_OF_TIMERS: &[u8] = b"arrive 0 900\narrive 0 300\narrive 100 500\n";
 const LOG_OF_TIMERS: &[u8] =
     b"event 0 arrive 900\nevent 0 arrive 300\nrun 0 0 0\nblock 0 2 2 12 1023\nrun 12 0 2\nblock 0 2 2 18 1022\nrun 30 1 0\nblock 1 3 0 8 1022\nrun 38 0 2\nblock 0 2 2 18 1021\nrun 56 2 0\nblock 2 3 0 8 1021\nevent 100 arrive 500\nrun 100 0 2\nblock 0 2 2 18 1020\nrun 118 3 0\nblock 3 3 0 8 1020\nrun 364 2 3\nout 2 300\nend 2 10 1021\nrun 626 3 3\nout 3 500\nend 3 10 1022\nrun 938 1 3\nout 1 900\nend 1 10 1023\nedge 0 2 1 3072 0\nedge 0 3 3 2048 0\nedge 2 2 3 4608 256\nedge 3 1 3 2560 -256\nstop idle\n";
 
-// Each server idles at its end: the status is 10.
-const EXAMPLES: [Row<'static>; 6] = [
+/// A peer that is given up.
+const SILENT: &[u8] =
+    b"// An arrival is the number of a channel. On it come the length of a list and then its numbers; the answer is their sum. A\n// peer that is silent for 500 ticks is given up: the answer is -1, and the worker takes the next one.\nint sum_of_list(int channel) {\n  int left;\n  int part;\n  int sum;\n  int heard;\n  heard = waitfor(channel, 500);\n  if (!heard) return -1;\n  left = wait(channel);\n  sum = 0;\n  while (left > 0) {\n    heard = waitfor(channel, 500);\n    if (!heard) return -1;\n    part = wait(channel);\n    sum = sum + part;\n    left = left - 1;\n  }\n  return sum;\n}\n\nvoid worker(int n) {\n  int channel;\n  int sum;\n  while (1) {\n    channel = accept();\n    sum = sum_of_list(channel);\n    put(sum);\n  }\n}\n\nint main() {\n  spawn(worker, 1);\n  return 0;\n}\n";
+
+const TRACE_OF_SILENT: &[u8] =
+    b"arrive 100 5\ndata 200 5 2\ndata 300 5 10\narrive 400 6\ndata 950 6 1\ndata 1100 6 7\narrive 1200 7\n";
+
+const LOG_OF_SILENT: &[u8] =
+    b"run 0 0 0\nend 0 21 1023\nrun 21 1 0\nblock 1 2 4 16 1023\nevent 100 arrive 5\nrun 100 1 2\nblock 1 3 0<5 29 1023\nevent 200 data 5 2\nrun 200 1 3\nblock 1 4 1<5 14 1023\nrun 214 1 4\nblock 1 5 2<5 26 1023\nevent 300 data 5 10\nrun 300 1 5\nblock 1 6 3<5 14 1023\nrun 314 1 6\nblock 1 5 2<5 43 1023\nevent 400 arrive 6\nrun 857 1 5\nout 1 -1\nblock 1 2 4 32 1023\nrun 889 1 2\nblock 1 3 0<5 29 1023\nevent 950 data 6 1\nrun 950 1 3\nblock 1 4 1<5 14 1023\nrun 964 1 4\nblock 1 5 2<5 26 1023\nevent 1100 data 6 7\nrun 1100 1 5\nblock 1 6 3<5 14 1023\nrun 1114 1 6\nout 1 7\nblock 1 2 4 55 1023\nevent 1200 arrive 7\nrun 1200 1 2\nblock 1 3 0<5 29 1023\nrun 1729 1 3\nout 1 -1\nblock 1 2 4 32 1023\nedge 0 1 1 5376 0\nedge 0 2 1 4096 0\nedge 2 3 3 7424 0\nedge 3 2 1 8192 0\nedge 3 4 2 3584 0\nedge 4 5 2 6656 0\nedge 5 2 1 8192 0\nedge 5 6 2 3584 0\nedge 6 2 1 14080 0\nedge 6 5 1 11008 0\nstop idle\n";
+
+/// Two tenants, by strides and by the graph.
+const TENANTS: &[u8] =
+    b"// Two tenants share the machine. Each puts its number and lets the other have a turn, again and again.\nvoid tenant(int number) {\n  while (1) {\n    put(number);\n    yield();\n  }\n}\n\nint main() {\n  spawn(tenant, 1);\n  spawn(tenant, 2);\n  return 0;\n}\n";
+
+const TRACE_OF_TENANTS: &[u8] = b"";
+
+const LOG_OF_TENANTS: &[u8] =
+    b"run 0 0 0\nend 0 31 1022\nrun 31 1 0\nout 1 1\nblock 1 2 1 15 1022\nrun 46 2 0\nout 2 2\nblock 2 2 1 15 1022\nrun 61 1 2\nout 1 1\nblock 1 2 1 13 1022\nrun 74 1 2\nout 1 1\nblock 1 2 1 13 1022\nrun 87 1 2\nout 1 1\nblock 1 2 1 13 1022\nrun 100 2 2\nout 2 2\nblock 2 2 1 13 1022\nrun 113 1 2\nout 1 1\nblock 1 2 1 13 1022\nrun 126 1 2\nout 1 1\nblock 1 2 1 13 1022\nrun 139 1 2\nout 1 1\nblock 1 2 1 13 1022\nrun 152 2 2\nout 2 2\nblock 2 2 1 13 1022\nrun 165 1 2\nout 1 1\nblock 1 2 1 13 1022\nrun 178 1 2\nout 1 1\nblock 1 2 1 13 1022\nrun 191 1 2\nedge 0 1 1 7936 256\nedge 0 2 2 3840 0\nedge 2 2 10 3328 0\nstop fuel 1 0 1022\n";
+
+const LOG_OF_TENANTS_GRAPH: &[u8] =
+    b"run 0 0 0\nend 0 31 1022\nrun 31 1 0\nout 1 1\nblock 1 2 1 15 1022\nrun 46 1 2\nout 1 1\nblock 1 2 1 13 1022\nrun 59 1 2\nout 1 1\nblock 1 2 1 13 1022\nrun 72 1 2\nout 1 1\nblock 1 2 1 13 1022\nrun 85 1 2\nout 1 1\nblock 1 2 1 13 1022\nrun 98 1 2\nout 1 1\nblock 1 2 1 13 1022\nrun 111 1 2\nout 1 1\nblock 1 2 1 13 1022\nrun 124 1 2\nout 1 1\nblock 1 2 1 13 1022\nrun 137 1 2\nout 1 1\nblock 1 2 1 13 1022\nrun 150 1 2\nout 1 1\nblock 1 2 1 13 1022\nrun 163 1 2\nout 1 1\nblock 1 2 1 13 1022\nrun 176 1 2\nout 1 1\nblock 1 2 1 13 1022\nrun 189 1 2\nedge 0 1 1 7936 256\nedge 0 2 1 3840 0\nedge 2 2 11 3328 0\nstop fuel 1 0 1022\n";
+
+// The tenants' fuel is spent at their end: the status is 13. Each other server idles at its end: it is 10.
+const EXAMPLES: [Row<'static>; 9] = [
     (&["serve", "P"], POOL, TRACE_OF_POOL, 10, LOG_OF_POOL, NONE),
     (
         &["serve", "P"],
@@ -102,6 +124,39 @@ const EXAMPLES: [Row<'static>; 6] = [
         TRACE_OF_TIMERS,
         10,
         LOG_OF_TIMERS,
+        NONE,
+    ),
+    (
+        &["serve", "P"],
+        SILENT,
+        TRACE_OF_SILENT,
+        10,
+        LOG_OF_SILENT,
+        NONE,
+    ),
+    (
+        &[
+            "serve",
+            "P",
+            "--rule",
+            "stride",
+            "--tickets",
+            "1=3",
+            "--fuel",
+            "191",
+        ],
+        TENANTS,
+        TRACE_OF_TENANTS,
+        13,
+        LOG_OF_TENANTS,
+        NONE,
+    ),
+    (
+        &["serve", "P", "--fuel", "189"],
+        TENANTS,
+        TRACE_OF_TENANTS,
+        13,
+        LOG_OF_TENANTS_GRAPH,
         NONE,
     ),
 ];

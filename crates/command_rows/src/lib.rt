@@ -2,8 +2,8 @@
 //
 // It has tests alone: words, files and a trace with the status, the output, the line and the files that a call must leave,
 // worked out by hand from what the commands promise. `calls.rt` alone calls the program, `sequence.rt` looks at the world that
-// it hands out. `graphs.rt`, `checks.rt`, `builds.rt`, `serving.rt`, `refusals.rt` and `example_rows.rt` are the tables, by
-// command; `faults.rt` has objects that fail, `command_line.rt` the words of a command line. No crate stands on this one.
+// it hands out. `graphs.rt`, `checks.rt`, `builds.rt`, `serving.rt`, `demos.rt`, `refusals.rt` and `example_rows.rt` are the tables,
+// by command; `faults.rt` has objects that fail, `command_line.rt` the words of a command line. No crate stands on this one.
 #![tactic(auto)]
 
 #[cfg(test)]
@@ -14,6 +14,8 @@ mod calls;
 mod checks;
 #[cfg(test)]
 mod command_line;
+#[cfg(test)]
+mod demos;
 #[cfg(test)]
 mod example_rows;
 #[cfg(test)]

@@ -8,10 +8,8 @@ use std::test::Fail;
 const USAGE: &[u8] =
     b"usage: capriccio serve SRC, run SRC IMG CRT, build SRC IMG CRT, check SRC IMG CRT, graph SRC, demo N\n";
 
-const NOT_BUILT: &[u8] = b"usage: not built\n";
-
 // Sources that are refused, words that are no word list, and a file that isn't there.
-const REFUSALS: [Row<'static>; 26] = [
+const REFUSALS: [Row<'static>; 27] = [
     (SERVE, NONE, NONE, 2, NONE, b"source: NoMain\n"),
     (SERVE, b"/* x", NONE, 2, NONE, b"source: OpenComment at 0\n"),
     (
@@ -131,10 +129,11 @@ const REFUSALS: [Row<'static>; 26] = [
         NONE,
         USAGE,
     ),
-    (&["demo", "1"], PUT_SEVEN, NONE, 1, NONE, NOT_BUILT),
-    (&["demo", "0"], PUT_SEVEN, NONE, 1, NONE, NOT_BUILT),
-    (&["demo"], PUT_SEVEN, NONE, 1, NONE, NOT_BUILT),
-    (&["demo", "1", "2"], PUT_SEVEN, NONE, 1, NONE, NOT_BUILT),
+    (&["demo"], PUT_SEVEN, NONE, 1, NONE, USAGE),
+    (&["demo", "0"], PUT_SEVEN, NONE, 1, NONE, USAGE),
+    (&["demo", "01"], PUT_SEVEN, NONE, 1, NONE, USAGE),
+    (&["demo", "1001"], PUT_SEVEN, NONE, 1, NONE, USAGE),
+    (&["demo", "1", "2"], PUT_SEVEN, NONE, 1, NONE, USAGE),
     (
         &["serve", "Q"],
         PUT_SEVEN,

@@ -32,7 +32,14 @@ const SLOW_SERVER: &[u8] =
 const LOG_OF_SLOW_SERVER: &[u8] =
     b"run 0 0 0\nend 0 31 1022\nrun 31 1 0\nblock 1 2 0 16 1022\nrun 47 2 0\nblock 2 2 0 16 1022\nevent 100 arrive 5\nrun 100 1 2\nblock 1 3 1 11 1022\nrun 111 1 3\nblock 1 4 2 18 1022\nevent 129 arrive 6\nrun 129 1 4\nblock 1 4 2 25 1022\nrun 154 1 4\nout 1 5\nblock 1 2 0 47 1022\nrun 201 2 2\nblock 2 3 1 11 1022\nrun 212 2 3\nblock 2 4 2 18 1022\nrun 230 2 4\nblock 2 4 2 25 1022\nrun 255 2 4\nout 2 6\nblock 2 2 0 47 1022\nedge 0 1 1 7936 256 0\nedge 0 2 2 4096 0 0\nedge 2 3 2 2816 0 0\nedge 3 4 2 4608 0 256\nedge 4 2 2 12032 0 -256\nedge 4 4 2 6400 0 0\nstop idle\n";
 
-const RUNS_TO_THE_END: [Row<'static>; 12] = [
+/// It waits for a message for 50 ticks.
+const WAITING: &[u8] = b"int main() { int x; x = waitfor(0, 50); put(x); return 0; }";
+
+/// Nothing came in time.
+const LOG_OF_SILENCE: &[u8] =
+    b"run 0 0 0\nblock 0 2 0 15 1023\nrun 65 0 2\nout 0 0\nend 0 15 1024\nedge 0 2 1 3840 0\nedge 2 1 1 3840 -256\nstop done\n";
+
+const RUNS_TO_THE_END: [Row<'static>; 17] = [
     (SERVE, PUT_SEVEN, NONE, 0, LOG_OF_SEVEN, NONE),
     (
         SERVE,
@@ -126,6 +133,25 @@ const RUNS_TO_THE_END: [Row<'static>; 12] = [
         b"run 0 0 0\nblock 0 2 0 8 1023\nrun 58 0 2\nout 0 1\nend 0 15 1024\nedge 0 2 1 2048 0\nedge 2 1 1 3840 -256\nstop done\n",
         NONE,
     ),
+    (SERVE, WAITING, NONE, 0, LOG_OF_SILENCE, NONE),
+    (
+        SERVE,
+        WAITING,
+        b"data 40 0 7\n",
+        0,
+        b"run 0 0 0\nblock 0 2 0 15 1023\nevent 40 data 0 7\nrun 40 0 2\nout 0 1\nend 0 15 1024\nedge 0 2 1 3840 0\nedge 2 1 1 3840 -256\nstop done\n",
+        NONE,
+    ),
+    // at the very time a message is in time, and a tick later it isn't
+    (
+        SERVE,
+        WAITING,
+        b"data 65 0 7\n",
+        0,
+        b"run 0 0 0\nblock 0 2 0 15 1023\nevent 65 data 0 7\nrun 65 0 2\nout 0 1\nend 0 15 1024\nedge 0 2 1 3840 0\nedge 2 1 1 3840 -256\nstop done\n",
+        NONE,
+    ),
+    (SERVE, WAITING, b"data 66 0 7\n", 0, LOG_OF_SILENCE, NONE),
     (
         &["serve", "P", "--caps", "1=1"],
         SERVER,
@@ -136,6 +162,15 @@ const RUNS_TO_THE_END: [Row<'static>; 12] = [
     ),
     (
         &["serve", "P", "--caps", "1=1"],
+        SLOW_SERVER,
+        b"arrive 100 5\narrive 120 6\n",
+        10,
+        LOG_OF_SLOW_SERVER,
+        NONE,
+    ),
+    // with a knee at half of each cap the gate moves just so
+    (
+        &["serve", "P", "--caps", "1=1", "--knee", "500"],
         SLOW_SERVER,
         b"arrive 100 5\narrive 120 6\n",
         10,
@@ -159,7 +194,7 @@ fn runs_to_the_end(rt: HostRuntime) -> Result<(), Fail> {
     hold(&rt, rt.alloc(), &RUNS_TO_THE_END)
 }
 
-const CUT_RUNS: [Row<'static>; 10] = [
+const CUT_RUNS: [Row<'static>; 12] = [
     (
         &["serve", "P", "--fuel", "0"],
         PUT_SEVEN,
@@ -251,11 +286,37 @@ const CUT_RUNS: [Row<'static>; 10] = [
         NONE,
     ),
     (
+        SERVE,
+        b"int main() { int x; x = waitfor(64, 50); return x; }",
+        NONE,
+        11,
+        b"run 0 0 0\nstop trap 0 channel 14 1023\n",
+        NONE,
+    ),
+    (
         &["serve", "P", "--chunk", "64", "--chunks", "65536"],
         b"void w(int x) { x = wait(0); } int main() { while (1) spawn(w, 0); }",
         NONE,
         14,
         b"run 0 0 0\nstop threads 0 1048560 1\n",
+        NONE,
+    ),
+    // by strides a thread with two tickets has two turns to one
+    (
+        &[
+            "serve",
+            "P",
+            "--rule",
+            "stride",
+            "--tickets",
+            "1=2",
+            "--fuel",
+            "100",
+        ],
+        b"void w(int n) { while (1) { put(n); yield(); } } int main() { spawn(w, 1); spawn(w, 2); return 0; }",
+        NONE,
+        13,
+        b"run 0 0 0\nend 0 31 1022\nrun 31 1 0\nout 1 1\nblock 1 2 1 15 1022\nrun 46 2 0\nout 2 2\nblock 2 2 1 15 1022\nrun 61 1 2\nout 1 1\nblock 1 2 1 13 1022\nrun 74 1 2\nout 1 1\nblock 1 2 1 13 1022\nrun 87 2 2\nout 2 2\nblock 2 2 1 13 1022\nrun 100 1 2\nedge 0 1 1 7936 256\nedge 0 2 2 3840 0\nedge 2 2 3 3328 0\nstop fuel 1 0 1022\n",
         NONE,
     ),
 ];

@@ -5,10 +5,14 @@ use Rattle.std.proofs.lemmas.Slice.Eq.{bytes_eq-Decides}
 use Rattle.cap_text.proofs.DecimalLaws.{decimal_unique}
 use Rattle.command_words.specs.declared.options.Placement.{Placement}
 use Rattle.command_words.specs.declared.options.Policy.{Policy}
-use Rattle.command_words.specs.Values.{IsChosen, IsNumber, IsPlacement, IsPolicy, AreCaps, AreCapsAbove, cap_text, caps_of, default_max_path}
+use Rattle.command_words.specs.declared.options.Rule.{Rule}
+use Rattle.command_words.specs.declared.options.Rule.TheVariants.{Graph, Stride}
+use Rattle.command_words.specs.declared.options.Tickets.{Tickets}
+use Rattle.command_words.specs.Values.{IsChosen, IsNumber, IsPlacement, IsPolicy, AreCaps, AreCapsAbove, cap_text, caps_of, default_max_path, AreTickets, IsRule, rule_name, ticket_text, tickets_of}
 use Rattle.command_words.specs.WordList.{Request, Serve, Run, Build, Check, Graph, Demo}
 use Rattle.command_words.specs.Asked.{Texts, IsAsked, HasThree}
 use Rattle.command_words.proofs.CapsSoFar.{Caps, one_cap}
+use Rattle.command_words.proofs.TicketsSoFar.{ticket_parts}
 
 pub if_none : {A : Type 0} {P : Type 0} (r : Option A) → P → IfNone r P
 if_none None holds = holds
@@ -40,6 +44,53 @@ one_placement given p q is same =
     (subst (λ c. IsChosen (given (codes "--max-path")) (default_max_path c) q.max_path) (sym chunk) same.max_path.chosen) in
     λ i. record { chunk = chunk i; max_path = max_path i }
 
+-- of two texts of tickets the threads and the tickets are the same
+pub one_ticket : (thread count other more : ℕ) → ticket_text (thread, count) ≡ ticket_text (other, more) → (thread ≡ other) × (count ≡ more)
+one_ticket thread count other more same = ticket_parts thread count other more same
+
+one_ticket_list : (least : ℕ) (tickets others : Caps) → map ticket_text tickets ≡ map ticket_text others → tickets ≡ others
+one_ticket_list least [] [] same = refl
+one_ticket_list least [] (other ∷ others) same = absurd (cc)
+one_ticket_list least (ticket ∷ tickets) [] same = absurd (cc)
+one_ticket_list least ((thread, count) ∷ tickets) ((other, more) ∷ others) same =
+    let first : ticket_text (thread, count) ≡ ticket_text (other, more) = cc in
+    let rest : map ticket_text tickets ≡ map ticket_text others = cc in
+    let one = one_ticket thread count other more first in
+    λ i. (one.0 i, one.1 i) ∷ one_ticket_list least tickets others rest i
+
+one_tickets : (given : Option (List ℕ)) (tickets others : Tickets) → AreTickets given tickets → AreTickets given others → tickets ≡ others
+one_tickets None tickets others is same = is ∙ sym same
+one_tickets (Some text) tickets others is same = is.2 ∙ ap tickets_of (one_ticket_list 0 is.0 same.0 (sym is.1.joined ∙ same.1.joined)) ∙ sym same.2
+
+-- the texts name one rule
+not_stride : (given : Option (List ℕ)) → rule_name given ≡ codes "graph" → rule_name given ≡ codes "stride" → ⊥
+not_stride given graph stride =
+    let same : codes "graph" ≡ codes "stride" = sym graph ∙ stride in
+    true≢false (sym ((bytes_eq-Decides (codes "graph") (codes "stride")).1 same) ∙ refl)
+
+-- a text that names neither rule
+pub no_rule : (given tickets : Option (List ℕ)) → bytes_eq (rule_name given) (codes "graph") ≡ false → bytes_eq (rule_name given) (codes "stride") ≡ false →
+    (rule : Rule) → IsRule given tickets rule → ⊥
+no_rule given tickets graph stride Graph is = true≢false (sym ((bytes_eq-Decides (rule_name given) (codes "graph")).1 is.0) ∙ graph)
+no_rule given tickets graph stride (Stride t) is = true≢false (sym ((bytes_eq-Decides (rule_name given) (codes "stride")).1 is.0) ∙ stride)
+
+-- the rule by the graph, beside which tickets are given
+pub no_graph : (given tickets : Option (List ℕ)) → rule_name given ≡ codes "graph" → (tickets ≡ None → ⊥) → (rule : Rule) → IsRule given tickets rule → ⊥
+no_graph given tickets graph some Graph is = some is.1
+no_graph given tickets graph some (Stride t) is = not_stride given graph is.0
+
+-- the rule by strides, beside a text that is no list of tickets
+pub no_stride : (given tickets : Option (List ℕ)) → rule_name given ≡ codes "stride" → ((t : Tickets) → AreTickets tickets t → ⊥) →
+    (rule : Rule) → IsRule given tickets rule → ⊥
+no_stride given tickets stride none Graph is = not_stride given is.0 stride
+no_stride given tickets stride none (Stride t) is = none t is.1
+
+one_rule : (given tickets : Option (List ℕ)) (r s : Rule) → IsRule given tickets r → IsRule given tickets s → r ≡ s
+one_rule given tickets Graph Graph is same = refl
+one_rule given tickets Graph (Stride t) is same = absurd (not_stride given is.0 same.0)
+one_rule given tickets (Stride t) Graph is same = absurd (not_stride given same.0 is.0)
+one_rule given tickets (Stride t) (Stride u) is same = ap Stride (one_tickets tickets t u is.1 same.1)
+
 pub one_policy : (given : Texts) (p q : Policy) → IsPolicy given p → IsPolicy given q → p ≡ q
 one_policy given p q is same =
     let chunks = one_chosen (given (codes "--chunks")) 1024 p.chunks q.chunks is.chunks.chosen same.chunks.chosen in
@@ -48,7 +99,9 @@ one_policy given p q is same =
     let caps = one_caps (given (codes "--caps")) p.caps q.caps is.caps same.caps in
     let high = one_chosen (given (codes "--high")) 900 p.high q.high is.high.chosen same.high.chosen in
     let low = one_chosen (given (codes "--low")) 700 p.low q.low is.low.chosen same.low.chosen in
-    λ i. record { chunks = chunks i; fuel = fuel i; backlog = backlog i; caps = caps i; high = high i; low = low i }
+    let rule = one_rule (given (codes "--rule")) (given (codes "--tickets")) p.rule q.rule is.rule same.rule in
+    let knee = one_chosen (given (codes "--knee")) 0 p.knee q.knee is.knee.chosen same.knee.chosen in
+    λ i. record { chunks = chunks i; fuel = fuel i; backlog = backlog i; caps = caps i; high = high i; low = low i; rule = rule i; knee = knee i }
 
 -- a chunk is chosen that is no multiple of 16
 pub no_whole : (given : Texts) (chunk : ℕ) → IsNumber (given (codes "--chunk")) 4096 64 65536 chunk → (chunk % 16 ≡ 0 → ⊥) → (p : Placement) → IsPlacement given p → ⊥

@@ -11,3 +11,4 @@ pub mod Rules
 pub mod Steps
 pub mod Told
 pub mod Walks
+pub mod TicketsSoFar

@@ -6,7 +6,7 @@ use Rattle.cap_text.specs.Decimals.{canonical_decimal}
 use Rattle.command_words.specs.declared.options.Placement.{Placement}
 use Rattle.command_words.specs.declared.options.Policy.{Policy}
 use Rattle.command_words.specs.Said.{Said, Given, Positional, words_of, IsPlain, IsPlainSaid, positionals_of, options_of, value_of, IsOneOf}
-use Rattle.command_words.specs.Values.{IsPlacement, IsPolicy, default_max_path, IsNumber, AreCaps}
+use Rattle.command_words.specs.Values.{IsPlacement, IsPolicy, default_max_path, IsNumber, AreCaps, IsRule}
 use Rattle.command_words.specs.WordList.{Request, Serve, Run, Build, Check, Graph, Demo, Says, IsWordList, placement_options, policy_options}
 use Rattle.command_words.specs.Parse.{all_options, command_names, IsWord, IsReadable, IsSaid, Tells, IsReadAs}
 use Rattle.command_words.specs.Asked.{Texts, LacksAll, HasOne, HasThree, IsAsked}
@@ -213,6 +213,9 @@ policy_along f g p same is = record {
   caps = subst (λ (t : Option Text). AreCaps t p.caps) same.1.1.1.0 is.caps;
   high = subst (λ (t : Option Text). IsNumber t 900 1 1000 p.high) same.1.1.1.1.0 is.high;
   low = subst (λ (t : Option Text). IsNumber t 700 0 (p.high - 1) p.low) same.1.1.1.1.1.0 is.low;
+  rule = subst (λ (t : Option Text). IsRule t (g (codes "--tickets")) p.rule) same.1.1.1.1.1.1.0
+      (subst (λ (t : Option Text). IsRule (f (codes "--rule")) t p.rule) same.1.1.1.1.1.1.1.0 is.rule);
+  knee = subst (λ (t : Option Text). IsNumber t 0 0 999 p.knee) same.1.1.1.1.1.1.1.1.0 is.knee;
 }
 
 turned : (f g : Texts) (names : List Text) → AllByRecursion (λ option. f option ≡ g option) names → AllByRecursion (λ option. g option ≡ f option) names
@@ -244,24 +247,13 @@ agrees given said all = record {
 
 no_placement : (said : List Said) → AllByRecursion (IsOneOf policy_options) (options_of said) → LacksAll (value_of said) placement_options
 no_placement said known = (
-  absent said policy_options (codes "--chunk") known (refl, (refl, (refl, (refl, (refl, (refl, tt)))))),
-  (absent said policy_options (codes "--max-path") known (refl, (refl, (refl, (refl, (refl, (refl, tt)))))), tt),
+  absent said policy_options (codes "--chunk") known (refl, (refl, (refl, (refl, (refl, (refl, (refl, (refl, (refl, tt))))))))),
+  (absent said policy_options (codes "--max-path") known (refl, (refl, (refl, (refl, (refl, (refl, (refl, (refl, (refl, tt))))))))), tt),
 )
 
 no_policy : (said : List Said) → AllByRecursion (IsOneOf placement_options) (options_of said) → LacksAll (value_of said) policy_options
-no_policy said known = (
-  absent said placement_options (codes "--chunks") known (refl, (refl, tt)),
-  (
-    absent said placement_options (codes "--fuel") known (refl, (refl, tt)),
-    (
-      absent said placement_options (codes "--backlog") known (refl, (refl, tt)),
-      (
-        absent said placement_options (codes "--caps") known (refl, (refl, tt)),
-        (absent said placement_options (codes "--high") known (refl, (refl, tt)), (absent said placement_options (codes "--low") known (refl, (refl, tt)), tt)),
-      ),
-    ),
-  ),
-)
+no_policy said known =
+    (absent said placement_options (codes "--chunks") known (refl, (refl, tt)), (absent said placement_options (codes "--fuel") known (refl, (refl, tt)), (absent said placement_options (codes "--backlog") known (refl, (refl, tt)), (absent said placement_options (codes "--caps") known (refl, (refl, tt)), (absent said placement_options (codes "--high") known (refl, (refl, tt)), (absent said placement_options (codes "--low") known (refl, (refl, tt)), (absent said placement_options (codes "--rule") known (refl, (refl, tt)), (absent said placement_options (codes "--tickets") known (refl, (refl, tt)), (absent said placement_options (codes "--knee") known (refl, (refl, tt)), tt)))))))))
 
 no_options : (said : List Said) (names : List Text) → AllByRecursion (IsOneOf []) (options_of said) → LacksAll (value_of said) names
 no_options said [] known = tt

@@ -54,8 +54,9 @@ abbrev pub with_placement : App → App
 with_placement app = with_option (codes "--max-path") (codes "max-path") (with_option (codes "--chunk") (codes "chunk") app)
 
 abbrev pub with_policy : App → App
-with_policy app = with_option (codes "--low") (codes "low") (with_option (codes "--high") (codes "high") (with_option (codes "--caps") (codes "caps")
-    (with_option (codes "--backlog") (codes "backlog") (with_option (codes "--fuel") (codes "fuel") (with_option (codes "--chunks") (codes "chunks") app)))))
+with_policy app = with_option (codes "--knee") (codes "knee") (with_option (codes "--tickets") (codes "tickets") (with_option (codes "--rule") (codes "rule")
+    (with_option (codes "--low") (codes "low") (with_option (codes "--high") (codes "high") (with_option (codes "--caps") (codes "caps")
+    (with_option (codes "--backlog") (codes "backlog") (with_option (codes "--fuel") (codes "fuel") (with_option (codes "--chunks") (codes "chunks") app))))))))
 
 abbrev pub words_app : App
 words_app = with_policy (with_placement (with_positionals (on_top (λ top. record top { no_binary_name = true; disable_help_flag = true }) (new_app (codes "capriccio")))))

@@ -1,9 +1,12 @@
 -- The values of the options: their ranges and defaults. `given` tells the text that was given for an option.
-use Rattle.std.specs.Prelude.{ℕ, ◌≡◌, ⊤, ◌-◌, ◌*◌, ◌/◌, ◌%◌, ◌==◌, ◌<◌, ◌≤◌, List, [], ◌∷◌, ◌++◌, map, replicate, codes, Option, Some, None, if◌then◌else◌}
+use Rattle.std.specs.Prelude.{ℕ, suc, ◌≡◌, ⊤, length, take, ◌-◌, ◌*◌, ◌/◌, ◌%◌, ◌==◌, ◌<◌, ◌≤◌, List, [], ◌∷◌, ◌++◌, map, replicate, codes, Option, Some, None, if◌then◌else◌}
 use Rattle.cap_text.specs.Decimals.{canonical_decimal}
 use Rattle.cap_text.specs.Pieces.{pieces}
 use Rattle.command_words.specs.declared.options.Placement.{Placement}
 use Rattle.command_words.specs.declared.options.Policy.{Policy}
+use Rattle.command_words.specs.declared.options.Rule.{Rule}
+use Rattle.command_words.specs.declared.options.Rule.TheVariants.{Graph, Stride}
+use Rattle.command_words.specs.declared.options.Tickets.{Tickets}
 
 -- the number is the one that was given by its canonical decimal, or else the default
 abbrev pub IsChosen : Option (List ℕ) → ℕ → ℕ → Type 0
@@ -53,6 +56,46 @@ abbrev pub AreCaps : Option (List ℕ) → List ℕ → Type 0
 AreCaps None caps = caps ≡ replicate 8 0
 AreCaps (Some text) caps = (pairs : List (ℕ × ℕ)) × IsCapsText text pairs × (caps ≡ caps_of pairs)
 
+-- ---- the rule of choices
+
+-- a thread and its tickets, as `T=N`
+abbrev pub ticket_text : ℕ × ℕ → List ℕ
+ticket_text (thread, tickets) = canonical_decimal thread ++ 61 ∷ canonical_decimal tickets
+
+-- the threads rise, from this one on to 1,000,000, and each has from 1 to 1,024 tickets
+abbrev pub AreTicketsFrom : ℕ → List (ℕ × ℕ) → Type 0
+AreTicketsFrom least [] = ⊤
+AreTicketsFrom least ((thread, tickets) ∷ rest) =
+    (least ≤ thread) × (thread ≤ 1000000) × (1 ≤ tickets) × (tickets ≤ 1024) × AreTicketsFrom (suc thread) rest
+
+-- the text is the tickets of at most 64 threads, joined by `,` (44)
+pub record IsTicketsText (text : List ℕ) (tickets : List (ℕ × ℕ)) : Type 0 where
+  pub joined : pieces 44 text ≡ map ticket_text tickets
+  pub in_range : AreTicketsFrom 0 tickets
+  pub few : length tickets ≤ 64
+
+-- the tickets as they are handed out, and as a list
+abbrev pub tickets_of : List (ℕ × ℕ) → Tickets
+tickets_of pairs = record { pairs = pairs ++ replicate (64 - length pairs) (0, 0); count = length pairs }
+
+abbrev pub pairs_of : Tickets → List (ℕ × ℕ)
+pairs_of tickets = take tickets.count tickets.pairs
+
+-- the tickets are those that were given, or else none
+abbrev pub AreTickets : Option (List ℕ) → Tickets → Type 0
+AreTickets None tickets = tickets ≡ tickets_of []
+AreTickets (Some text) tickets = (pairs : List (ℕ × ℕ)) × IsTicketsText text pairs × (tickets ≡ tickets_of pairs)
+
+-- the name of the rule: the given one, or else `graph`
+abbrev pub rule_name : Option (List ℕ) → List ℕ
+rule_name None = codes "graph"
+rule_name (Some text) = text
+
+-- the rule is `graph`, beside which no tickets are given, or `stride`
+abbrev pub IsRule : (given tickets_given : Option (List ℕ)) → Rule → Type 0
+IsRule given tickets_given Graph = (rule_name given ≡ codes "graph") × (tickets_given ≡ None)
+IsRule given tickets_given (Stride tickets) = (rule_name given ≡ codes "stride") × AreTickets tickets_given tickets
+
 pub record IsPolicy (given : List ℕ → Option (List ℕ)) (policy : Policy) : Type 0 where
   pub chunks : IsNumber (given (codes "--chunks")) 1024 1 65536 policy.chunks
   pub fuel : IsNumber (given (codes "--fuel")) 10000000 0 1000000000 policy.fuel
@@ -60,3 +103,5 @@ pub record IsPolicy (given : List ℕ → Option (List ℕ)) (policy : Policy) :
   pub caps : AreCaps (given (codes "--caps")) policy.caps
   pub high : IsNumber (given (codes "--high")) 900 1 1000 policy.high
   pub low : IsNumber (given (codes "--low")) 700 0 (policy.high - 1) policy.low
+  pub rule : IsRule (given (codes "--rule")) (given (codes "--tickets")) policy.rule
+  pub knee : IsNumber (given (codes "--knee")) 0 0 999 policy.knee

@@ -31,7 +31,8 @@ abbrev pub placement_options : List (List ℕ)
 placement_options = codes "--chunk" ∷ codes "--max-path" ∷ []
 
 abbrev pub policy_options : List (List ℕ)
-policy_options = codes "--chunks" ∷ codes "--fuel" ∷ codes "--backlog" ∷ codes "--caps" ∷ codes "--high" ∷ codes "--low" ∷ []
+policy_options = codes "--chunks" ∷ codes "--fuel" ∷ codes "--backlog" ∷ codes "--caps" ∷ codes "--high" ∷ codes "--low"
+    ∷ codes "--rule" ∷ codes "--tickets" ∷ codes "--knee" ∷ []
 
 -- the words are the command's name and, in any order, just these positional words and some of these options, each at
 -- most once and with its value behind it

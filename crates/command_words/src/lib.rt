@@ -15,9 +15,10 @@ mod options;
 mod parser;
 mod reading;
 mod refusals;
+mod ticket_lists;
 mod words;
 
 pub use commands::{Command, WordsError};
 pub use laws::words_ask_for_one_command;
-pub use options::{Placement, Policy};
+pub use options::{Placement, Policy, Rule, Tickets};
 pub use words::read_words;

@@ -9,6 +9,25 @@ pub struct Placement {
     pub max_path: u32,
 }
 
+/// The tickets that are given to threads, of at most 64 threads.
+#[derive(Clone, Copy, PartialEq, Eq)]
+pub struct Tickets {
+    /// The numbers of the threads, which rise strictly, from 0 to 1,000,000, each with its tickets, from 1 to 1,024. Behind them
+    /// stand pairs of zeros.
+    pub pairs: [(u32, u32); 64],
+    /// How many threads are given tickets.
+    pub count: u32,
+}
+
+/// How the next thread is chosen.
+#[derive(Clone, Copy, PartialEq, Eq)]
+pub enum Rule {
+    /// By the blocking graph.
+    Graph,
+    /// By strides. A thread that isn't given tickets has one.
+    Stride { tickets: Tickets },
+}
+
 /// The options of a run.
 #[derive(Clone, Copy, PartialEq, Eq)]
 pub struct Policy {
@@ -24,4 +43,8 @@ pub struct Policy {
     pub high: u32,
     /// The pressure from which on down they need not: below `high`.
     pub low: u32,
+    /// How the next thread is chosen.
+    pub rule: Rule,
+    /// The part of a cap, in thousandths, from which on the use of a resource is a pressure: from 0 to 999.
+    pub knee: u32,
 }

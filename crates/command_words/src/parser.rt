@@ -68,7 +68,10 @@ fn with_policy<'a>(alloc: Global, command: Built<'a>) -> Built<'a>
     let command = with_option(alloc, command, "--backlog", "backlog");
     let command = with_option(alloc, command, "--caps", "caps");
     let command = with_option(alloc, command, "--high", "high");
-    with_option(alloc, command, "--low", "low")
+    let command = with_option(alloc, command, "--low", "low");
+    let command = with_option(alloc, command, "--rule", "rule");
+    let command = with_option(alloc, command, "--tickets", "tickets");
+    with_option(alloc, command, "--knee", "knee")
 }
 
 /// Adds a positional word.

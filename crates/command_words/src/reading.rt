@@ -10,6 +10,7 @@ ghost use Rattle.command_words.specs.Asked.{IsAsked, LacksAll, HasOne, HasThree}
 use crate::commands::Command;
 use crate::numbers::{caps, number};
 use crate::options::{Placement, Policy};
+use crate::ticket_lists::rule;
 use clap::ArgMatches;
 
 /// The greatest size of the pool, in bytes.
@@ -158,6 +159,9 @@ fn without_policy(matches: &ArgMatches<'_>) -> bool
         && is_absent(matches, "--caps")
         && is_absent(matches, "--high")
         && is_absent(matches, "--low")
+        && is_absent(matches, "--rule")
+        && is_absent(matches, "--tickets")
+        && is_absent(matches, "--knee")
 }
 
 /// Whether an option is not given.
@@ -200,6 +204,8 @@ fn policy(matches: &ArgMatches<'_>) -> Option<Policy>
     let caps = caps(matches.get_str("--caps"))?;
     let high = number(matches.get_str("--high"), 900, 1, 1000)?;
     let low = number(matches.get_str("--low"), 700, 0, high - 1)?;
+    let rule = rule(matches.get_str("--rule"), matches.get_str("--tickets"))?;
+    let knee = number(matches.get_str("--knee"), 0, 0, 999)? as u32;
     Some(Policy {
         chunks,
         fuel,
@@ -207,5 +213,7 @@ fn policy(matches: &ArgMatches<'_>) -> Option<Policy>
         caps,
         high: high as u32,
         low: low as u32,
+        rule,
+        knee,
     })
 }

@@ -55,6 +55,9 @@ fn is_option(word: &str) -> bool
             | "--caps"
             | "--high"
             | "--low"
+            | "--rule"
+            | "--tickets"
+            | "--knee"
     )
 }
 

@@ -11,8 +11,9 @@ modelled_parameters n =
     if nat_eq n 17 then Some 1 else
     if nat_eq n 18 then Some 1 else
     if nat_eq n 19 then Some 0 else
-    if nat_eq n 20 then Some 2 else None
+    if nat_eq n 20 then Some 2 else
+    if nat_eq n 21 then Some 2 else None
 
--- `self`, `accept` and `wait`
+-- `self`, `accept`, `wait` and `waitfor`
 abbrev pub modelled_gives : ℕ → Bool
-modelled_gives n = nat_eq n 6 || nat_eq n 16 || nat_eq n 17
+modelled_gives n = nat_eq n 6 || nat_eq n 16 || nat_eq n 17 || nat_eq n 21

@@ -1,12 +1,13 @@
 -- The clock of a choice point: when it stays, where it goes on to, and that something then goes on.
-use Rattle.std.proofs.Common.{◌≡◌, ℕ, zero, suc, ◌+◌, ◌<◌, ◌≤◌, ◌⊎◌, inl, inr, Bool, true, false, List, [], ◌∷◌, ◌++◌, length, Option, Some, None, refl, sym, ap, ◌∙◌, arith, subst, cond, ⊎_elim}
-use Rattle.std.specs.Prelude.{All, Contains, filter_map, nat_le, nat_lt, nat_eq, slice_index_or}
+use Rattle.std.proofs.Common.{◌≡◌, ℕ, zero, suc, ◌<◌, ◌≤◌, ◌⊎◌, inl, inr, Bool, true, false, ◌||◌, List, [], ◌∷◌, ◌++◌, length, Option, Some, None, refl, sym, ap, ◌∙◌, arith, subst, cond, ⊎_elim}
+use Rattle.std.specs.Prelude.{All, Contains, filter_map, nat_le, nat_eq, slice_index_or}
 use Rattle.std.specs.List.{AllByRecursion, list_any, cons_option}
 use Rattle.std.proofs.lemmas.Bool.Decides.{nat_tests}
 use Rattle.cap_word.specs.declared.calls.Block.{Block}
 use Rattle.c_mean.specs.ModelledCalls as table
-use Rattle.c_mean.specs.ModelledCalls.{Exchange, wakes_at, ticks_of}
+use Rattle.c_mean.specs.ModelledCalls.{Exchange, blocking_row, is_past, wake_of, wakes_at}
 use Rattle.c_mean.specs.World.{Rest, Fresh, Blocked as Blocks, Ended}
+use Rattle.c_mean.proofs.CallLemmas.{waits_alone}
 use Rattle.event_trace.specs.declared.events.Event.{Event}
 use Rattle.choice_rules.specs.Readiness as rules
 use Rattle.choice_rules.specs.Clock.{event_times, IsLeastOf}
@@ -15,11 +16,11 @@ use Rattle.lawful_log.specs.Readiness as log
 use Rattle.lawful_log.specs.Readiness.{is_ready, any_ready, waking_times}
 use Rattle.lawful_log.specs.Setup.{Setup}
 use Rattle.lawful_log.specs.State.{State}
-use Rattle.machine_world.specs.Runs.{may_run}
+use Rattle.machine_world.specs.Runs.{may_run, asleep_until}
 use Rattle.machine_world.specs.Threads.{Blocked, World, Setting}
 use Rattle.lawful_steps.specs.Clocks.{goes_on, IsClockOf}
-use Rattle.lawful_steps.specs.Tests.{waking_time, if_later, later_wake}
-use Rattle.lawful_steps.proofs.Lists.{either, left_true, right_true}
+use Rattle.lawful_steps.specs.Tests.{waking_time}
+use Rattle.lawful_steps.proofs.Lists.{either, left_true, right_true, not_both}
 
 -- ---- elements of lists
 
@@ -92,12 +93,15 @@ module _ {X : Type 0} (h : X → Option ℕ) where
 
 -- ---- a thread that wakes is ready
 
+past_at : (time clock : ℕ) → time ≡ clock → nat_le time clock ≡ true
+past_at time clock is = grind (arith, nat_tests, is)
+
+awake_by : (ready : Bool) (clock : ℕ) (o : Option ℕ) → o ≡ Some clock → (ready || is_past clock o) ≡ true
+awake_by ready clock None e = absurd (cc)
+awake_by ready clock (Some time) e = let is : time ≡ clock = cc in right_true ready (nat_le time clock) (past_at time clock is)
+
 awake_block : (caps : List ℕ) (x : Exchange) (clock since : ℕ) (block : Block) → wakes_at since block ≡ Some clock → table.is_ready caps x clock since block ≡ true
-awake_block caps x clock since Block.Accept e = absurd (cc)
-awake_block caps x clock since (Block.Wait channel) e = absurd (cc)
-awake_block caps x clock since (Block.Sleep ticks) e = let is : since + ticks_of ticks ≡ clock = cc in grind (arith, nat_tests, is)
-awake_block caps x clock since Block.Yield e = absurd (cc)
-awake_block caps x clock since (Block.Take resource amount) e = absurd (cc)
+awake_block caps x clock since block e = awake_by (blocking_row caps x block).ready clock (wake_of since (blocking_row caps x block).wait) (waits_alone caps x since block ∙ e)
 
 awake_ready : (caps : List ℕ) (x : Exchange) (clock since : ℕ) (rest : Option Rest) → rules.wakes since rest ≡ Some clock → rules.is_ready_at caps x clock since rest ≡ true
 awake_ready caps x clock since (Some (Fresh function arguments)) e = refl
@@ -149,19 +153,23 @@ moves_to g state next clock time is stuck least =
 
 -- ---- the earliest that wakes
 
-later_block : (caps : List ℕ) (x : Exchange) (clock since : ℕ) (block : Block) → table.is_ready caps x clock since block ≡ false → if_later clock (wakes_at since block) ≡ wakes_at since block
-later_block caps x clock since Block.Accept e = refl
-later_block caps x clock since (Block.Wait channel) e = refl
-later_block caps x clock since (Block.Sleep ticks) e =
-    let past : nat_le (since + ticks_of ticks) clock ≡ false = e in
-    let later : nat_lt clock (since + ticks_of ticks) ≡ true = grind (arith, nat_tests, past) in
-    ap (λ (b : Bool). cond b (Some (since + ticks_of ticks)) None) later
-later_block caps x clock since Block.Yield e = refl
-later_block caps x clock since (Block.Take resource amount) e = refl
+-- one that isn't ready wakes later
+past_not : (time clock : ℕ) → nat_le time clock ≡ false → clock < time
+past_not time clock e = grind (arith, nat_tests, e)
 
-pub later_is : (s : Setting) (w : World) (b : Option Blocked) → may_run s w b ≡ false → later_wake w.clock b ≡ waking_time b
-later_is s w None e = absurd (cc)
-later_is s w (Some b) e = later_block s.caps w.exchange w.clock b.since b.block e
+later_by : (ready : Bool) (clock : ℕ) (o : Option ℕ) (time : ℕ) → (ready || is_past clock o) ≡ false → o ≡ Some time → clock < time
+later_by ready clock None time e is = absurd (cc)
+later_by ready clock (Some t) time e is =
+    let same : t ≡ time = cc in
+    subst (λ (n : ℕ). clock < n) same (past_not t clock (not_both ready (nat_le t clock) e).1)
+
+pub later_block : (caps : List ℕ) (x : Exchange) (clock since : ℕ) (block : Block) (time : ℕ) → table.is_ready caps x clock since block ≡ false → wakes_at since block ≡ Some time → clock < time
+later_block caps x clock since block time e is =
+    later_by (blocking_row caps x block).ready clock (wake_of since (blocking_row caps x block).wait) time e (waits_alone caps x since block ∙ is)
+
+pub asleep_is : (s : Setting) (w : World) (b : Option Blocked) → may_run s w b ≡ false → asleep_until s w b ≡ waking_time b
+asleep_is s w None e = absurd (cc)
+asleep_is s w (Some b) e = ap (λ (r : Bool). cond r None (wakes_at b.since b.block)) e
 
 abbrev pub is_time : ℕ → Option ℕ → Bool
 is_time time None = false

@@ -1,5 +1,5 @@
 -- The entries of a segment, from the way to them.
-use Rattle.std.proofs.Common.{◌≡◌, ℕ, ◌-◌, List, length, None, refl, subst}
+use Rattle.std.proofs.Common.{◌≡◌, ℕ, ◌-◌, List, None, refl, subst}
 use Rattle.std.specs.Prelude.{IsSome, slice_get}
 use Rattle.blocking_graph.specs.Nodes.{node_number}
 use Rattle.cap_word.specs.declared.stops.Stop.{Stop}

@@ -13,14 +13,13 @@ use Rattle.lawful_log.specs.Readiness.{is_ready, any_ready, waking_times}
 use Rattle.lawful_log.specs.Setup.{Setup, setting_of}
 use Rattle.lawful_log.specs.State.{State}
 use Rattle.machine_world.specs.Numbered.{IsNumbered}
-use Rattle.machine_world.specs.Runs.{advanced, may_run}
+use Rattle.machine_world.specs.Runs.{advanced, may_run, asleep_until}
 use Rattle.machine_world.specs.StandsForWorld.{StandsForWorld, StandsForRest}
-use Rattle.machine_world.specs.Threads.{Thread, World, first_with, thread_of}
+use Rattle.machine_world.specs.Threads.{Blocked, Thread, World, first_with, thread_of}
 use Rattle.lawful_log.specs.Good.{checked_of}
-use Rattle.lawful_steps.specs.Tests.{later_wake}
 use Rattle.lawful_steps.specs.Waiting.{IsWaiting, AreWaiting}
 use Rattle.lawful_steps.proofs.Any.{any_found, waiter_of}
-use Rattle.lawful_steps.proofs.Clocks.{gives_contains, gives_none, gives_above, all_index, is_time, later_is, contains_later, contains_head, contains_tail, contains_none}
+use Rattle.lawful_steps.proofs.Clocks.{gives_contains, gives_none, gives_above, all_index, is_time, asleep_is, contains_later, contains_head, contains_tail, contains_none}
 use Rattle.lawful_steps.proofs.Kept.{is_some_of}
 use Rattle.lawful_steps.proofs.Lists.{left_true, right_true, not_both}
 use Rattle.lawful_steps.proofs.Same.{alike_rest, ready_alike, wakes_alike}
@@ -72,35 +71,35 @@ map_any f time (u ∷ us) c = ⊎_elim
 
 -- ---- the sleepers
 
-module _ (w : World) (waiting : List Waiter) (numbered : IsNumbered w) (between : w.running ≡ None) (are : AreWaiting w waiting) (clock : ℕ) (h : Waiter → Option ℕ)
-    (same : AllByRecursion (λ x. (v : IsWaiting w x) × (h x ≡ later_wake clock v.thread.blocked)) waiting) where
+module _ (w : World) (waiting : List Waiter) (numbered : IsNumbered w) (between : w.running ≡ None) (are : AreWaiting w waiting) (time_of : Option Blocked → Option ℕ) (h : Waiter → Option ℕ)
+    (same : AllByRecursion (λ x. (v : IsWaiting w x) × (h x ≡ time_of v.thread.blocked)) waiting) where
   abbrev Fits : Waiter → Type 0
-  Fits x = (v : IsWaiting w x) × (h x ≡ later_wake clock v.thread.blocked)
+  Fits x = (v : IsWaiting w x) × (h x ≡ time_of v.thread.blocked)
 
-  pub none_sleeps : All (λ thread. later_wake clock thread.blocked ≡ None) w.threads → filter_map h waiting ≡ []
+  pub none_sleeps : All (λ thread. time_of thread.blocked ≡ None) w.threads → filter_map h waiting ≡ []
   none_sleeps all = gives_none h waiting
       (weakened Fits (λ x. h x ≡ None)
-      (λ x fits. fits.1 ∙ All-contains (λ thread. later_wake clock thread.blocked ≡ None) w.threads fits.0.thread all (found_contains x.thread w.threads fits.0.thread fits.0.live)) waiting same)
+      (λ x fits. fits.1 ∙ All-contains (λ thread. time_of thread.blocked ≡ None) w.threads fits.0.thread all (found_contains x.thread w.threads fits.0.thread fits.0.live)) waiting same)
 
-  pub least_sleeps : (time : ℕ) → Contains (map (λ thread. later_wake clock thread.blocked) w.threads) (Some time) →
-      ((other : ℕ) → Contains (map (λ thread. later_wake clock thread.blocked) w.threads) (Some other) → time ≤ other) → IsLeastOf (filter_map h waiting) time
+  pub least_sleeps : (time : ℕ) → Contains (map (λ thread. time_of thread.blocked) w.threads) (Some time) →
+      ((other : ℕ) → Contains (map (λ thread. time_of thread.blocked) w.threads) (Some other) → time ≤ other) → IsLeastOf (filter_map h waiting) time
   least_sleeps time one least =
-      let f = any_found 0 w.next w.threads (λ thread. is_time time (later_wake clock thread.blocked)) numbered (map_any (λ thread. later_wake clock thread.blocked) time w.threads one) in
+      let f = any_found 0 w.next w.threads (λ thread. is_time time (time_of thread.blocked)) numbered (map_any (λ thread. time_of thread.blocked) time w.threads one) in
       let x = waiter_of Fits waiting f.thread.number same (are.all f.thread.number (λ e. let no : None ≡ Some f.thread.number = sym between ∙ e in absurd (cc)) (is_some_of (thread_of w f.thread.number) f.thread f.found)) in
       let both : Some x.holds.0.thread ≡ Some f.thread = sym x.holds.0.live ∙ ap (λ (n : ℕ). thread_of w n) x.thread_is ∙ f.found in
       let is : x.holds.0.thread ≡ f.thread = cc in
-      let gives : h x.waiter ≡ Some time = x.holds.1 ∙ ap (λ (t : Thread). later_wake clock t.blocked) is ∙ is_time_is time (later_wake clock f.thread.blocked) f.passes in
+      let gives : h x.waiter ≡ Some time = x.holds.1 ∙ ap (λ (t : Thread). time_of t.blocked) is ∙ is_time_is time (time_of f.thread.blocked) f.passes in
       record {
         one = gives_contains h time (λ y. is_time time (h y)) (λ y e. is_time_is time (h y) e) waiting (x.settles (λ y. is_time time (h y)) (time_is time (h x.waiter) gives));
         least = all_index (λ other. time ≤ other) (filter_map h waiting)
             (gives_above h time waiting (weakened Fits (λ y. (t : ℕ) → h y ≡ Some t → time ≤ t)
-            (λ y fits t e. least t (map_contains (λ thread. later_wake clock thread.blocked) y.thread w.threads fits.0.thread (Some t) fits.0.live (sym fits.1 ∙ e))) waiting same));
+            (λ y fits t e. least t (map_contains (λ thread. time_of thread.blocked) y.thread w.threads fits.0.thread (Some t) fits.0.live (sym fits.1 ∙ e))) waiting same));
       }
 
 -- ---- in a state where no thread is ready
 
 fits_state : (g : Setup) (state : State) (clock : ℕ) (x : Waiter) → StandsForWorld (checked_of g) g.program state.machine state.source → (v : IsWaiting state.machine x) → is_ready g state clock x ≡ false →
-    (u : IsWaiting state.machine x) × (rules.wakes x.since (log.rest_of state x.thread) ≡ later_wake clock u.thread.blocked)
+    (u : IsWaiting state.machine x) × (rules.wakes x.since (log.rest_of state x.thread) ≡ asleep_until (setting_of g) (advanced state.machine clock) u.thread.blocked)
 fits_state g state clock x stands v unready =
     let rest : StandsForRest (checked_of g) g.program state.machine.areas.pool (Some v.thread) (log.rest_of state x.thread) =
     subst (λ (o : Option Thread). StandsForRest (checked_of g) g.program state.machine.areas.pool o (log.rest_of state x.thread)) v.live (stands.threads x.thread) in
@@ -108,17 +107,17 @@ fits_state g state clock x stands v unready =
     let waits_still : may_run (setting_of g) (advanced state.machine clock) v.thread.blocked ≡ false =
     ready_alike (setting_of g) (advanced state.machine clock) v.thread.blocked x.since (log.rest_of state x.thread) alike
     ∙ ap (λ (e : Exchange). rules.is_ready_at g.policy.caps e clock x.since (log.rest_of state x.thread)) stands.exchange ∙ unready in
-    (v, sym (wakes_alike v.thread.blocked x.since (log.rest_of state x.thread) alike) ∙ sym (later_is (setting_of g) (advanced state.machine clock) v.thread.blocked waits_still))
+    (v, sym (wakes_alike v.thread.blocked x.since (log.rest_of state x.thread) alike) ∙ sym (asleep_is (setting_of g) (advanced state.machine clock) v.thread.blocked waits_still))
 
 module _ (g : Setup) (state : State) (clock : ℕ) (numbered : IsNumbered state.machine) (stands : StandsForWorld (checked_of g) g.program state.machine state.source) (are : AreWaiting state.machine state.waiting)
     (unready : any_ready g state clock ≡ false) where
-  fitting : AllByRecursion (λ x. (v : IsWaiting state.machine x) × (rules.wakes x.since (log.rest_of state x.thread) ≡ later_wake clock v.thread.blocked)) state.waiting
-  fitting = zipped (IsWaiting state.machine) (λ x. is_ready g state clock x ≡ false) (λ x. (v : IsWaiting state.machine x) × (rules.wakes x.since (log.rest_of state x.thread) ≡ later_wake clock v.thread.blocked))
+  fitting : AllByRecursion (λ x. (v : IsWaiting state.machine x) × (rules.wakes x.since (log.rest_of state x.thread) ≡ asleep_until (setting_of g) (advanced state.machine clock) v.thread.blocked)) state.waiting
+  fitting = zipped (IsWaiting state.machine) (λ x. is_ready g state clock x ≡ false) (λ x. (v : IsWaiting state.machine x) × (rules.wakes x.since (log.rest_of state x.thread) ≡ asleep_until (setting_of g) (advanced state.machine clock) v.thread.blocked))
       (λ x v e. fits_state g state clock x stands v e) state.waiting are.each (all_false (is_ready g state clock) state.waiting unready)
 
-  pub none_wakes : All (λ thread. later_wake clock thread.blocked ≡ None) state.machine.threads → waking_times state ≡ []
-  none_wakes all = none_sleeps state.machine state.waiting numbered stands.between are clock (λ x. rules.wakes x.since (log.rest_of state x.thread)) fitting all
+  pub none_wakes : All (λ thread. asleep_until (setting_of g) (advanced state.machine clock) thread.blocked ≡ None) state.machine.threads → waking_times state ≡ []
+  none_wakes all = none_sleeps state.machine state.waiting numbered stands.between are (asleep_until (setting_of g) (advanced state.machine clock)) (λ x. rules.wakes x.since (log.rest_of state x.thread)) fitting all
 
-  pub least_wakes : (time : ℕ) → Contains (map (λ thread. later_wake clock thread.blocked) state.machine.threads) (Some time) →
-      ((other : ℕ) → Contains (map (λ thread. later_wake clock thread.blocked) state.machine.threads) (Some other) → time ≤ other) → IsLeastOf (waking_times state) time
-  least_wakes time one least = least_sleeps state.machine state.waiting numbered stands.between are clock (λ x. rules.wakes x.since (log.rest_of state x.thread)) fitting time one least
+  pub least_wakes : (time : ℕ) → Contains (map (λ thread. asleep_until (setting_of g) (advanced state.machine clock) thread.blocked) state.machine.threads) (Some time) →
+      ((other : ℕ) → Contains (map (λ thread. asleep_until (setting_of g) (advanced state.machine clock) thread.blocked) state.machine.threads) (Some other) → time ≤ other) → IsLeastOf (waking_times state) time
+  least_wakes time one least = least_sleeps state.machine state.waiting numbered stands.between are (asleep_until (setting_of g) (advanced state.machine clock)) (λ x. rules.wakes x.since (log.rest_of state x.thread)) fitting time one least

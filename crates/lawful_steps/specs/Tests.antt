@@ -1,5 +1,5 @@
 -- What is asked of a thread of the machine: whether it is blocked at `accept`, and when it wakes.
-use Rattle.std.specs.Prelude.{ℕ, Bool, false, Option, Some, None, if◌then◌else◌, nat_lt}
+use Rattle.std.specs.Prelude.{ℕ, Bool, false, Option, Some, None}
 use Rattle.c_mean.specs.ModelledCalls.{wakes_at}
 use Rattle.choice_rules.specs.Readiness.{is_accept}
 use Rattle.machine_world.specs.Threads.{Blocked}
@@ -8,16 +8,7 @@ abbrev pub is_blocked_at_accept : Option Blocked → Bool
 is_blocked_at_accept None = false
 is_blocked_at_accept (Some blocked) = is_accept blocked.block
 
--- the clock at which it wakes, if it sleeps
+-- the clock at which it wakes whatever happens, if there is one
 abbrev pub waking_time : Option Blocked → Option ℕ
 waking_time None = None
 waking_time (Some blocked) = wakes_at blocked.since blocked.block
-
-abbrev pub if_later : ℕ → Option ℕ → Option ℕ
-if_later clock None = None
-if_later clock (Some time) = if nat_lt clock time then Some time else None
-
--- the same, if it is still to come
-abbrev pub later_wake : ℕ → Option Blocked → Option ℕ
-later_wake clock None = None
-later_wake clock (Some blocked) = if_later clock (wakes_at blocked.since blocked.block)

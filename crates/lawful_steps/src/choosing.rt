@@ -11,10 +11,10 @@ ghost use Rattle.lawful_log.specs.Readiness.{any_elsewhere, any_ready, at_accept
 ghost use Rattle.lawful_log.specs.Setup.{Setup, setting_of};
 ghost use Rattle.lawful_log.specs.State.{State};
 ghost use Rattle.lawful_steps.specs.Beside.{HasLasts, IsChosen};
-ghost use Rattle.lawful_steps.specs.Tests.{is_blocked_at_accept, later_wake};
+ghost use Rattle.lawful_steps.specs.Tests.{is_blocked_at_accept};
 ghost use Rattle.lawful_steps.specs.Waiting.{AreQueued, AreWaiting, IsPlaced, IsWaiting};
 ghost use Rattle.machine_world.specs.Numbered.{IsNumbered};
-ghost use Rattle.machine_world.specs.Runs.{advanced, may_run};
+ghost use Rattle.machine_world.specs.Runs.{advanced, asleep_until, may_run};
 ghost use Rattle.machine_world.specs.StandsForWorld.{StandsForWorld};
 ghost use Rattle.resource_monitor.specs.Monitor.{MonitorState};
 ghost use Rattle.scheduler.specs.LawfulChoice.{IsLawfulChoice, is_eligible};
@@ -30,10 +30,10 @@ pub fn choice_laws()
     ensures elsewhere { (g : Setup) (state : State) (clock : ℕ) → IsNumbered state.machine → StandsForWorld (checked_of g) g.program state.machine state.source → AreWaiting state.machine state.waiting →
         list_any (λ thread. may_run (setting_of g) (advanced state.machine clock) thread.blocked && not (is_blocked_at_accept thread.blocked)) state.machine.threads ≡ any_elsewhere g state clock }
     ensures none_wakes { (g : Setup) (state : State) (clock : ℕ) → IsNumbered state.machine → StandsForWorld (checked_of g) g.program state.machine state.source → AreWaiting state.machine state.waiting →
-        any_ready g state clock ≡ false → All (λ thread. later_wake clock thread.blocked ≡ None) state.machine.threads → waking_times state ≡ [] }
+        any_ready g state clock ≡ false → All (λ thread. asleep_until (setting_of g) (advanced state.machine clock) thread.blocked ≡ None) state.machine.threads → waking_times state ≡ [] }
     ensures least_wakes { (g : Setup) (state : State) (clock : ℕ) → IsNumbered state.machine → StandsForWorld (checked_of g) g.program state.machine state.source → AreWaiting state.machine state.waiting →
-        any_ready g state clock ≡ false → (time : ℕ) → Contains (map (λ thread. later_wake clock thread.blocked) state.machine.threads) (Some time) →
-        ((other : ℕ) → Contains (map (λ thread. later_wake clock thread.blocked) state.machine.threads) (Some other) → time ≤ other) → IsLeastOf (waking_times state) time }
+        any_ready g state clock ≡ false → (time : ℕ) → Contains (map (λ thread. asleep_until (setting_of g) (advanced state.machine clock) thread.blocked) state.machine.threads) (Some time) →
+        ((other : ℕ) → Contains (map (λ thread. asleep_until (setting_of g) (advanced state.machine clock) thread.blocked) state.machine.threads) (Some other) → time ≤ other) → IsLeastOf (waking_times state) time }
     ensures choice { (g : Setup) (state : State) (clock : ℕ) (places : List (Option ℕ)) (scheduler : SchedulerState) (ready accept : ThreadId → Bool) (monitor : MonitorState) →
         g.policy.rule ≡ by_graph → IsNumbered state.machine → StandsForWorld (checked_of g) g.program state.machine state.source → AreWaiting state.machine state.waiting → AreQueued places scheduler state.waiting → HasLasts scheduler state.past →
         ((t : ThreadId) (x : Waiter) → t.number ≡ x.thread → IsPlaced places t → (v : IsWaiting state.machine x) → ready t ≡ may_run (setting_of g) (advanced state.machine clock) v.thread.blocked) →

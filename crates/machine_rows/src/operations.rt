@@ -154,7 +154,7 @@ const ASKS: [(&[u8], Ask, u32, u64); 3] = [
 ];
 
 // A source with a call that blocks, the call, and the instructions up to and with it.
-const BLOCKS: [(&[u8], Block, u64); 5] = [
+const BLOCKS: [(&[u8], Block, u64); 6] = [
     (
         b"int main() { int c; c = accept(); put(c); return 0; }",
         Block::Accept,
@@ -178,6 +178,14 @@ const BLOCKS: [(&[u8], Block, u64); 5] = [
             amount: 2,
         },
         12,
+    ),
+    (
+        b"int main() { int x; x = waitfor(0, 50); put(x); return 0; }",
+        Block::WaitFor {
+            channel: 0,
+            ticks: 50,
+        },
+        15,
     ),
 ];
 

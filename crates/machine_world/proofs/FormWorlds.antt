@@ -1,6 +1,6 @@
 -- Every world of a run is well formed: at the start, after each step, and after each action.
-use Rattle.std.proofs.Common.{◌≡◌, ℕ, ◌+◌, ◌^◌, ◌<◌, ◌≤◌, nat_eq, not, List, [], ◌∷◌, ◌++◌, length, set, Option, Some, None, refl, sym, subst, ◌∙◌, arith, lit<, ⊎_elim}
-use Rattle.std.specs.Prelude.{IfSome, nat_le, ◌&&◌}
+use Rattle.std.proofs.Common.{◌≡◌, ℕ, ◌+◌, ◌^◌, ◌<◌, ◌≤◌, nat_eq, Bool, true, false, not, List, [], ◌∷◌, ◌++◌, length, set, Option, Some, None, refl, sym, subst, ◌∙◌, arith, lit<, ⊎_elim}
+use Rattle.std.specs.Prelude.{IfSome, nat_le, ◌&&◌, if◌then◌else◌}
 use Rattle.std.specs.List.{AllByRecursion}
 use Rattle.std.proofs.lemmas.Bool.{cond_both, cases_eq, cases_lt, cond-true, cond-false, eq-eqb, ne_eqb, eqb-false}
 use Rattle.std.proofs.lemmas.List.{length-set, get_or_past}
@@ -11,7 +11,7 @@ use Rattle.cap_word.specs.declared.calls.Ask.{Ask}
 use Rattle.cap_word.specs.declared.calls.Block.{Block}
 use Rattle.cap_word.specs.declared.stops.Stop.{Stop}
 use Rattle.cap_word.specs.declared.traps.TrapKind.{TrapKind}
-use Rattle.c_mean.specs.ModelledCalls.{Exchange, channel_of, blocking_row, immediate_row, Delivery, Arrival, Message, is_dropped, with_delivery}
+use Rattle.c_mean.specs.ModelledCalls.{Exchange, channel_of, holds_some, blocking_row, immediate_row, Delivery, Arrival, Message, is_dropped, with_delivery}
 use Rattle.c_mean.specs.World.{empty_exchange}
 use Rattle.chunk_pool.specs.Pool.{Pool, Taken, taken_for, end_of, payload_place_of, IsPool}
 use Rattle.machine_world.specs.Areas.{Areas}
@@ -114,6 +114,10 @@ record IsResumed (after : Exchange) (result : Option ℕ) : Type 0 where
   exchange : IsExchange after
   result_below : IfSome result (λ value. value < 2 ^ 32)
 
+one_or_none-below : (b : Bool) → (if b then 1 else 0) < 2 ^ 32
+one_or_none-below true = omega arith
+one_or_none-below false = omega arith
+
 IsResumed-blocking : (caps : List ℕ) (x : Exchange) (block : Block) → IsExchange x → IsResumed (blocking_row caps x block).after (result_on block (blocking_row caps x block).result)
 IsResumed-blocking caps x Block.Accept is = record {
   exchange = IsExchange-arrivals x _ is (All-drop (λ (v : ℕ). v < 2 ^ 32) 1 x.arrivals is.arrivals);
@@ -126,6 +130,7 @@ IsResumed-blocking caps x (Block.Wait channel) is = record {
 IsResumed-blocking caps x (Block.Sleep ticks) is = record { exchange = is; result_below = tt }
 IsResumed-blocking caps x Block.Yield is = record { exchange = is; result_below = tt }
 IsResumed-blocking caps x (Block.Take resource amount) is = record { exchange = IsExchange-use x resource _ is; result_below = tt }
+IsResumed-blocking caps x (Block.WaitFor channel ticks) is = record { exchange = is; result_below = one_or_none-below (holds_some (channel_of x channel)) }
 
 IsResumed-immediate : (caps : List ℕ) (x : Exchange) (number next : ℕ) (ask : Ask) → IsExchange x → number < 2 ^ 32 → next < 2 ^ 32 → IsResumed (immediate_row caps x number next ask).after (result_of ask (immediate_row caps x number next ask).result)
 IsResumed-immediate caps x number next (Ask.Put value) is n m = record { exchange = is; result_below = tt }

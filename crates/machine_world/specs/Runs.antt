@@ -1,7 +1,7 @@
 -- Runs of the machine world: what comes from outside, the choice of a thread, and steps, one action after another.
 use Rattle.std.specs.Prelude.{ℕ, zero, suc, Bool, true, ◌&&◌, List, [], ◌∷◌, Option, Some, None, is_none, if◌then◌else◌, nat_le}
 use Rattle.cap_word.specs.declared.calls.Block.{Block}
-use Rattle.c_mean.specs.ModelledCalls.{BlockingRow, blocking_row, is_ready, Delivery, is_dropped, with_delivery}
+use Rattle.c_mean.specs.ModelledCalls.{BlockingRow, blocking_row, is_ready, sleeps_until, Delivery, is_dropped, with_delivery}
 use Rattle.c_mean.specs.World.{empty_exchange}
 use Rattle.chunk_pool.specs.Pool.{Taken, taken_for}
 use Rattle.machine_world.specs.Areas.{Areas}
@@ -59,6 +59,11 @@ picked_at s w thread (Some blocked) = picked_row w thread blocked.block (blockin
 abbrev pub may_run : Setting → World → Option Blocked → Bool
 may_run s w None = true
 may_run s w (Some blocked) = is_ready s.caps w.exchange w.clock blocked.since blocked.block
+
+-- the clock until which a thread sleeps: none where it may run, or where no time makes it so
+abbrev pub asleep_until : Setting → World → Option Blocked → Option ℕ
+asleep_until s w None = None
+asleep_until s w (Some blocked) = sleeps_until s.caps w.exchange w.clock blocked.since blocked.block
 
 abbrev pub picked : Setting → World → Option Thread → Option World
 picked s w None = None

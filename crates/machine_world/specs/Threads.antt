@@ -135,6 +135,7 @@ result_on (Block.Wait channel) result = Some result
 result_on (Block.Sleep ticks) result = None
 result_on Block.Yield result = None
 result_on (Block.Take resource amount) result = None
+result_on (Block.WaitFor channel ticks) result = Some result
 
 abbrev pub printed : Option ℕ → World → Move
 printed None after = Goes after

@@ -3,9 +3,11 @@ use Rattle.std.proofs.Common.{◌≡◌, ◌≢◌, ℕ, ◌&&◌, ◌||◌, ◌
 use Rattle.std.specs.Prelude.{IsSome, IsTrue, filter}
 use Rattle.std.specs.List.{AllByRecursion, list_any}
 use Rattle.std.proofs.lemmas.Bool.{cases_eq, cond-true, cond-false, eq-eqb, eqb-true}
-use Rattle.choice_rules.specs.Policy.{Rule, by_graph}
+use Rattle.choice_rules.specs.Policy.{Rule, by_graph, by_stride}
 use Rattle.choice_rules.specs.Seen.{last_choice, Waiter}
-use Rattle.choice_rules.proofs.Rules.{lawful_by_graph}
+use Rattle.choice_rules.specs.Strides.{pass_of}
+use Rattle.choice_rules.proofs.Rules.{lawful_by_graph, lawful_by_stride}
+use Rattle.choice_rules.proofs.Strides as strides
 use Rattle.lawful_log.specs.Choice.{IsLawful, is_eligible, is_open, score_of}
 use Rattle.lawful_log.specs.Readiness.{is_ready, at_accept, any_ready, any_elsewhere}
 use Rattle.lawful_log.specs.Setup.{Setup}
@@ -182,8 +184,19 @@ module _ (g : Setup) (state : State) (clock : ℕ) where
         holds = first.holds;
       }
 
+  stride_choice : (tickets : List (ℕ × ℕ)) (P : Waiter → Type 0) → g.policy.rule ≡ by_stride tickets → AllByRecursion P state.waiting → any_ready g state clock ≡ true → Chosen P
+  stride_choice tickets P rule_is all ready =
+      let f = strides.first_of test (pass_of tickets state.past.taken) state.waiting (some_eligible ready) in
+      record {
+        waiter = f.first;
+        lawful = lawful_by_stride tickets g.policy (seen_of state) clock f.first rule_is (record { first = f.found; least = f.behind });
+        ready = left_of (is_ready g state clock f.first) _ f.passes;
+        holds = strides.all_found P _ state.waiting f.first all f.found;
+      }
+
   choice_by : (rule : Rule) → g.policy.rule ≡ rule → (P : Waiter → Type 0) → AllByRecursion P state.waiting → any_ready g state clock ≡ true → Chosen P
   choice_by by_graph e P all ready = graph_choice P e all ready
+  choice_by (by_stride tickets) e P all ready = stride_choice tickets P e all ready
 
   pub lawful_choice : (P : Waiter → Type 0) → AllByRecursion P state.waiting → any_ready g state clock ≡ true → Chosen P
   lawful_choice P all ready = choice_by g.policy.rule refl P all ready

@@ -3,9 +3,7 @@ use Rattle.std.proofs.Common.{◌≡◌, ℕ, zero, suc, ◌+◌, ◌≤◌, ◌
 use Rattle.std.specs.Prelude.{Contains, nat_le}
 use Rattle.std.specs.List.{AllByRecursion}
 use Rattle.std.proofs.lemmas.Bool.Decides.{nat_tests}
-use Rattle.cap_word.specs.declared.calls.Block.{Block}
-use Rattle.c_mean.specs.ModelledCalls as table
-use Rattle.c_mean.specs.ModelledCalls.{Exchange, wakes_at, ticks_of}
+use Rattle.c_mean.specs.ModelledCalls.{Exchange}
 use Rattle.c_mean.specs.World.{Rest, Fresh, Blocked as Blocks, Ended}
 use Rattle.event_trace.specs.declared.events.Event.{Event}
 use Rattle.choice_rules.specs.Readiness as rules
@@ -15,7 +13,7 @@ use Rattle.lawful_log.specs.Readiness.{is_ready, any_ready, waking_times}
 use Rattle.lawful_log.specs.Setup.{Setup}
 use Rattle.lawful_log.specs.State.{State}
 use Rattle.lawful_steps.specs.Clocks.{goes_on}
-use Rattle.lawful_steps.proofs.Clocks.{contains_head, contains_later, all_index, gives_above}
+use Rattle.lawful_steps.proofs.Clocks.{contains_head, contains_later, all_index, gives_above, later_block}
 use Rattle.lawful_steps.proofs.Lists.{not_both}
 use Rattle.lawful_steps.proofs.Wakes.{all_false, weakened}
 
@@ -48,19 +46,9 @@ is_least times l = record { one = l.one; least = all_index (λ other. l.time ≤
 
 -- ---- the times are to come
 
-later_block : (caps : List ℕ) (x : Exchange) (clock since : ℕ) (block : Block) (t : ℕ) → table.is_ready caps x clock since block ≡ false → wakes_at since block ≡ Some t → clock ≤ t
-later_block caps x clock since Block.Accept t e w = absurd (let no : None ≡ Some t = w in cc)
-later_block caps x clock since (Block.Wait channel) t e w = absurd (let no : None ≡ Some t = w in cc)
-later_block caps x clock since (Block.Sleep ticks) t e w =
-    let is : since + ticks_of ticks ≡ t = cc in
-    let past : nat_le (since + ticks_of ticks) clock ≡ false = e in
-    grind (arith, nat_tests, past, is)
-later_block caps x clock since Block.Yield t e w = absurd (let no : None ≡ Some t = w in cc)
-later_block caps x clock since (Block.Take resource amount) t e w = absurd (let no : None ≡ Some t = w in cc)
-
 later_rest : (caps : List ℕ) (x : Exchange) (clock since : ℕ) (rest : Option Rest) (t : ℕ) → rules.is_ready_at caps x clock since rest ≡ false → rules.wakes since rest ≡ Some t → clock ≤ t
 later_rest caps x clock since (Some (Fresh function arguments)) t e w = absurd (let no : None ≡ Some t = w in cc)
-later_rest caps x clock since (Some (Blocks block waiting)) t e w = later_block caps x clock since block t e w
+later_rest caps x clock since (Some (Blocks block waiting)) t e w = let later = later_block caps x clock since block t e w in omega (arith, later)
 later_rest caps x clock since (Some Ended) t e w = absurd (let no : None ≡ Some t = w in cc)
 later_rest caps x clock since None t e w = absurd (let no : None ≡ Some t = w in cc)
 

@@ -56,6 +56,11 @@ Kind at 26: int a; int main() { spawn(a, 1); return 0; }
 Kind at 34: void w(int n) {} int main() { put(w); return 0; }
 Kind at 4: int main(int x) { return 0; }
 Kind at 4: int put; int main() { return 0; }
+Kind at 4: int waitfor; int main() { return 0; }
+Kind at 17: int main() { int waitfor; return 0; }
+Arity at 20: int main() { return waitfor(0); }
+program: int main() { return waitfor(0, 5); }
+program: int main() { int wait_for; waitfor(0, 5); return 0; }
 Kind at 4: int a[0]; int main() { return 0; }
 Kind at 11: void f() { return 1; } int main() { return 0; }
 Kind at 13: int main() { break; return 0; }
@@ -94,7 +99,7 @@ pub(crate) fn tells(alloc: Global, source: &[u8], want: &str) -> bool {
 #[test]
 fn the_first_reader_refuses_and_the_rules_of_scope(rt: HostRuntime) {
     let mut rows = ROWS;
-    for _ in 0..54 {
+    for _ in 0..59 {
         let (row, after) = first_line(rows);
         let (want, source) = wanted(row);
         assert!(rt; tells(rt.alloc(), source.as_bytes(), want), "{row}");

@@ -232,6 +232,7 @@ fn modelled_calls_have_numbers(rt: HostRuntime) {
         (ModelledCall::Sleep, 18),
         (ModelledCall::Yield, 19),
         (ModelledCall::Take, 20),
+        (ModelledCall::WaitFor, 21),
     ];
     for (call, number) in rows {
         assert!(rt; call.number() == number, "{number}");

@@ -2,7 +2,7 @@
 use Rattle.std.specs.Prelude.{ℕ, ◌≡◌, ◌<◌, ◌≤◌, Bool, true, IsTrue, List, length, replicate, slice_index, slice_index_or}
 use Rattle.resource_monitor.specs.declared.curves.Curve.{Curve}
 use Rattle.resource_monitor.specs.declared.curves.Curve.TheVariants.{Linear}
-use Rattle.resource_monitor.specs.Pressure.{pressure}
+use Rattle.resource_monitor.specs.Pressure.{pressure, IsInRange}
 
 -- of the eight resources the curves of their gauges and the caps, the two bounds of the gate, the last uses observed
 -- and the gate
@@ -30,14 +30,19 @@ NoneAbove uses bounds = (resource : ℕ) → resource < 8 → slice_index uses r
 abbrev pub SmallCaps : List ℕ → Type 0
 SmallCaps caps = (resource : ℕ) → resource < 8 → slice_index caps resource ≤ 1000000
 
+-- the curves of the eight gauges are in their ranges
+abbrev pub AreInRange : List Curve → Type 0
+AreInRange curves = (resource : ℕ) → resource < 8 → IsInRange (curve_at curves resource)
+
 -- a monitor to begin with: nothing in use, and the gate open
 abbrev pub started : List Curve → List ℕ → ℕ → ℕ → MonitorState
 started curves caps high low = record { curves = curves; caps = caps; high = high; low = low; uses = replicate 8 0; is_open = true }
 
--- what a monitor keeps: eight curves, eight caps of at most 1,000,000, eight uses within them, bounds of the gate
+-- what a monitor keeps: eight curves in their ranges, eight caps of at most 1,000,000, eight uses within them, bounds of the gate
 -- from 0 to 1000, and an open gate only where no pressure is at its upper bound
 pub record IsMonitor (monitor : MonitorState) : Type 0 where
   pub eight_curves : length monitor.curves ≡ 8
+  pub in_range : AreInRange monitor.curves
   pub eight_caps : length monitor.caps ≡ 8
   pub eight_uses : length monitor.uses ≡ 8
   pub small_caps : SmallCaps monitor.caps

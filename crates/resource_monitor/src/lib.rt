@@ -11,10 +11,12 @@
 mod curves;
 mod gate;
 mod gauges;
+mod laws;
 mod measures;
 mod monitor;
 
 pub use curves::Curve;
 pub use gauges::Gauge;
+pub use laws::knee_0_is_linear;
 pub use measures::Measure;
 pub use monitor::Monitor;

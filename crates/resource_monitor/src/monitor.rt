@@ -1,7 +1,7 @@
 ghost use Rattle.std.specs.Prelude.{◌≡◌, ◌≤◌, ◌<◌, ℕ, true, IsTrue, length, replicate, slice_index, vec_len};
 ghost use Rattle.resource_monitor.specs.Gate.{gate_after};
 ghost use Rattle.resource_monitor.specs.Pressure.{pressures};
-ghost use Rattle.resource_monitor.specs.Monitor.{NoneAbove, SmallCaps, pressure_at, started};
+ghost use Rattle.resource_monitor.specs.Monitor.{AreInRange, NoneAbove, SmallCaps, pressure_at, started};
 
 use crate::gate::is_open_after;
 use crate::gauges::Gauge;
@@ -40,6 +40,7 @@ impl<C: Measure> Monitor<C> {
         requires most { high ≤ 1000 }
         ensures { result ≡ started gauges.items caps high low }
     {
+        know_ranges(gauges.as_slice());
         Monitor {
             gauges,
             caps,
@@ -77,6 +78,16 @@ impl<C: Measure> Monitor<C> {
         ensures { result ≡ self.now.is_open }
     {
         self.is_open
+    }
+}
+
+/// Looks at each gauge's curve, of which the gauge keeps that it is in its range.
+fn know_ranges<C: Measure>(gauges: &[Gauge<C>])
+    requires { length gauges.now ≡ 8 }
+    ensures { AreInRange gauges.now }
+{
+    for place in 0..8usize {
+        gauges[place].curve();
     }
 }
 

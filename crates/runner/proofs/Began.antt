@@ -1,24 +1,19 @@
 -- The choice of a thread, and the beginning of its segment.
-use Rattle.std.proofs.Common.{◌≡◌, ◌≢◌, ℕ, suc, ◌+◌, Bool, true, false, nat_eq, List, [], length, Option, Some, find, refl, sym, ap, ◌∙◌, subst, arith, ⊎_elim}
-use Rattle.std.proofs.lemmas.Bool.{cases_eq, cond-true, cond-false, eq-eqb, ne_eqb}
+use Rattle.std.proofs.Common.{◌≡◌, ◌≢◌, ℕ, suc, ◌+◌, Bool, true, false, List, [], length, Option, Some, refl, sym, ap, ◌∙◌, subst, arith, le_refl}
 use Rattle.blocking_graph.specs.Edges.{edges_of}
 use Rattle.blocking_graph.specs.declared.edges.EdgeLine.{EdgeLine}
 use Rattle.event_trace.specs.declared.events.Event.{Event}
 use Rattle.choice_rules.specs.Policy.{all_caps}
 use Rattle.choice_rules.specs.Trace.{IsNext}
-use Rattle.choice_rules.specs.Seen.{last_choice}
 use Rattle.choice_rules.specs.Clock.{is_due}
-use Rattle.choice_rules.proofs.Rules.{graph_choice_of}
-use Rattle.lawful_log.specs.Choice.{IsRun, is_eligible as eligible_waiter, monitor_of, queue_at}
+use Rattle.lawful_log.specs.Choice.{IsRun, monitor_of}
 use Rattle.lawful_log.specs.Good.{checked_of}
 use Rattle.lawful_log.specs.Readiness.{any_ready, any_elsewhere}
 use Rattle.lawful_log.specs.Setup.{Setup, setting_of}
-use Rattle.lawful_log.specs.State.{Segment, State, seen_of, uses_of}
-use Rattle.lawful_steps.specs.Beside.{HasLasts, IsChosenAs, IsChosen}
-use Rattle.lawful_steps.specs.Waiting.{AreQueued}
+use Rattle.lawful_log.specs.State.{Segment, State, uses_of}
+use Rattle.lawful_steps.specs.Beside.{IsChosenAs, IsChosen}
 use Rattle.lawful_steps.specs.Within.{IsBetween, IsWithin}
 use Rattle.lawful_steps.proofs.Between.{run_state, run_segment, run_allowed, within_run}
-use Rattle.lawful_steps.proofs.Told.{choice_told}
 use Rattle.lawful_steps.proofs.Within.{still_waiting}
 use Rattle.machine_world.specs.Runs.{Pick, after_action}
 use Rattle.machine_world.specs.Threads.{World, Setting, step}
@@ -26,9 +21,10 @@ use Rattle.resource_monitor.specs.Gate.{gate_after}
 use Rattle.resource_monitor.specs.Monitor.{MonitorState, NoneAbove}
 use Rattle.resource_monitor.specs.Pressure.{pressures}
 use Rattle.resource_monitor.specs.declared.curves.Curve.{Curve}
-use Rattle.scheduler.specs.LawfulChoice.{is_eligible, IsLawfulChoice}
+use Rattle.rule_state.specs.Rules.{HasTaken, IsLawfulOf, IsUnderWay, noted_of}
+use Rattle.rule_state.specs.declared.rules.RuleState.{RuleState}
+use Rattle.scheduler.specs.LawfulChoice.{is_eligible}
 use Rattle.scheduler.specs.Scores.{score}
-use Rattle.scheduler.specs.State.{SchedulerState, queue_of, last_of, IsNoted}
 use Rattle.scheduler.specs.declared.choices.Choice.{Choice}
 use Rattle.thread_core.specs.Ready.{is_ready_in, is_at_accept_in, any_ready_in, any_elsewhere_in}
 use Rattle.thread_core.specs.Turns.{Tells, Begins, KeepsSetting}
@@ -37,9 +33,12 @@ use Rattle.thread_core.specs.Worlds.{Held, KeepsPlaces}
 use Rattle.thread_core.specs.declared.turns.Turn.{Turn}
 use Rattle.world_source.specs.Reached.{IsReached}
 use Rattle.runner.specs.Kept.{Kept, known}
+use Rattle.lawful_steps.proofs.Picked.{is_picked}
+use Rattle.cap_word.specs.declared.threads.ThreadId.{ThreadId}
+use Rattle.runner.specs.Rules.{AreKeptBeside, HasAccounts}
+use Rattle.runner.proofs.Rules.{accounts_taken, kept_beside, kept_taken, noted_taken, rule_choice_told, told_along, told_picked, told_taken}
 use Rattle.runner.specs.Stands.{StandsBetween, StandsWithin, StepsAsSource}
-use Rattle.runner.proofs.Going.{Along, along, queues_kept}
-use Rattle.runner.proofs.Left.{queued_left}
+use Rattle.runner.proofs.Going.{Along, along}
 use Rattle.runner.proofs.Ready.{ready_told, accept_told, any_ready_told, any_elsewhere_told}
 use Rattle.runner.proofs.Times.{timely_picked, timely_turn}
 use Rattle.runner.proofs.Turned.{of_kept, told_live}
@@ -68,23 +67,23 @@ module _ (g : Setup) (state : State) (k : Kept) (held : Held) (left : Option (Li
   some_ready = sym (any_ready_told g state held (Some next) between stands.of.setting) ∙ ready
 
   abbrev pub Lawful : Option Choice → Type 0
-  Lawful o = IsLawfulChoice (queue_of k.scheduler) (is_eligible (is_ready_in held) (is_at_accept_in held) (any_elsewhere_in held) (observed k.monitor uses).is_open) (score (observed k.monitor uses) k.graph.edges) (last_of k.scheduler) o
+  Lawful o = IsLawfulOf k.rule (is_eligible (is_ready_in held) (is_at_accept_in held) (any_elsewhere_in held) (observed k.monitor uses).is_open) (score (observed k.monitor uses) k.graph.edges) o
 
-  lawful_now : (o : Option Choice) → Lawful o → IsLawfulChoice (queue_of k.scheduler) (is_eligible (is_ready_in held) (is_at_accept_in held) (any_elsewhere g state held.machine.clock) (observed k.monitor uses).is_open)
-      (score (observed k.monitor uses) (edges_of state.past.records)) (last_of k.scheduler) o
+  lawful_now : (o : Option Choice) → Lawful o → IsLawfulOf k.rule (is_eligible (is_ready_in held) (is_at_accept_in held) (any_elsewhere g state held.machine.clock) (observed k.monitor uses).is_open)
+      (score (observed k.monitor uses) (edges_of state.past.records)) o
   lawful_now o lawful =
-      subst (λ (es : List EdgeLine). IsLawfulChoice (queue_of k.scheduler) (is_eligible (is_ready_in held) (is_at_accept_in held) (any_elsewhere g state held.machine.clock) (observed k.monitor uses).is_open)
-      (score (observed k.monitor uses) es) (last_of k.scheduler) o) stands.past.graph_is.edges
-      (subst (λ (b : Bool). IsLawfulChoice (queue_of k.scheduler) (is_eligible (is_ready_in held) (is_at_accept_in held) b (observed k.monitor uses).is_open)
-      (score (observed k.monitor uses) k.graph.edges) (last_of k.scheduler) o) (any_elsewhere_told g state held (Some next) between stands.of.setting) lawful)
+      subst (λ (es : List EdgeLine). IsLawfulOf k.rule (is_eligible (is_ready_in held) (is_at_accept_in held) (any_elsewhere g state held.machine.clock) (observed k.monitor uses).is_open)
+      (score (observed k.monitor uses) es) o) stands.past.graph_is.edges
+      (subst (λ (b : Bool). IsLawfulOf k.rule (is_eligible (is_ready_in held) (is_at_accept_in held) b (observed k.monitor uses).is_open)
+      (score (observed k.monitor uses) k.graph.edges) o) (any_elsewhere_told g state held (Some next) between stands.of.setting) lawful)
 
   pub chosen_as : (o : Option Choice) → Lawful o → IsChosen g state held.machine.clock held.places o
-  chosen_as o lawful = choice_told g state held.machine.clock held.places k.scheduler (is_ready_in held) (is_at_accept_in held) (observed k.monitor uses) stands.of.rule between.formed.counted.numbered between.stands between.threads stands.queued stands.past.lasts
+  chosen_as o lawful = rule_choice_told g state held.machine.clock held.places between.formed.counted.numbered between.stands between.threads k.rule (is_ready_in held) (is_at_accept_in held) (observed k.monitor uses) stands.past.accounts stands.kept
       (ready_told g state held (Some next) between stands.of.setting) (accept_told g state held (Some next) between stands.of.setting) monitor_is some_ready o (lawful_now o lawful)
 
   -- ---- its segment begins
 
-  module _ (choice : Choice) (lawful : Lawful (Some choice)) (scheduler : SchedulerState) (noted : IsNoted k.scheduler scheduler choice) (new : Held) (keeps : KeepsSetting held new) (places : KeepsPlaces held new) (turn : Turn) (did : Begins held choice.thread.number turn new)
+  module _ (choice : Choice) (lawful : Lawful (Some choice)) (rule : RuleState) (taken : HasTaken k.rule rule (is_eligible (is_ready_in held) (is_at_accept_in held) (any_elsewhere_in held) (observed k.monitor uses).is_open) choice) (under_way : IsUnderWay rule choice.thread) (new : Held) (keeps : KeepsSetting held new) (places : KeepsPlaces held new) (turn : Turn) (did : Begins held choice.thread.number turn new)
       (picks_law : (number : ℕ) (after : World) → after_action (setting_of g) held.machine (Pick number) ≡ Some after → IsReached (checked_of g) g.program (setting_of g) state.source number [] after)
       (law : (number : ℕ) → StepsAsSource g state number) where
     pub chosen : IsChosenAs g state held.machine.clock held.places choice
@@ -106,6 +105,9 @@ module _ (g : Setup) (state : State) (k : Kept) (held : Held) (left : Option (Li
         (subst (λ (n : ℕ). IsRun g state held.machine.clock chosen.waiter.thread n began_state) (sym chosen.node_is)
         (run_allowed g state next held.machine between chosen.waiter did.picked picks_now live next_is due some_ready chosen.lawful))
 
+    within_picked : IsWithin g began_state began_segment held.machine.cost did.picked began_state.waiting
+    within_picked = within_run g state next held.machine between chosen.waiter did.picked picks_now
+
     pub there : Along g began_state began_segment held.machine.cost did.made.at began_state.waiting
     there = along g began_state began_segment held.machine.cost began_state.waiting (law chosen.waiter.thread) did.made.steps did.picked did.made.at
         (subst (λ (s : Setting). GoesOn s did.made.steps did.picked did.made.at) stands.of.setting did.made.goes_on)
@@ -115,22 +117,21 @@ module _ (g : Setup) (state : State) (k : Kept) (held : Held) (left : Option (Li
     tells_now = subst (λ (n : ℕ). Tells (step (setting_of g) did.made.at) turn n did.made.at new) chosen.thread_is
         (subst (λ (s : Setting). Tells (step s did.made.at) turn choice.thread.number did.made.at new) stands.of.setting did.made.tells)
 
-    queued_now : AreQueued held.places scheduler began_state.waiting
-    queued_now = queued_left held.places k.scheduler scheduler choice state.waiting
-        (is_eligible (is_ready_in held) (is_at_accept_in held) (any_elsewhere_in held) (observed k.monitor uses).is_open) (eligible_waiter g state held.machine.clock) chosen.waiter between.threads.once stands.queued noted lawful.first
-        (subst (λ (n : ℕ). find (eligible_waiter g state held.machine.clock) (queue_at state n) ≡ Some chosen.waiter) (sym chosen.node_is) (graph_choice_of g.policy (seen_of state) held.machine.clock chosen.waiter stands.of.rule chosen.lawful).first) chosen.thread_is
+    abbrev passes_now : ThreadId → Bool
+    passes_now = is_eligible (is_ready_in held) (is_at_accept_in held) (any_elsewhere_in held) (observed k.monitor uses).is_open
 
-    lasts_now : HasLasts scheduler began_state.past
-    lasts_now node = ⊎_elim
-        (λ (same : choice.node ≡ node).
-        ap (λ (n : ℕ). last_of scheduler n) (sym same) ∙ noted.last ∙ ap (λ (n : ℕ). n + 1) stands.past.taken ∙ (let e : length state.past.taken + 1 ≡ suc (length state.past.taken) = omega arith in e)
-        ∙ sym (cond-true (nat_eq chosen.waiter.node node) (suc (length state.past.taken)) (last_choice state.past.taken node) (eq-eqb chosen.waiter.node node (sym chosen.node_is ∙ same))))
-        (λ apart.
-        noted.other_lasts node (λ e. apart (sym e)) ∙ stands.past.lasts node
-        ∙ sym (cond-false (nat_eq chosen.waiter.node node) (suc (length state.past.taken)) (last_choice state.past.taken node) (ne_eqb chosen.waiter.node node (λ e. apart (chosen.node_is ∙ e)))))
-        (cases_eq choice.node node)
+    kept_now : AreKeptBeside held.places rule began_state.waiting choice.thread
+    kept_now = kept_taken g state held.machine.clock held.places between.formed.counted.numbered between.stands between.threads passes_now (score (observed k.monitor uses) k.graph.edges) choice chosen k.rule rule
+        stands.past.accounts stands.kept lawful taken under_way
 
-    pub began : StandsWithin g began_state (record k { scheduler = scheduler; monitor = observed k.monitor uses }) new left (record { choice = choice; before = uses; turn = turn })
+    accounts_now : HasAccounts g.policy.rule rule began_state.past
+    accounts_now = accounts_taken g state held.machine.clock held.places between.formed.counted.numbered between.stands between.threads passes_now (score (observed k.monitor uses) k.graph.edges) choice chosen k.rule rule
+        stands.past.taken stands.past.accounts stands.kept lawful taken
+
+    noted_now : noted_of rule ≡ noted_of k.rule + 1
+    noted_now = noted_taken k.rule rule passes_now choice taken
+
+    pub began : StandsWithin g began_state (record k { rule = rule; monitor = observed k.monitor uses }) new left (record { choice = choice; before = uses; turn = turn })
     began = record {
       of = of_kept g held new stands.of keeps
           (timely_turn held choice.thread.number did.picked turn new did.made (timely_picked held.setting held.machine did.picked choice.thread.number did.picks stands.of.timely));
@@ -145,15 +146,20 @@ module _ (g : Setup) (state : State) (k : Kept) (held : Held) (left : Option (Li
       before_is = uses_is;
       within_caps = within_caps;
       placed = λ live. places choice.thread chosen.placed live;
-      queued = queues_kept held new scheduler began_state.waiting places
+      started = le_refl (length state.source.threads);
+      kept = kept_beside held new rule began_state.waiting choice.thread places
           (told_live g began_state began_segment held.machine.cost did.made.at began_state.waiting there.within (step (setting_of g) did.made.at) turn chosen.waiter.thread new
-          (still_waiting g began_state began_segment held.machine.cost did.made.at began_state.waiting there.within (step (setting_of g) did.made.at) refl) tells_now) queued_now;
+          (still_waiting g began_state began_segment held.machine.cost did.made.at began_state.waiting there.within (step (setting_of g) did.made.at) refl) tells_now) kept_now;
+      needed = told_along g began_state began_segment held.machine.cost began_state.waiting held.places rule choice.thread kept_now did.made.steps did.picked did.made.at
+          (subst (λ (s : Setting). GoesOn s did.made.steps did.picked did.made.at) stands.of.setting did.made.goes_on) within_picked
+          (told_picked g began_state began_segment held.machine.cost did.picked began_state.waiting within_picked held.places rule choice.thread kept_now held.machine
+          (is_picked (setting_of g) held.machine chosen.waiter.thread did.picked picks_now).others (told_taken held.machine k.rule rule (is_eligible (is_ready_in held) (is_at_accept_in held) (any_elsewhere_in held) (observed k.monitor uses).is_open) choice taken stands.needed));
       past = record {
-        lasts = lasts_now;
+        accounts = accounts_now;
         graph_is = record { keys = stands.past.graph_is.keys; edges = stands.past.graph_is.edges };
         monitor_is = record { curves = stands.past.monitor_is.curves; caps = stands.past.monitor_is.caps; high = stands.past.monitor_is.high; low = stands.past.monitor_is.low };
-        taken = noted.noted ∙ ap (λ (n : ℕ). n + 1) stands.past.taken ∙ (let e : length state.past.taken + 1 ≡ suc (length state.past.taken) = omega arith in e);
-        noted = let is = noted.noted in let most = stands.past.noted in let begun = did.begun in omega arith;
+        taken = noted_now ∙ ap (λ (n : ℕ). n + 1) stands.past.taken ∙ (let e : length state.past.taken + 1 ≡ suc (length state.past.taken) = omega arith in e);
+        noted = let is = noted_now in let most = stands.past.noted in let begun = did.begun in omega arith;
         records = let most = stands.past.records in let begun = did.begun in omega arith;
         keys = let most = stands.past.keys in let begun = did.begun in omega arith;
       };

@@ -1,6 +1,6 @@
 -- What comes at a choice point, and how the clock goes on.
 use Rattle.std.proofs.Common.{◌≡◌, ◌≢◌, ℕ, ◌-◌, ◌≤◌, Bool, true, false, List, [], ◌∷◌, Option, Some, None, refl, sym, ap, ◌∙◌, subst, arith}
-use Rattle.std.specs.Prelude.{length, drop, if◌then◌else◌}
+use Rattle.std.specs.Prelude.{drop, if◌then◌else◌}
 use Rattle.std.proofs.lemmas.Bool.Decides.{nat_tests}
 use Rattle.c_mean.specs.ModelledCalls.{Delivery, Arrival, Message, Exchange, is_dropped, with_delivery}
 use Rattle.c_mean.specs.World as source
@@ -19,7 +19,7 @@ use Rattle.lawful_log.specs.State.{State, uses_of}
 use Rattle.lawful_steps.proofs.Between.{come_state, drops, came, coming, between_came}
 use Rattle.lawful_steps.specs.Within.{IsBetween}
 use Rattle.machine_world.specs.Runs.{Deliver, delivered}
-use Rattle.machine_world.specs.Threads.{World, Setting}
+use Rattle.machine_world.specs.Threads.{World, Setting, thread_of}
 use Rattle.machine_world.specs.WellFormed.{DeliversWords}
 use Rattle.resource_monitor.specs.Gate.{gate_after}
 use Rattle.resource_monitor.specs.Pressure.{pressures}
@@ -28,6 +28,7 @@ use Rattle.thread_core.specs.Worlds.{Held}
 use Rattle.runner.specs.declared.looking.Next.{Next}
 use Rattle.runner.specs.Kept.{Kept, known}
 use Rattle.runner.specs.Stands.{IsTraceOf, FitsNext, HasPast, StandsBetween}
+use Rattle.runner.proofs.Rules.{told_same}
 use Rattle.runner.specs.Steps.{IsTold}
 use Rattle.runner.proofs.Times.{timely_delivered}
 use Rattle.chunk_pool.specs.Pool.{free_count}
@@ -48,6 +49,10 @@ same_held false w x = refl
 same_count : (b : Bool) (w : World) (x : Exchange) → (if b then w else record w { exchange = x }).areas.pool.count ≡ w.areas.pool.count
 same_count true w x = refl
 same_count false w x = refl
+
+same_threads : (b : Bool) (w : World) (x : Exchange) (number : ℕ) → thread_of (if b then w else record w { exchange = x }) number ≡ thread_of w number
+same_threads true w x number = refl
+same_threads false w x number = refl
 
 settled_by : (b : Bool) (c : Checked) (w : World) (x : Exchange) → IsSettled c w → IsSettled c (if b then w else record w { exchange = x })
 settled_by true c w x is = is
@@ -110,7 +115,6 @@ module _ (g : Setup) (state : State) (k : Kept) (held : Held) (left : Option (Li
       setting = stands.of.setting;
       chunks = ap (λ (w : World). w.areas.pool.count) machine_is
           ∙ same_count (is_dropped g.policy.backlog held.machine.exchange (delivery_of event.kind)) held.machine (with_delivery held.machine.exchange (delivery_of event.kind)) ∙ stands.of.chunks;
-      rule = stands.of.rule;
       small = stands.of.small;
       scoped = stands.of.scoped;
       valid = stands.of.valid;
@@ -121,8 +125,10 @@ module _ (g : Setup) (state : State) (k : Kept) (held : Held) (left : Option (Li
     ended = λ none. ap (λ (w : World). w.clock) machine_is;
     settled = subst (IsSettled (checked_of g)) (sym machine_is)
         (settled_by (is_dropped g.policy.backlog held.machine.exchange (delivery_of event.kind)) (checked_of g) held.machine (with_delivery held.machine.exchange (delivery_of event.kind)) stands.settled);
-    queued = stands.queued;
-    past = subst (λ (n : ℕ). HasPast g state.past k.scheduler k.graph k.monitor n n)
+    kept = stands.kept;
+    needed = told_same held.machine (after_event held event.kind).machine k.rule
+        (same_threads (is_dropped held.setting.backlog held.machine.exchange (delivery_of event.kind)) held.machine (with_delivery held.machine.exchange (delivery_of event.kind))) stands.needed;
+    past = subst (λ (n : ℕ). HasPast g state.past k.rule k.graph k.monitor n n)
         (sym (ap (λ (w : World). w.cost) machine_is
         ∙ same_cost (is_dropped g.policy.backlog held.machine.exchange (delivery_of event.kind)) held.machine (with_delivery held.machine.exchange (delivery_of event.kind)))) stands.past;
     gate = ap (λ (l : List ℕ). gate_after g.policy.high g.policy.low k.monitor.is_open (pressures g.policy.curves l (all_caps g.policy))) uses_same ∙ stands.gate;

@@ -1,7 +1,6 @@
 -- The choice of a thread: what it takes and what is written.
-use Rattle.std.proofs.Common.{◌≡◌, ℕ, ◌+◌, ◌-◌, ◌*◌, ◌<◌, ◌≤◌, ◌&&◌, Bool, true, false, List, [], ◌∷◌, ◌++◌, length, drop, Option, Some, None, Result, find, cond, refl, sym, ap, ◌∙◌, subst, arith}
+use Rattle.std.proofs.Common.{◌≡◌, ℕ, ◌+◌, ◌-◌, ◌*◌, ◌<◌, ◌≤◌, ◌&&◌, Bool, true, false, List, [], ◌∷◌, ◌++◌, length, drop, Option, Some, None, Result, refl, sym, ap, ◌∙◌, subst, arith}
 use Rattle.std.specs.Prelude.{IsTrue, slice_index}
-use Rattle.cap_io.specs.Writes.{Puts}
 use Rattle.c_mean.specs.ModelledCalls.{Exchange}
 use Rattle.event_trace.specs.Reader.{ReaderState}
 use Rattle.event_trace.specs.declared.events.Event.{Event}
@@ -20,14 +19,16 @@ use Rattle.runner.specs.declared.course.Under.{Under}
 use Rattle.runner.specs.declared.ends.Failure.{Failure}
 use Rattle.runner.specs.declared.looking.Next.{Next}
 use Rattle.runner.specs.Kept.{Kept, known}
+use Rattle.runner.specs.Output.{Output, PutsText}
 use Rattle.runner.specs.Ranks.{turn_rank, under_rank, long_rank}
 use Rattle.runner.specs.Stands.{IsTraceOf, StandsBetween, StandsWithin, Stands, StepsAsSource, IsAtChoice}
 use Rattle.runner.specs.Steps.{IsTold, ActsTo, PartEnds}
 use Rattle.schedule_log.specs.EntryText.{entry_text}
 use Rattle.schedule_log.specs.declared.entries.Entry.{Entry}
-use Rattle.scheduler.specs.LawfulChoice.{is_eligible, IsLawfulChoice}
+use Rattle.rule_state.specs.Rules.{HasTaken, IsLawfulOf, IsUnderWay}
+use Rattle.rule_state.specs.declared.rules.RuleState.{RuleState}
+use Rattle.scheduler.specs.LawfulChoice.{is_eligible}
 use Rattle.scheduler.specs.Scores.{score}
-use Rattle.scheduler.specs.State.{SchedulerState, queue_of, last_of, IsNoted}
 use Rattle.scheduler.specs.declared.choices.Choice.{Choice}
 use Rattle.thread_core.specs.Ready.{is_ready_in, is_at_accept_in, any_elsewhere_in}
 use Rattle.thread_core.specs.Turns.{Begins, KeepsSetting, MayBegin}
@@ -39,18 +40,11 @@ use Rattle.runner.proofs.AsSource.{source_picks, source_steps, formed_now}
 use Rattle.runner.proofs.Began.{Lawful, chosen_as, chosen, began_state, began, run_is, there, tells_now, observed}
 use Rattle.runner.proofs.Caps.{uses_are, within_policy}
 use Rattle.runner.proofs.Costs.{goes_cost, told_cost, told_formed, falls}
-use Rattle.runner.proofs.Parts.{acts_between, pick_acts, by_some, part_of}
+use Rattle.runner.proofs.Rules.{chosen_passes}
+use Rattle.runner.proofs.Parts.{acts_between, pick_acts, by_some, part_of, ticks_within}
 use Rattle.chunk_pool.specs.Pool.{free_count}
 
 -- ---- small things
-
-passes_by : {X : Type 0} (test : X → Bool) (x : X) (xs : List X) (y : X) → (find test xs ≡ Some y → test y ≡ true) → (b : Bool) → test x ≡ b → cond b (Some x) (find test xs) ≡ Some y → test y ≡ true
-passes_by test x xs y later true t f = let same : x ≡ y = cc in ap test (sym same) ∙ t
-passes_by test x xs y later false t f = later f
-
-found_passes : {X : Type 0} (test : X → Bool) (xs : List X) (y : X) → find test xs ≡ Some y → test y ≡ true
-found_passes test [] y e = absurd (cc)
-found_passes test (x ∷ xs) y e = passes_by test x xs y (λ f. found_passes test xs y f) (test x) refl e
 
 first_of_both : (a b : Bool) → (a && b) ≡ true → IsTrue a
 first_of_both true b e = refl
@@ -79,7 +73,9 @@ within_under g state k held left of_it under is = record {
   before_is = is.before_is;
   within_caps = is.within_caps;
   placed = is.placed;
-  queued = is.queued;
+  kept = is.kept;
+  needed = is.needed;
+  started = is.started;
   past = is.past;
   gate = is.gate;
   read = is.read;
@@ -113,8 +109,14 @@ module _ (g : Setup) (state : State) (k : Kept) (held : Held) (left : Option (Li
 
     -- the choice that is made over the monitor after it has taken the uses
     pub lawful_as : (m : MonitorState) → m ≡ observed k.monitor uses → (o : Option Choice) →
-        IsLawfulChoice (queue_of k.scheduler) (is_eligible (is_ready_in held) (is_at_accept_in held) (any_elsewhere_in held) m.is_open) (score m k.graph.edges) (last_of k.scheduler) o → LawfulNow o
-    lawful_as m e o is = subst (λ (n : MonitorState). IsLawfulChoice (queue_of k.scheduler) (is_eligible (is_ready_in held) (is_at_accept_in held) (any_elsewhere_in held) n.is_open) (score n k.graph.edges) (last_of k.scheduler) o) e is
+        IsLawfulOf k.rule (is_eligible (is_ready_in held) (is_at_accept_in held) (any_elsewhere_in held) m.is_open) (score m k.graph.edges) o → LawfulNow o
+    lawful_as m e o is = subst (λ (n : MonitorState). IsLawfulOf k.rule (is_eligible (is_ready_in held) (is_at_accept_in held) (any_elsewhere_in held) n.is_open) (score n k.graph.edges) o) e is
+
+    -- and so is it noted
+    pub taken_as : (m : MonitorState) → m ≡ observed k.monitor uses → (rule : RuleState) (choice : Choice) →
+        HasTaken k.rule rule (is_eligible (is_ready_in held) (is_at_accept_in held) (any_elsewhere_in held) m.is_open) choice →
+        HasTaken k.rule rule (is_eligible (is_ready_in held) (is_at_accept_in held) (any_elsewhere_in held) (observed k.monitor uses).is_open) choice
+    taken_as m e rule choice is = subst (λ (n : MonitorState). HasTaken k.rule rule (is_eligible (is_ready_in held) (is_at_accept_in held) (any_elsewhere_in held) n.is_open) choice) e is
 
     pub some_choice : LawfulNow None → ⊥
     some_choice lawful = chosen_as g state k held left stands next at.point.known_is at.ready uses uses_is within_caps None lawful
@@ -123,17 +125,17 @@ module _ (g : Setup) (state : State) (k : Kept) (held : Held) (left : Option (Li
       pub may_begin : (stopped : Option Turn) → stopped ≡ None → MayBegin held choice.thread stopped
       may_begin None e = (
         first_of_both (is_ready_in held choice.thread) _
-            (found_passes (is_eligible (is_ready_in held) (is_at_accept_in held) (any_elsewhere_in held) (observed k.monitor uses).is_open) (queue_of k.scheduler choice.node) choice.thread lawful.first),
+            (chosen_passes k.rule (is_eligible (is_ready_in held) (is_at_accept_in held) (any_elsewhere_in held) (observed k.monitor uses).is_open) (score (observed k.monitor uses) k.graph.edges) choice lawful),
         resting,
       )
       may_begin (Some turn) e = absurd (cc)
 
-      module _ (scheduler : SchedulerState) (noted : IsNoted k.scheduler scheduler choice) (new : Held) (keeps : KeepsSetting held new) (places : KeepsPlaces held new) (turn : Turn) (did : Begins held choice.thread.number turn new) where
+      module _ (rule : RuleState) (left_now : HasTaken k.rule rule (is_eligible (is_ready_in held) (is_at_accept_in held) (any_elsewhere_in held) (observed k.monitor uses).is_open) choice) (under_way : IsUnderWay rule choice.thread) (new : Held) (keeps : KeepsSetting held new) (places : KeepsPlaces held new) (turn : Turn) (did : Begins held choice.thread.number turn new) where
         abbrev under : Under
         under = record { choice = choice; before = uses; turn = turn }
 
         abbrev pub begun_kept : Kept
-        begun_kept = record k { scheduler = scheduler; monitor = observed k.monitor uses; under = Some under }
+        begun_kept = record k { rule = rule; monitor = observed k.monitor uses; under = Some under }
 
         picks_law : (number : ℕ) (after : World) → after_action (setting_of g) held.machine (Pick number) ≡ Some after → IsReached (checked_of g) g.program (setting_of g) state.source number [] after
         picks_law = source_picks g state k held left stands
@@ -142,28 +144,30 @@ module _ (g : Setup) (state : State) (k : Kept) (held : Held) (left : Option (Li
         law = source_steps g state held stands.of
 
         abbrev new_state : State
-        new_state = began_state g state k held left stands next at.point.known_is at.ready uses uses_is within_caps choice lawful scheduler noted new keeps places turn did picks_law law
+        new_state = began_state g state k held left stands next at.point.known_is at.ready uses uses_is within_caps choice lawful rule left_now under_way new keeps places turn did picks_law law
+
+        stands_within : StandsWithin g new_state begun_kept new left under
+        stands_within = within_under g new_state (record k { rule = rule; monitor = observed k.monitor uses }) new left under (Some under)
+            (began g state k held left stands next at.point.known_is at.ready uses uses_is within_caps choice lawful rule left_now under_way new keeps places turn did picks_law law)
 
         stands_new : Stands g new_state begun_kept new left
-        stands_new = by_some g new_state begun_kept new left under refl
-            (within_under g new_state (record k { scheduler = scheduler; monitor = observed k.monitor uses }) new left under (Some under)
-            (began g state k held left stands next at.point.known_is at.ready uses uses_is within_caps choice lawful scheduler noted new keeps places turn did picks_law law))
+        stands_new = by_some g new_state begun_kept new left under refl stands_within
 
         acts : ActsTo (setting_of g) state.machine did.picked
         acts = acts_on (setting_of g) state.machine held.machine did.picked (acts_between g state k held left stands)
             (subst (λ (s : Setting). ActsTo s held.machine did.picked) stands.of.setting (pick_acts held.setting held.machine did.picked choice.thread.number did.picks))
 
-        pub choose_part : (taken written : Option (List ℕ)) (result : Result (Unit {0}) Failure) → Puts taken written (entry_text (Entry.Run held.machine.clock choice.thread.number choice.node) ++ 10 ∷ []) result →
+        pub choose_part : (taken written : Output) (result : Result (Unit {0}) Failure) → PutsText taken written (entry_text (Entry.Run held.machine.clock choice.thread.number choice.node) ++ 10 ∷ []) result →
             PartEnds g state left begun_kept new left taken written result
         choose_part taken written result puts = part_of g state new_state left begun_kept new taken written (Entry.Run held.machine.clock choice.thread.number choice.node) result
-            (λ told. run_is g state k held left stands next at.point.known_is at.ready uses uses_is within_caps choice lawful scheduler noted new keeps places turn did picks_law law
-            at.point.live (next_known g state k held left next stands at.point.known_is told) at.not_due) acts stands_new puts
+            (λ told. run_is g state k held left stands next at.point.known_is at.ready uses uses_is within_caps choice lawful rule left_now under_way new keeps places turn did picks_law law
+            at.point.live (next_known g state k held left next stands at.point.known_is told) at.not_due) acts (ticks_within g new_state begun_kept new left under stands_within) stands_new puts
 
         pub choose_falls : long_rank begun_kept new < long_rank k held
         choose_falls =
-            let number : ℕ = (chosen g state k held left stands next at.point.known_is at.ready uses uses_is within_caps choice lawful scheduler noted new keeps places turn did picks_law law).waiter.thread in
-            let is_there = there g state k held left stands next at.point.known_is at.ready uses uses_is within_caps choice lawful scheduler noted new keeps places turn did picks_law law in
-            let tells = tells_now g state k held left stands next at.point.known_is at.ready uses uses_is within_caps choice lawful scheduler noted new keeps places turn did picks_law law in
+            let number : ℕ = (chosen g state k held left stands next at.point.known_is at.ready uses uses_is within_caps choice lawful rule left_now under_way new keeps places turn did picks_law law).waiter.thread in
+            let is_there = there g state k held left stands next at.point.known_is at.ready uses uses_is within_caps choice lawful rule left_now under_way new keeps places turn did picks_law law in
+            let tells = tells_now g state k held left stands next at.point.known_is at.ready uses uses_is within_caps choice lawful rule left_now under_way new keeps places turn did picks_law law in
             let start : did.picked.cost ≡ held.machine.cost = (is_picked held.setting held.machine choice.thread.number did.picked did.picks).cost in
             let way : did.picked.cost ≤ did.made.at.cost = goes_cost held.setting did.made.steps did.picked did.made.at did.made.goes_on in
             let cost = told_cost (setting_of g) did.made.at turn number new tells in

@@ -2,7 +2,6 @@
 use Rattle.std.proofs.Common.{◌≡◌, ◌≢◌, ℕ, ◌≤◌, Bool, true, false, List, [], ◌∷◌, ◌++◌, Option, Some, None, Result, refl, sym, ap, ◌∙◌, subst}
 use Rattle.std.specs.Prelude.{if◌then◌else◌}
 use Rattle.c_mean.specs.ModelledCalls.{Exchange, is_dropped, with_delivery}
-use Rattle.cap_io.specs.Writes.{Puts}
 use Rattle.event_trace.specs.declared.events.Event.{Event}
 use Rattle.event_trace.specs.declared.events.EventKind.{EventKind}
 use Rattle.choice_rules.specs.Deliveries.{delivery_of, item_of}
@@ -16,16 +15,17 @@ use Rattle.runner.specs.declared.course.Under.{Under}
 use Rattle.runner.specs.declared.ends.Failure.{Failure}
 use Rattle.runner.specs.declared.looking.Next.{Next}
 use Rattle.runner.specs.Kept.{Kept}
+use Rattle.runner.specs.Output.{Output, PutsText}
 use Rattle.runner.specs.Lines.{coming_line}
 use Rattle.runner.specs.Stands.{StandsBetween, StandsBy}
 use Rattle.runner.specs.Steps.{IsTold, ActsTo, PartEnds}
 use Rattle.runner.proofs.Acting.{acts_on}
-use Rattle.runner.proofs.Parts.{acts_between, deliver_acts, part_of}
+use Rattle.runner.proofs.Parts.{acts_between, same_ticks, deliver_acts, part_of}
 use Rattle.schedule_log.specs.EntryText.{entry_text}
 use Rattle.thread_core.specs.Making.{after_event, delivery_answer}
 use Rattle.thread_core.specs.Worlds.{Held}
 use Rattle.thread_core.specs.declared.outside.Delivered.{Delivered}
-use Rattle.runner.proofs.Came.{between, words, came_state, came_world, came_allowed, came_stands}
+use Rattle.runner.proofs.Came.{between, words, came_state, came_world, machine_is, came_allowed, came_stands}
 
 allowed_by : (g : Setup) (state : State) (clock : ℕ) (kind : EventKind) (new : State) (b : Bool) → IsComing g state clock (item_of kind) b new → IsAllowed g state (coming_line clock kind (if b then Delivered.Dropped else Delivered.Queued)) new
 allowed_by g state clock kind new true is = is
@@ -64,16 +64,17 @@ module _ (g : Setup) (state : State) (k : Kept) (held : Held) (left : Option (Li
   acts_here = acts_on (setting_of g) state.machine held.machine (came_world g state k held left stands event next_is) (acts_between g state k held left stands)
       (deliver_acts (setting_of g) held.machine (delivery_of event.kind) (ap (λ (w : World). w.running) stands.between.machine_is ∙ stands.between.stands.between))
 
-  part_now : k.under ≡ None → held.machine.threads ≢ [] → event.time ≤ held.machine.clock → (taken written : Option (List ℕ)) (result : Result (Unit {0}) Failure) →
-      Puts taken written (entry_text (coming_line (after_event held event.kind).machine.clock event.kind delivered) ++ 10 ∷ []) result →
+  part_now : k.under ≡ None → held.machine.threads ≢ [] → event.time ≤ held.machine.clock → (taken written : Output) (result : Result (Unit {0}) Failure) →
+      PutsText taken written (entry_text (coming_line (after_event held event.kind).machine.clock event.kind delivered) ++ 10 ∷ []) result →
       PartEnds g state left (record k { next = Next.Unread }) (after_event held event.kind) left taken written result
   part_now under live due taken written result puts =
       part_of g state (came_state g state k held left stands event next_is) left (record k { next = Next.Unread }) (after_event held event.kind) taken written
       (coming_line (after_event held event.kind).machine.clock event.kind delivered) result (entry_allowed live due) acts_here
+      (same_ticks (came_world g state k held left stands event next_is) (after_event held event.kind).machine (machine_is g state k held left stands event next_is))
       (stands_by k.under under (came_stands g state k held left stands event next_is)) puts
 
-  pub delivered_part : (new : Held) → new ≡ after_event held event.kind → k.under ≡ None → held.machine.threads ≢ [] → event.time ≤ held.machine.clock → (taken written : Option (List ℕ)) (result : Result (Unit {0}) Failure) →
-      Puts taken written (entry_text (coming_line new.machine.clock event.kind delivered) ++ 10 ∷ []) result → PartEnds g state left (record k { next = Next.Unread }) new left taken written result
+  pub delivered_part : (new : Held) → new ≡ after_event held event.kind → k.under ≡ None → held.machine.threads ≢ [] → event.time ≤ held.machine.clock → (taken written : Output) (result : Result (Unit {0}) Failure) →
+      PutsText taken written (entry_text (coming_line new.machine.clock event.kind delivered) ++ 10 ∷ []) result → PartEnds g state left (record k { next = Next.Unread }) new left taken written result
   delivered_part new is under live due taken written result puts =
       subst (λ (h : Held). PartEnds g state left (record k { next = Next.Unread }) h left taken written result) (sym is)
-      (part_now under live due taken written result (subst (λ (h : Held). Puts taken written (entry_text (coming_line h.machine.clock event.kind delivered) ++ 10 ∷ []) result) is puts))
+      (part_now under live due taken written result (subst (λ (h : Held). PutsText taken written (entry_text (coming_line h.machine.clock event.kind delivered) ++ 10 ∷ []) result) is puts))

@@ -1,14 +1,11 @@
 -- The end of a log: the lines of the edges, and which averages they show.
-use Rattle.std.proofs.Common.{◌≡◌, ◌≢◌, ℕ, zero, suc, ◌+◌, ◌<◌, ◌≤◌, ℤ, nat_eq, Bool, true, false, List, [], ◌∷◌, ◌++◌, get_or, length, set, take, drop, map, Option, Some, None, Result, Ok, Err, refl, sym, ap, ◌∙◌, subst, arith, append-nil, append_assoc, length-append, length-set, add-one}
+use Rattle.std.proofs.Common.{◌≡◌, ◌≢◌, ℕ, zero, suc, ◌+◌, ◌<◌, ◌≤◌, ℤ, nat_eq, Bool, true, false, List, [], ◌∷◌, ◌++◌, get_or, length, set, take, drop, map, Result, refl, sym, ap, ◌∙◌, subst, arith, append-nil, append_assoc, length-set, add-one}
 use Rattle.std.specs.Prelude.{pos, if◌then◌else◌}
 use Rattle.std.specs.List.{flat_map}
-use Rattle.std.specs.Io.KnownBytes.{Appends}
 use Rattle.std.proofs.lemmas.Bool.{cond-false, eq-eqb, ne_eqb}
-use Rattle.std.proofs.lemmas.List.{length-take-le, take-append-drop, take-append-le, take_at, take_more_set, drop_all, map_more, map-append}
+use Rattle.std.proofs.lemmas.List.{take-append-drop, take_more_set, drop_all, map_more, map-append}
 use Rattle.std.proofs.lemmas.List.Concat.{flat_map-append}
 use Rattle.blocking_graph.specs.declared.edges.EdgeLine.{EdgeLine}
-use Rattle.cap_io.specs.Writes.{Puts}
-use Rattle.cap_io.proofs.Pieces.{appends_more}
 use Rattle.choice_rules.specs.EdgeLines.{given, shown}
 use Rattle.schedule_log.specs.EntryText.{entry_text, log_text}
 use Rattle.schedule_log.specs.declared.entries.Entry.{Entry}
@@ -16,7 +13,10 @@ use Rattle.schedule_log.specs.declared.entries.StopLine.{StopLine}
 use Rattle.thread_core.specs.Worlds.{Held, cap_in}
 use Rattle.runner.specs.declared.ends.Failure.{Failure}
 use Rattle.runner.specs.Counts.{CountsPart}
-use Rattle.runner.specs.Lines.{CountsLine, edge_line, edge_lines, end_lines}
+use Rattle.runner.specs.Lines.{edge_line, edge_lines, end_lines}
+use Rattle.runner.specs.Output.{Output, TakesPart, Grows}
+use Rattle.runner.proofs.Joined.{part_more, part_on, grows_on, grows_none}
+use Rattle.runner.proofs.Parts.{no_line}
 
 -- ---- the averages that are shown
 
@@ -135,52 +135,25 @@ lines_parts caps edges i d entry is h =
     ∙ append_assoc (log_text (edge_lines caps (take i edges))) (entry_text entry ++ 10 ∷ []) (log_text (edge_lines caps (drop (i + 1) edges)))
 
 -- one line more
-pub line_put : (old mid new : Option (List ℕ)) (caps : List ℕ) (edges : List EdgeLine) (i : ℕ) (d : EdgeLine) (entry : Entry) → entry ≡ edge_line caps (get_or edges i d) → i < length edges →
-    Appends old mid (log_text (edge_lines caps (take i edges))) → Appends mid new (entry_text entry ++ 10 ∷ []) → Appends old new (log_text (edge_lines caps (take (i + 1) edges)))
+pub line_put : (old mid new : Output) (caps : List ℕ) (edges : List EdgeLine) (i : ℕ) (d : EdgeLine) (entry : Entry) → entry ≡ edge_line caps (get_or edges i d) → i < length edges →
+    Grows old mid (log_text (edge_lines caps (take i edges))) → Grows mid new (entry_text entry ++ 10 ∷ []) → Grows old new (log_text (edge_lines caps (take (i + 1) edges)))
 line_put old mid new caps edges i d entry is h first then_ =
-    subst (λ (l : List ℕ). Appends old new l)
+    subst (λ (l : List ℕ). Grows old new l)
     (sym (lines_more caps edges i d h ∙ ap (λ (e : Entry). log_text (edge_lines caps (take i edges)) ++ (entry_text e ++ 10 ∷ [])) (sym is)))
-    (appends_more old mid new (log_text (edge_lines caps (take i edges))) (entry_text entry ++ 10 ∷ []) first then_)
+    (grows_on old mid new (log_text (edge_lines caps (take i edges))) (entry_text entry ++ 10 ∷ []) first then_)
 
 -- nothing is put
-pub nothing_put : (taken : Option (List ℕ)) → Appends taken taken []
-nothing_put None = tt
-nothing_put (Some bytes) = sym (append-nil bytes)
-
-pub none_put : (taken : Option (List ℕ)) → Appends taken taken (log_text [])
-unfolding log_text
-none_put None = tt
-none_put (Some bytes) = sym (append-nil bytes)
-
--- ---- pieces
-
--- a piece that was put is a beginning of a longer one
-take_past : (x z : List ℕ) (n : ℕ) → n ≤ length z → take (length x + n) (x ++ z) ≡ x ++ take n z
-take_past x z n h =
-    ap (λ (l : List ℕ). take (length x + n) l) (ap (λ (l : List ℕ). x ++ l) (sym (take-append-drop n z)) ∙ sym (append_assoc x (take n z) (drop n z)))
-    ∙ take_at (x ++ take n z) (drop n z) (length x + n) (length-append x (take n z) ∙ ap (λ (m : ℕ). length x + m) (length-take-le n z h))
+pub none_put : (now : Output) → Grows now now (log_text [])
+none_put now = subst (λ (l : List ℕ). Grows now now l) (sym no_line) (grows_none now)
 
 -- a beginning of a piece behind another is a beginning of both and what follows
-pub begun_more : (old mid new : Option (List ℕ)) (x y z whole : List ℕ) (n : ℕ) → whole ≡ x ++ (y ++ z) → Appends old mid x → n ≤ length y → Appends mid new (take n y) →
-    (m : ℕ) × (m ≤ length whole) × Appends old new (take m whole)
-begun_more old mid new x y z whole n is first h then_ =
-    let size : n ≤ length (y ++ z) = (let l = length-append y z in omega (arith, h, l)) in
-    let part : take (length x + n) (x ++ (y ++ z)) ≡ x ++ take n y = take_past x (y ++ z) n size ∙ ap (λ (l : List ℕ). x ++ l) (take-append-le n y z h) in (
-      length x + n,
-      subst (λ (l : List ℕ). length x + n ≤ length l) (sym is) (let l = length-append x (y ++ z) in omega (arith, size, l)),
-      subst (λ (l : List ℕ). Appends old new l) (sym (ap (λ (l : List ℕ). take (length x + n) l) is ∙ part)) (appends_more old mid new x (take n y) first then_),
-    )
+pub begun_more : (old mid new : Output) (x y z whole : List ℕ) → whole ≡ x ++ (y ++ z) → Grows old mid x → TakesPart mid new y → TakesPart old new whole
+begun_more old mid new x y z whole is first part =
+    subst (λ (l : List ℕ). TakesPart old new l) (append_assoc x y z ∙ sym is) (part_more old new (x ++ y) z (part_on old mid new.taken x y first part))
 
-pub puts_more : (old mid new : Option (List ℕ)) (x y : List ℕ) (result : Result (Unit {0}) Failure) → Appends old mid x → Puts mid new y result → Puts old new (x ++ y) result
-puts_more old mid new x y (Ok v) first puts = appends_more old mid new x y first puts
-puts_more old mid new x y (Err failure) first puts =
-    begun_more old mid new x y [] (x ++ y) puts.0 (ap (λ (l : List ℕ). x ++ l) (sym (append-nil y))) first puts.1 puts.2
-
--- a whole whose beginning could not be put
-pub puts_begun : (old new : Option (List ℕ)) (x y whole : List ℕ) (failure : Failure) → whole ≡ x ++ y → Puts {E = Failure} old new x (Err failure) → Puts {E = Failure} old new whole (Err failure)
-puts_begun old new x y whole failure is puts =
-    let size : puts.0 ≤ length whole = subst (λ (l : List ℕ). puts.0 ≤ length l) (sym is) (let l = length-append x y in let h = puts.1 in omega (arith, l, h)) in
-    (puts.0, size, subst (λ (l : List ℕ). Appends old new l) (sym (ap (λ (l : List ℕ). take puts.0 l) is ∙ take-append-le puts.0 x y puts.1)) puts.2)
+-- a beginning of a piece is one of what it begins
+pub puts_begun : (old new : Output) (x y whole : List ℕ) → whole ≡ x ++ y → TakesPart old new x → TakesPart old new whole
+puts_begun old new x y whole is part = subst (λ (l : List ℕ). TakesPart old new l) (sym is) (part_more old new x y part)
 
 -- ---- the end
 
@@ -194,12 +167,6 @@ pub end_text_of : (caps : List ℕ) (edges lines : List EdgeLine) (stop : StopLi
 end_text_of caps edges lines stop e = end_text caps edges stop ∙ ap (λ (l : List EdgeLine). log_text (edge_lines caps l) ++ (entry_text (Entry.Stop stop) ++ 10 ∷ [])) (sym e)
 
 -- ---- counts
-
-pub line_counts : (result : Result (Unit {0}) Failure) (old new : ℕ) → CountsLine result old new → old ≤ new → CountsPart result old new
-line_counts (Ok v) old new counts falls = counts
-line_counts (Err Failure.Read) old new counts falls = counts
-line_counts (Err Failure.Write) old new counts falls = record { rose = counts; never_falls = falls }
-line_counts (Err Failure.Memory) old new counts falls = counts
 
 pub counts_on : (result : Result (Unit {0}) Failure) (old mid new : ℕ) → mid ≡ old → CountsPart result mid new → CountsPart result old new
 counts_on result old mid new same counts = subst (λ (n : ℕ). CountsPart result n new) same counts

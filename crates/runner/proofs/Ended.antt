@@ -1,21 +1,26 @@
 -- What a run writes of a segment that has ended: at a blocking call, or with its thread.
-use Rattle.std.proofs.Common.{◌≡◌, ℕ, ◌+◌, ◌<◌, ◌≤◌, ◌^◌, List, [], ◌∷◌, ◌++◌, length, Option, None, Result, refl, subst, arith}
+use Rattle.std.proofs.Common.{◌≡◌, ℕ, ◌+◌, ◌<◌, ◌≤◌, ◌^◌, List, [], ◌∷◌, ◌++◌, length, Option, None, Result, refl, ap, ◌∙◌, subst, arith}
 use Rattle.blocking_graph.specs.Edges.{edges_with, count_of}
 use Rattle.blocking_graph.specs.Graph.{GraphState}
 use Rattle.blocking_graph.specs.Nodes.{keys_with, node_number}
-use Rattle.cap_io.specs.Writes.{Puts}
 use Rattle.choice_rules.specs.Seen.{changes, end_node, uses_in}
 use Rattle.lawful_log.specs.Good.{checked_of}
 use Rattle.lawful_log.specs.Setup.{Setup, setting_of}
 use Rattle.lawful_log.specs.State.{State, held_chunks}
 use Rattle.machine_world.specs.Threads.{World, step}
 use Rattle.machine_world.specs.WellFormed.{IsWellFormed}
-use Rattle.scheduler.specs.State.{SchedulerState, IsJoined}
+use Rattle.rule_state.specs.Rules.{HasLeft, HasRejoined}
+use Rattle.rule_state.specs.declared.rules.RuleState.{RuleState}
 use Rattle.runner.specs.declared.course.Under.{Under}
 use Rattle.runner.specs.declared.ends.Failure.{Failure}
 use Rattle.runner.specs.Kept.{Kept}
+use Rattle.runner.specs.Output.{Output, PutsText}
 use Rattle.runner.specs.Recorded.{HasSmallCaps}
 use Rattle.runner.specs.Stands.{StandsWithin, StepsAsSource}
+use Rattle.lawful_steps.proofs.Within.{over_block}
+use Rattle.ready_tree.specs.declared.needs.Need.{Need}
+use Rattle.thread_core.specs.Needs.{IsWaitingIn, Vouches}
+use Rattle.runner.proofs.Needs.{needed_from, waiting_in}
 use Rattle.runner.specs.Steps.{ActsTo, PartEnds}
 use Rattle.schedule_log.specs.EntryText.{entry_text}
 use Rattle.schedule_log.specs.declared.entries.Entry.{Entry}
@@ -29,7 +34,7 @@ use Rattle.runner.proofs.Finished as finished
 use Rattle.runner.proofs.Finished.{TellsEnd, tells_end}
 use Rattle.runner.proofs.Over as over
 use Rattle.runner.proofs.Over.{TellsBlock, tells_block}
-use Rattle.runner.proofs.Parts.{acts_within, by_none, part_of}
+use Rattle.runner.proofs.Parts.{acts_within, by_none, part_of, same_ticks}
 use Rattle.chunk_pool.specs.Pool.{free_count}
 
 module _ (g : Setup) (state : State) (k : Kept) (held : Held) (left : Option (List ℕ)) (under : Under) (stands : StandsWithin g state k held left under) where
@@ -66,17 +71,27 @@ module _ (g : Setup) (state : State) (k : Kept) (held : Held) (left : Option (Li
     block_acts : ActsTo (setting_of g) state.machine (over.over_state g state k held left under stands law key cost block_told).machine
     block_acts = subst (λ (w : World). ActsTo (setting_of g) state.machine w) block_told.machine (acts_within g state k held left under stands)
 
-    pub block_part : (node : ℕ) → node ≡ node_number k.graph.keys key → (scheduler : SchedulerState) → IsJoined k.scheduler scheduler node under.choice.thread → (graph : GraphState) → graph.keys ≡ keys_with k.graph.keys key →
+    -- no segment is under way
+    block_rests : held.machine.running ≡ None
+    block_rests = ap (λ (w : World). w.running) block_told.machine ∙ (over_block g state stands.segment held.begun stands.here stands.waiting stands.within block_told.after block_told.step_is).running
+
+    -- its thread waits now
+    pub block_waits : IsWaitingIn held under.choice.thread
+    block_waits = waiting_in held under.choice.thread (over.rests g state k held left under stands law key cost block_told).thread block_rests
+        (over.live_is g state k held left under stands law key cost block_told) (stands.placed (over.live_now g state k held left under stands law key cost block_told))
+
+    pub block_part : (node : ℕ) → node ≡ node_number k.graph.keys key → (rule : RuleState) → (need : Need) →
+        HasRejoined k.rule rule under.choice.thread node need → Vouches held under.choice.thread need → (graph : GraphState) → graph.keys ≡ keys_with k.graph.keys key →
         graph.edges ≡ edges_with k.graph.edges (record { from = under.choice.node; to = node; cost = cost; change = changes under.before (uses_in (held_chunks held.machine) held.machine.exchange) }) →
-        count_of graph.edges ≡ count_of k.graph.edges + 1 → length graph.keys ≤ length k.graph.keys + 1 → (taken written : Option (List ℕ)) (result : Result (Unit {0}) Failure) →
-        Puts taken written (entry_text (Entry.Block under.choice.thread.number node key cost (free_count held.machine.areas.pool)) ++ 10 ∷ []) result →
-        PartEnds g state left (record k { scheduler = scheduler; graph = graph; under = None }) held left taken written result
-    block_part node node_is scheduler joined graph keys edges counted few taken written result puts =
-        part_of g state (over.over_state g state k held left under stands law key cost block_told) left (record k { scheduler = scheduler; graph = graph; under = None }) held taken written
+        count_of graph.edges ≡ count_of k.graph.edges + 1 → length graph.keys ≤ length k.graph.keys + 1 → (taken written : Output) (result : Result (Unit {0}) Failure) →
+        PutsText taken written (entry_text (Entry.Block under.choice.thread.number node key cost (free_count held.machine.areas.pool)) ++ 10 ∷ []) result →
+        PartEnds g state left (record k { rule = rule; graph = graph; under = None }) held left taken written result
+    block_part node node_is rule need joins vouched graph keys edges counted few taken written result puts =
+        part_of g state (over.over_state g state k held left under stands law key cost block_told) left (record k { rule = rule; graph = graph; under = None }) held taken written
         (Entry.Block under.choice.thread.number node key cost (free_count held.machine.areas.pool)) result
-        (λ told. over.block_is g state k held left under stands law key cost block_told node node_is) block_acts
-        (by_none g (over.over_state g state k held left under stands law key cost block_told) (record k { scheduler = scheduler; graph = graph; under = None }) held left refl
-        (over.over_stands g state k held left under stands law key cost block_told node node_is (uses_in (held_chunks held.machine) held.machine.exchange) refl scheduler joined graph keys edges counted few)) puts
+        (λ told. over.block_is g state k held left under stands law key cost block_told node node_is) block_acts (same_ticks block_told.after held.machine block_told.machine)
+        (by_none g (over.over_state g state k held left under stands law key cost block_told) (record k { rule = rule; graph = graph; under = None }) held left refl
+        (over.over_stands g state k held left under stands law key cost block_told node node_is (uses_in (held_chunks held.machine) held.machine.exchange) refl rule need joins (needed_from held under.choice.thread need block_rests vouched) graph keys edges counted few)) puts
 
   -- ---- an end
 
@@ -94,14 +109,14 @@ module _ (g : Setup) (state : State) (k : Kept) (held : Held) (left : Option (Li
     end_acts : ActsTo (setting_of g) state.machine (finished.over_state g state k held left under stands end_law cost end_told).machine
     end_acts = subst (λ (w : World). ActsTo (setting_of g) state.machine w) end_told.machine (acts_within g state k held left under stands)
 
-    pub end_part : (graph : GraphState) → graph.keys ≡ k.graph.keys →
+    pub end_part : (rule : RuleState) → HasLeft k.rule rule under.choice.thread → (graph : GraphState) → graph.keys ≡ k.graph.keys →
         graph.edges ≡ edges_with k.graph.edges (record { from = under.choice.node; to = end_node; cost = cost; change = changes under.before (uses_in (held_chunks held.machine) held.machine.exchange) }) →
-        count_of graph.edges ≡ count_of k.graph.edges + 1 → (taken written : Option (List ℕ)) (result : Result (Unit {0}) Failure) →
-        Puts taken written (entry_text (Entry.End under.choice.thread.number cost (free_count held.machine.areas.pool)) ++ 10 ∷ []) result →
-        PartEnds g state left (record k { graph = graph; under = None }) held left taken written result
-    end_part graph keys edges counted taken written result puts =
-        part_of g state (finished.over_state g state k held left under stands end_law cost end_told) left (record k { graph = graph; under = None }) held taken written
+        count_of graph.edges ≡ count_of k.graph.edges + 1 → (taken written : Output) (result : Result (Unit {0}) Failure) →
+        PutsText taken written (entry_text (Entry.End under.choice.thread.number cost (free_count held.machine.areas.pool)) ++ 10 ∷ []) result →
+        PartEnds g state left (record k { rule = rule; graph = graph; under = None }) held left taken written result
+    end_part rule leaves graph keys edges counted taken written result puts =
+        part_of g state (finished.over_state g state k held left under stands end_law cost end_told) left (record k { rule = rule; graph = graph; under = None }) held taken written
         (Entry.End under.choice.thread.number cost (free_count held.machine.areas.pool)) result
-        (λ told. finished.end_is g state k held left under stands end_law cost end_told (finished.was_there g state k held left under stands end_law cost end_told)) end_acts
-        (by_none g (finished.over_state g state k held left under stands end_law cost end_told) (record k { graph = graph; under = None }) held left refl
-        (finished.end_stands g state k held left under stands end_law cost end_told (uses_in (held_chunks held.machine) held.machine.exchange) refl graph keys edges counted)) puts
+        (λ told. finished.end_is g state k held left under stands end_law cost end_told (finished.was_there g state k held left under stands end_law cost end_told)) end_acts (same_ticks end_told.after held.machine end_told.machine)
+        (by_none g (finished.over_state g state k held left under stands end_law cost end_told) (record k { rule = rule; graph = graph; under = None }) held left refl
+        (finished.end_stands g state k held left under stands end_law cost end_told (uses_in (held_chunks held.machine) held.machine.exchange) refl rule leaves graph keys edges counted)) puts

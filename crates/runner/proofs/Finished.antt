@@ -1,5 +1,5 @@
 -- The end of a segment with its thread.
-use Rattle.std.proofs.Common.{◌≡◌, ℕ, zero, suc, ◌+◌, ◌-◌, ◌<◌, ◌≤◌, Bool, List, [], ◌∷◌, ◌++◌, length, Option, Some, None, refl, sym, ap, ◌∙◌, subst, arith, append-nil}
+use Rattle.std.proofs.Common.{◌≡◌, ℕ, zero, suc, ◌+◌, ◌-◌, ◌<◌, ◌≤◌, Bool, false, List, [], ◌∷◌, ◌++◌, length, Option, Some, None, refl, sym, ap, ◌∙◌, subst, arith, append-nil}
 use Rattle.std.specs.Prelude.{IsSome, drop, slice_get}
 use Rattle.blocking_graph.specs.Edges.{edges_of, edges_with, count_of}
 use Rattle.blocking_graph.specs.Graph.{GraphState}
@@ -12,7 +12,7 @@ use Rattle.lawful_log.specs.Good.{checked_of}
 use Rattle.lawful_log.specs.Segments.{HasRun, IsEnd}
 use Rattle.lawful_log.specs.Setup.{Setup, setting_of}
 use Rattle.lawful_log.specs.State.{State, held_chunks}
-use Rattle.lawful_steps.specs.Waiting.{AreQueued}
+use Rattle.lawful_steps.specs.Waiting.{waits}
 use Rattle.lawful_steps.specs.Within.{IsBetween}
 use Rattle.lawful_steps.proofs.Between.{between_after}
 use Rattle.lawful_steps.proofs.Own.{found_below}
@@ -28,6 +28,14 @@ use Rattle.world_source.specs.UnderWay.{IsSettled}
 use Rattle.runner.specs.declared.course.Under.{Under}
 use Rattle.runner.specs.Kept.{Kept, known}
 use Rattle.runner.specs.Stands.{StandsBetween, StandsWithin, StepsAsSource}
+use Rattle.machine_world.specs.Alone.{KeepsThread}
+use Rattle.machine_world.proofs.OtherThreads.{KeepsThread-step}
+use Rattle.runner.specs.Rules.{AreKept, AreTold}
+use Rattle.rule_state.specs.Rules.{HasLeft}
+use Rattle.rule_state.specs.declared.rules.RuleState.{RuleState}
+use Rattle.stride_steps.specs.Clients.{waiter_of}
+use Rattle.stride_steps.proofs.Finding.{none_waiting}
+use Rattle.runner.proofs.Rules.{accounts_left, kept_left, noted_left, told_left, told_step}
 use Rattle.runner.proofs.Over.{between_any, gate_more, edges_more}
 use Rattle.chunk_pool.specs.Pool.{free_count}
 
@@ -83,7 +91,7 @@ module _ (g : Setup) (state : State) (k : Kept) (held : Held) (left : Option (Li
       subst (λ (n : ℕ). IsEnd g state n cost (free_count held.machine.areas.pool) over_state) (sym stands.thread_is)
       (subst (λ (n : ℕ). IsEnd g state stands.segment.thread n (free_count held.machine.areas.pool) over_state) cost_same is)
 
-  module _ (uses : List ℕ) (uses_is : uses ≡ uses_in (held_chunks held.machine) held.machine.exchange) (graph : GraphState) (keys_are : graph.keys ≡ k.graph.keys)
+  module _ (uses : List ℕ) (uses_is : uses ≡ uses_in (held_chunks held.machine) held.machine.exchange) (rule : RuleState) (leaves : HasLeft k.rule rule under.choice.thread) (graph : GraphState) (keys_are : graph.keys ≡ k.graph.keys)
       (edges_are : graph.edges ≡ edges_with k.graph.edges (record { from = under.choice.node; to = end_node; cost = cost; change = changes under.before uses }))
       (counted : count_of graph.edges ≡ count_of k.graph.edges + 1) where
     uses_same : uses ≡ uses_in (held_chunks told.after) reaches.0.exchange
@@ -102,12 +110,17 @@ module _ (g : Setup) (state : State) (k : Kept) (held : Held) (left : Option (Li
     edges_now = edges_are ∙ ap (λ (es : List EdgeLine). edges_with es (record { from = under.choice.node; to = end_node; cost = cost; change = changes under.before uses })) stands.past.graph_is.edges
         ∙ ap (λ (r : SegmentRecord). edges_with (edges_of state.past.records) r) record_same ∙ sym (edges_more state.past.records _)
 
-    queued_now : AreQueued held.places k.scheduler over_state.waiting
-    queued_now =
+    nothing_waits : waiter_of under.choice.thread.number stands.waiting ≡ None
+    nothing_waits = none_waiting stands.waiting under.choice.thread.number
+        (subst (λ (n : ℕ). waits stands.waiting n ≡ false) (sym stands.thread_is) (stands.within.threads.running stands.segment.thread stands.within.running))
+
+    kept_now : AreKept held.places rule over_state.waiting
+    kept_now =
         let over = over_end g state stands.segment held.begun stands.here stands.waiting stands.within told.after told.step_is in
         let next : stands.here.next ≡ length reaches.0.threads = sym over.next ∙ reaches.2.stands.next in
-        subst (λ (l : List Waiter). AreQueued held.places k.scheduler l)
-        (stands.within.waiting_is ∙ ap (λ (n : ℕ). state.waiting ++ newcomers state.source n) next ∙ sym (append-nil (state.waiting ++ newcomers state.source (length reaches.0.threads)))) stands.queued
+        subst (λ (l : List Waiter). AreKept held.places rule l)
+        (stands.within.waiting_is ∙ ap (λ (n : ℕ). state.waiting ++ newcomers state.source n) next ∙ sym (append-nil (state.waiting ++ newcomers state.source (length reaches.0.threads))))
+        (kept_left held.places k.rule rule stands.waiting under.choice.thread stands.kept leaves nothing_waits)
 
     begun_below : held.begun + 1 ≤ held.machine.cost
     begun_below =
@@ -115,7 +128,7 @@ module _ (g : Setup) (state : State) (k : Kept) (held : Held) (left : Option (Li
         let here : held.machine.cost ≡ stands.here.cost + 1 = ap (λ (w : World). w.cost) told.machine ∙ over.cost in
         let way = stands.within.cost in let since = stands.within.since in omega arith
 
-    pub end_stands : StandsBetween g over_state (record k { graph = graph; under = None }) held left
+    pub end_stands : StandsBetween g over_state (record k { rule = rule; graph = graph; under = None }) held left
     end_stands = record {
       of = stands.of;
       going = told.going;
@@ -124,13 +137,16 @@ module _ (g : Setup) (state : State) (k : Kept) (held : Held) (left : Option (Li
           (threads_ended g state stands.segment held.begun stands.here stands.waiting stands.within told.after reaches.0 told.step_is reaches.2.stands)));
       ended = λ none. ap (λ (w : World). w.clock) told.machine;
       settled = subst (IsSettled (checked_of g)) (sym told.machine) reaches.2.settled;
-      queued = queued_now;
+      kept = kept_now;
+      needed = subst (λ (w : World). AreTold w rule) (sym told.machine) (told_left told.after k.rule rule under.choice.thread leaves
+          (told_step g state stands.segment held.begun stands.here stands.waiting stands.within held.places k.rule under.choice.thread stands.kept stands.needed told.after
+          (λ number apart old. subst (KeepsThread number stands.here) told.step_is (KeepsThread-step (setting_of g) number stands.here apart old))));
       past = record {
-        lasts = stands.past.lasts;
+        accounts = accounts_left g.policy.rule k.rule rule state.past over_state.past under.choice.thread refl stands.past.accounts leaves;
         graph_is = record { keys = keys_are ∙ stands.past.graph_is.keys; edges = edges_now };
         monitor_is = stands.past.monitor_is;
-        taken = stands.past.taken;
-        noted = let most = stands.past.noted in let below = begun_below in omega arith;
+        taken = noted_left k.rule rule under.choice.thread leaves ∙ stands.past.taken;
+        noted = let same = noted_left k.rule rule under.choice.thread leaves in let most = stands.past.noted in let below = begun_below in omega arith;
         records = let most = stands.past.records in let below = begun_below in omega arith;
         keys = let most = stands.past.keys in let below = begun_below in let same = keys_are in
             let size : length graph.keys ≡ length k.graph.keys = ap (λ (ks : List (List ℕ)). length ks) same in omega arith;

@@ -33,7 +33,7 @@ along g state segment begun waiting law (suc n) w at goes is =
     })
 
 -- the queues keep their places, where those that wait are live
-live_kept : (old new : Held) → KeepsPlaces old new → (t : ThreadId) (x : Waiter) → t.number ≡ x.thread → IsWaiting new.machine x → IsPlaced old.places t → IsPlaced new.places t
+pub live_kept : (old new : Held) → KeepsPlaces old new → (t : ThreadId) (x : Waiter) → t.number ≡ x.thread → IsWaiting new.machine x → IsPlaced old.places t → IsPlaced new.places t
 live_kept old new keeps t x same live placed =
     keeps t placed (some_is (thread_of new.machine t.number) live.thread (ap (λ (n : ℕ). thread_of new.machine n) same ∙ live.live)) where
       some_is : (o : Option Thread) (v : Thread) → o ≡ Some v → IsSome o

@@ -29,3 +29,9 @@ pub mod Pointed
 pub mod Passing
 pub mod LookedOn
 pub mod Rounds
+pub mod Needs
+pub mod NeedsGoing
+pub mod Queued
+pub mod Rules
+pub mod Joined
+pub mod Soundness

@@ -94,13 +94,14 @@ module _ (g : Setup) (state : State) (k : Kept) (held : Held) (left : Option (Li
     between = subst (λ (n : Option (Option Event)). IsBetween g state n held.machine) (sym e) (between_read g state held.machine event between_unread);
     ended = stands.ended;
     settled = stands.settled;
-    queued = stands.queued;
+    kept = stands.kept;
+    needed = stands.needed;
     past = stands.past;
     gate = stands.gate;
     read = read;
   }
 
-  machine_same : held.machine ≡ state.machine
+  pub machine_same : held.machine ≡ state.machine
   machine_same = clock_same state held.machine between_unread.machine_is between_unread.clock_is
 
   module _ (reader : ReaderState) (before told : Option (List ℕ)) (knows : Knows left before) where

@@ -19,11 +19,13 @@ use Rattle.runner.specs.declared.looking.Looked.{Looked}
 use Rattle.runner.specs.declared.looking.Next.{Next}
 use Rattle.runner.specs.Counts.{CountsLook, CountsPart, CountsStep}
 use Rattle.runner.specs.Kept.{Kept}
+use Rattle.runner.specs.Output.{Output}
 use Rattle.runner.specs.Looks.{Sees, Refuses, Nears}
 use Rattle.runner.specs.Ranks.{due_at, long_rank, lines_rank, stuck_rank, rank, FallsTo}
 use Rattle.runner.specs.Stands.{StandsBetween, StandsSomehow, IsAtPoint}
 use Rattle.runner.specs.Steps.{IsTold, HaltsAt, FailsIn, StepEnds}
-use Rattle.runner.proofs.Parts.{acts_between, way_between, onward_between, no_part, to_between}
+use Rattle.runner.proofs.Parts.{acts_between, way_between, same_ticks, onward_between, no_part, to_between}
+use Rattle.runner.proofs.Soundness.{sound_between}
 use Rattle.runner.proofs.Waited.{clock_same}
 
 -- what is known of the trace may be left out
@@ -34,7 +36,8 @@ forget g state k held left is = record {
   between = is.between;
   ended = is.ended;
   settled = is.settled;
-  queued = is.queued;
+  kept = is.kept;
+  needed = is.needed;
   past = is.past;
   gate = is.gate;
   read = record { trace_is = tt; unrefused = is.read.unrefused; fits = is.read.fits };
@@ -56,35 +59,41 @@ module _ (g : Setup) (state : State) (k : Kept) (held : Held) (left : Option (Li
   bad : (line : ℕ) → held.machine.threads ≢ [] → IsRefused state.trace line → IsBadTrace (seen_of state) line
   bad line live refused = record { between = no_segment; live = λ none. live (threads_same ∙ nil_from_length state.machine.threads none); refused = refused }
 
-  pub done_halts : (taken : Option (List ℕ)) → held.machine.threads ≡ [] → HaltsAt g state left k held Halt.Done taken taken
+  pub done_halts : (taken : Output) → held.machine.threads ≡ [] → HaltsAt g state left k held Halt.Done taken taken
   done_halts taken none = record {
     of = stands.of;
     stops = λ told. (done none, clock_same state held.machine stands.between.machine_is (stands.ended none));
     graph = stands.past.graph_is;
     acts = acts_between g state k held left stands;
     way = way_between g state k held left stands;
+    clock = same_ticks state.machine held.machine (clock_same state held.machine stands.between.machine_is (stands.ended none));
+    sound = sound_between g state k held left stands;
+    thread = tt;
     writes = refl;
   }
 
-  pub refused_halts : (new : Kept) (line : ℕ) (taken : Option (List ℕ)) → new.graph ≡ k.graph → held.machine.threads ≢ [] → Refuses g state left held line → HaltsAt g state left new held (Halt.BadTrace line) taken taken
+  pub refused_halts : (new : Kept) (line : ℕ) (taken : Output) → new.graph ≡ k.graph → held.machine.threads ≢ [] → Refuses g state left held line → HaltsAt g state left new held (Halt.BadTrace line) taken taken
   refused_halts new line taken same live is = record {
     of = stands.of;
     stops = λ told. (bad line live (is.refused told), is.machine_is);
     graph = subst (λ (x : GraphState). IsGraphOf x state.past) (sym same) stands.past.graph_is;
     acts = acts_between g state k held left stands;
     way = way_between g state k held left stands;
+    clock = same_ticks state.machine held.machine is.machine_is;
+    sound = sound_between g state k held left stands;
+    thread = tt;
     writes = refl;
   }
 
-  pub read_fails : (taken : Option (List ℕ)) → FailsIn g state left held taken taken
-  read_fails taken = no_part g state left held taken stands.of (onward_between g state k held left stands)
+  pub read_fails : (taken : Output) → held.machine ≡ state.machine → FailsIn g state left held taken taken
+  read_fails taken same = no_part g state left held taken stands.of (onward_between g state k held left stands same)
 
 pub at_point : (g : Setup) (state : State) (left : Option (List ℕ)) (k : Kept) (held : Held) (told : Option (List ℕ)) (event : Option Event) (sees : Sees g state left k held told event) → k.under ≡ None → held.machine.threads ≢ [] →
     IsAtPoint g state k held sees.left event
 at_point g state left k held told event sees under live = record { stands = sees.stands; between = under; known_is = sees.next_is; live = live }
 
 -- the step behind a look, from where it was looked
-pub from_before : (g : Setup) (state : State) (before here : Option (List ℕ)) (k : Kept) (held : Held) (left taken written : Option (List ℕ)) (result : Result (Option Halt) Failure) → (IsTold before → IsTold here) →
+pub from_before : (g : Setup) (state : State) (before here : Option (List ℕ)) (k : Kept) (held : Held) (left : Option (List ℕ)) (taken written : Output) (result : Result (Option Halt) Failure) → (IsTold before → IsTold here) →
     StepEnds g state here k held left taken written result → StepEnds g state before k held left taken written result
 from_before g state before here k held left taken written (Ok None) told is = record {
   new = is.new;
@@ -95,16 +104,16 @@ from_before g state before here k held left taken written (Ok None) told is = re
   stands = is.stands;
   writes = is.writes;
 }
-from_before g state before here k held left taken written (Ok (Some halt)) told is = record { of = is.of; stops = λ t. is.stops (told t); graph = is.graph; acts = is.acts; way = is.way; writes = is.writes }
+from_before g state before here k held left taken written (Ok (Some halt)) told is = record { of = is.of; stops = λ t. is.stops (told t); graph = is.graph; acts = is.acts; way = is.way; clock = is.clock; sound = is.sound; thread = is.thread; writes = is.writes }
 from_before g state before here k held left taken written (Err failure) told is = record {
   new = is.new;
   entries = is.entries;
   leads = λ t. is.leads (told t);
-  count = is.count;
-  part = is.part;
   writes = is.writes;
   acts = is.acts;
   way = is.way;
+  clock = is.clock;
+  sound = is.sound;
   of = is.of;
 }
 

@@ -1,5 +1,5 @@
 -- The end of a segment: at a blocking call, or with its thread.
-use Rattle.std.proofs.Common.{◌≡◌, ℕ, ◌+◌, ◌-◌, ◌≤◌, Bool, List, [], ◌∷◌, ◌++◌, length, Option, Some, None, refl, sym, ap, ◌∙◌, subst, arith}
+use Rattle.std.proofs.Common.{◌≡◌, ℕ, ◌+◌, ◌-◌, ◌≤◌, Bool, false, List, [], ◌∷◌, ◌++◌, length, Option, Some, None, refl, sym, ap, ◌∙◌, subst, arith}
 use Rattle.std.specs.Prelude.{IsSome, drop}
 use Rattle.std.proofs.lemmas.List.Sums.{fold-append}
 use Rattle.blocking_graph.specs.Edges.{edges_of, edges_with, count_of}
@@ -20,7 +20,7 @@ use Rattle.lawful_log.specs.Good.{checked_of}
 use Rattle.lawful_log.specs.Segments.{HasRun, IsBlock}
 use Rattle.lawful_log.specs.Setup.{Setup, setting_of}
 use Rattle.lawful_log.specs.State.{State, held_chunks}
-use Rattle.lawful_steps.specs.Waiting.{AreQueued}
+use Rattle.lawful_steps.specs.Waiting.{waits}
 use Rattle.lawful_steps.specs.Within.{IsBetween}
 use Rattle.lawful_steps.proofs.Between.{between_after, between_read}
 use Rattle.lawful_steps.proofs.Within.{cost_of, cost_is, over_block, rests_blocked, RestsBlocked, blocked_state, block_allowed, threads_blocked, formed_after_block}
@@ -31,7 +31,10 @@ use Rattle.machine_world.specs.StandsForWorld.{IsPast}
 use Rattle.machine_world.specs.Threads.{Thread, World, thread_of, Move, Goes, Puts, Spawns, Blocks, Ends, Stops, Wrong, step}
 use Rattle.resource_monitor.specs.Gate.{gate, gate_after}
 use Rattle.resource_monitor.specs.Pressure.{pressures}
-use Rattle.scheduler.specs.State.{SchedulerState, IsJoined}
+use Rattle.rule_state.specs.Rules.{HasRejoined}
+use Rattle.rule_state.specs.declared.rules.RuleState.{RuleState}
+use Rattle.stride_steps.specs.Clients.{waiter_of}
+use Rattle.stride_steps.proofs.Finding.{none_waiting}
 use Rattle.stands_between.specs.Between.{resting_key}
 use Rattle.stands_between.proofs.SiteKeys.{key_is}
 use Rattle.thread_core.specs.Turns.{Tells, HasKey, HasKeyOf}
@@ -43,7 +46,12 @@ use Rattle.world_source.specs.UnderWay.{IsSettled}
 use Rattle.runner.specs.declared.course.Under.{Under}
 use Rattle.runner.specs.Kept.{Kept, known}
 use Rattle.runner.specs.Stands.{IsOf, StandsBetween, StandsWithin, StepsAsSource}
-use Rattle.runner.proofs.Told.{queued_more}
+use Rattle.machine_world.specs.Alone.{KeepsThread}
+use Rattle.machine_world.proofs.OtherThreads.{KeepsThread-step}
+use Rattle.runner.specs.Needs.{IsNeeded}
+use Rattle.runner.specs.Rules.{AreKept, AreTold}
+use Rattle.runner.proofs.Rules.{accounts_rejoined, kept_rejoined, noted_rejoined, told_rejoined, told_step}
+use Rattle.ready_tree.specs.declared.needs.Need.{Need}
 use Rattle.runner.proofs.Turned.{some_live}
 
 -- ---- the key
@@ -121,9 +129,16 @@ module _ (g : Setup) (state : State) (k : Kept) (held : Held) (left : Option (Li
       (subst (λ (n : ℕ). IsBlock g state stands.segment.thread n key cost (free_count held.machine.areas.pool) over_state) (sym (node_is ∙ ap (λ (ks : List (List ℕ)). node_number ks key) stands.past.graph_is.keys))
       (subst (λ (n : ℕ). IsBlock g state stands.segment.thread (node_number state.past.keys key) key n (free_count held.machine.areas.pool) over_state) cost_same there))
 
+  pub live_is : thread_of held.machine under.choice.thread.number ≡ Some rests.thread
+  live_is = ap (λ (n : ℕ). thread_of held.machine n) stands.thread_is ∙ ap (λ (w : World). thread_of w stands.segment.thread) told.machine ∙ rests.live
+
+  pub live_now : IsSome (thread_of held.machine under.choice.thread.number)
+  live_now = some_live held.machine under.choice.thread.number rests.thread live_is
+
   -- ---- how the run stands after it
 
-  module _ (node : ℕ) (node_is : node ≡ node_number k.graph.keys key) (uses : List ℕ) (uses_is : uses ≡ uses_in (held_chunks held.machine) held.machine.exchange) (scheduler : SchedulerState) (joined : IsJoined k.scheduler scheduler node under.choice.thread) (graph : GraphState)
+  module _ (node : ℕ) (node_is : node ≡ node_number k.graph.keys key) (uses : List ℕ) (uses_is : uses ≡ uses_in (held_chunks held.machine) held.machine.exchange) (rule : RuleState) (need : Need) (joins : HasRejoined k.rule rule under.choice.thread node need)
+      (own : IsNeeded held.machine (record { thread = under.choice.thread; need = need })) (graph : GraphState)
       (keys_are : graph.keys ≡ keys_with k.graph.keys key)
       (edges_are : graph.edges ≡ edges_with k.graph.edges (record { from = under.choice.node; to = node; cost = cost; change = changes under.before uses }))
       (counted : count_of graph.edges ≡ count_of k.graph.edges + 1) (few : length graph.keys ≤ length k.graph.keys + 1) where
@@ -147,18 +162,18 @@ module _ (g : Setup) (state : State) (k : Kept) (held : Held) (left : Option (Li
     edges_now = edges_are ∙ ap (λ (es : List EdgeLine). edges_with es (record { from = under.choice.node; to = node; cost = cost; change = changes under.before uses })) stands.past.graph_is.edges
         ∙ ap (λ (r : SegmentRecord). edges_with (edges_of state.past.records) r) record_same ∙ sym (edges_more state.past.records _)
 
-    live_now : IsSome (thread_of held.machine under.choice.thread.number)
-    live_now = some_live held.machine under.choice.thread.number rests.thread
-        (ap (λ (n : ℕ). thread_of held.machine n) stands.thread_is ∙ ap (λ (w : World). thread_of w stands.segment.thread) told.machine ∙ rests.live)
+    nothing_waits : waiter_of under.choice.thread.number stands.waiting ≡ None
+    nothing_waits = none_waiting stands.waiting under.choice.thread.number
+        (subst (λ (n : ℕ). waits stands.waiting n ≡ false) (sym stands.thread_is) (stands.within.threads.running stands.segment.thread stands.within.running))
 
-    queued_now : AreQueued held.places scheduler over_state.waiting
-    queued_now =
+    kept_now : AreKept held.places rule over_state.waiting
+    kept_now =
         let last : ℕ → ℕ → List Waiter = λ thread at. record { thread = thread; node = at; since = told.after.clock } ∷ [] in
-        let all : AreQueued held.places scheduler (stands.waiting ++ last under.choice.thread.number node) =
-        queued_more held.places k.scheduler scheduler node under.choice.thread stands.waiting told.after.clock (stands.placed live_now) joined stands.queued in
+        let all : AreKept held.places rule (stands.waiting ++ last under.choice.thread.number node) =
+        kept_rejoined held.places k.rule rule stands.waiting under.choice.thread node told.after.clock need stands.kept joins (stands.placed live_now) nothing_waits in
         let over = over_block g state stands.segment held.begun stands.here stands.waiting stands.within told.after told.step_is in
         let next : stands.here.next ≡ length reaches.0.threads = sym over.next ∙ reaches.2.stands.next in
-        subst (λ (l : List Waiter). AreQueued held.places scheduler l)
+        subst (λ (l : List Waiter). AreKept held.places rule l)
         (ap (λ (n : ℕ). stands.waiting ++ last n node) stands.thread_is ∙ ap (λ (n : ℕ). stands.waiting ++ last stands.segment.thread n) number_same
         ∙ ap (λ (l : List Waiter). l ++ last stands.segment.thread (node_number state.past.keys key)) (stands.within.waiting_is ∙ ap (λ (n : ℕ). state.waiting ++ newcomers state.source n) next)) all
 
@@ -168,7 +183,7 @@ module _ (g : Setup) (state : State) (k : Kept) (held : Held) (left : Option (Li
         let here : held.machine.cost ≡ stands.here.cost + 1 = ap (λ (w : World). w.cost) told.machine ∙ over.cost in
         let way = stands.within.cost in let since = stands.within.since in omega arith
 
-    pub over_stands : StandsBetween g over_state (record k { scheduler = scheduler; graph = graph; under = None }) held left
+    pub over_stands : StandsBetween g over_state (record k { rule = rule; graph = graph; under = None }) held left
     over_stands = record {
       of = stands.of;
       going = told.going;
@@ -177,13 +192,17 @@ module _ (g : Setup) (state : State) (k : Kept) (held : Held) (left : Option (Li
           (threads_blocked g state stands.segment held.begun stands.here stands.waiting stands.within told.after reaches.0 key told.step_is reaches.2.stands)));
       ended = λ none. ap (λ (w : World). w.clock) told.machine;
       settled = subst (IsSettled (checked_of g)) (sym told.machine) reaches.2.settled;
-      queued = queued_now;
+      kept = kept_now;
+      needed = told_rejoined held.machine k.rule rule under.choice.thread node need joins own
+          (subst (λ (w : World). AreTold w k.rule) (sym told.machine)
+          (told_step g state stands.segment held.begun stands.here stands.waiting stands.within held.places k.rule under.choice.thread stands.kept stands.needed told.after
+          (λ number apart old. subst (KeepsThread number stands.here) told.step_is (KeepsThread-step (setting_of g) number stands.here apart old))));
       past = record {
-        lasts = λ n. joined.lasts n ∙ stands.past.lasts n;
+        accounts = accounts_rejoined g.policy.rule k.rule rule state.past over_state.past under.choice.thread node need refl stands.past.accounts joins;
         graph_is = record { keys = keys_are ∙ ap (λ (ks : List (List ℕ)). keys_with ks key) stands.past.graph_is.keys; edges = edges_now };
         monitor_is = stands.past.monitor_is;
-        taken = joined.noted ∙ stands.past.taken;
-        noted = let same = joined.noted in let most = stands.past.noted in let below = begun_below in omega arith;
+        taken = noted_rejoined k.rule rule under.choice.thread node need joins ∙ stands.past.taken;
+        noted = let same = noted_rejoined k.rule rule under.choice.thread node need joins in let most = stands.past.noted in let below = begun_below in omega arith;
         records = let most = stands.past.records in let below = begun_below in omega arith;
         keys = let most = stands.past.keys in let below = begun_below in omega arith;
       };

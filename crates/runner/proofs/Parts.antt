@@ -1,19 +1,21 @@
--- What a part of a step comes to: a line was written, whole or in part; or nothing was.
-use Rattle.std.proofs.Common.{◌≡◌, ℕ, zero, suc, ◌≤◌, Bool, true, ◌&&◌, List, [], ◌∷◌, ◌++◌, length, take, Option, Some, None, Result, Ok, Err, refl, sym, ap, ◌∙◌, subst, append-nil, arith}
+-- What a part of a step comes to: a line was put, or a beginning of it was taken; or nothing was.
+use Rattle.std.proofs.Common.{◌≡◌, ℕ, zero, suc, ◌+◌, ◌≤◌, Bool, true, ◌&&◌, List, [], ◌∷◌, ◌++◌, Option, Some, None, Result, Ok, Err, refl, sym, ap, ◌∙◌, subst, append-nil, arith}
 use Rattle.std.specs.Prelude.{nat_le, is_none, if◌then◌else◌}
-use Rattle.std.specs.Io.KnownBytes.{Appends}
 use Rattle.std.proofs.lemmas.Bool.Decides.{nat_tests}
-use Rattle.cap_io.specs.Writes.{Puts}
+use Rattle.lawful_log.specs.Good.{checked_of}
 use Rattle.lawful_log.specs.Lawful.{IsAllowed, nowhere, by_entry}
 use Rattle.lawful_log.specs.Segments.{quiet_world, after_quiet}
 use Rattle.lawful_log.specs.Setup.{Setup, setting_of}
 use Rattle.lawful_log.specs.State.{State}
+use Rattle.lawful_steps.proofs.Counts.{Counts, counts_step}
 use Rattle.machine_world.specs.Runs.{Action, Advance, Deliver, Pick, advanced, delivered, world_of, and_then, after_action, after_actions}
+use Rattle.machine_world.specs.Stretches.{IsSound}
 use Rattle.machine_world.specs.Threads.{World, Setting, Move, Goes, Puts as Puts_word, Spawns, Blocks, Ends, Stops, Wrong, step}
 use Rattle.c_mean.specs.ModelledCalls.{Delivery}
 use Rattle.runner.specs.declared.course.Under.{Under}
 use Rattle.runner.specs.declared.ends.Failure.{Failure}
 use Rattle.runner.specs.Kept.{Kept}
+use Rattle.runner.specs.Output.{Output, Grows, PutsText, TakesPart}
 use Rattle.runner.specs.Stands.{IsOf, StandsBetween, StandsWithin, StandsBy, Stands}
 use Rattle.runner.specs.Steps.{IsTold, ActsTo, GoesTo, FailsIn, PartEnds}
 use Rattle.schedule_log.specs.EntryText.{entry_text, log_text}
@@ -21,8 +23,10 @@ use Rattle.schedule_log.specs.declared.entries.Entry.{Entry}
 use Rattle.thread_core.specs.Turns.{Tells}
 use Rattle.thread_core.specs.Worlds.{Held}
 use Rattle.thread_core.specs.declared.turns.Turn.{Turn}
-use Rattle.runner.specs.Ways.{IsOnWay, has_waited, has_run, has_told}
+use Rattle.runner.specs.Ways.{IsOnWay, has_waited, has_run, has_told, HasTicked}
 use Rattle.runner.proofs.Acting.{acts_on, one_step, told_acts}
+use Rattle.runner.proofs.Joined.{grows_none, part_none}
+use Rattle.runner.proofs.Soundness.{sound_between, sound_within, sound_now}
 
 -- ---- one action
 
@@ -77,7 +81,49 @@ told_way s from at n quiet (Ends after) (Turn.Ended cost) number new e t = has_t
 told_way s from at n quiet (Stops stop) (Turn.Cut told cost) number new e t = has_run n (quiet ∙ ap Some (sym t.2))
 told_way s from at n quiet _ _ number new e t = absurd t
 
+-- ---- the clock
+
+pub same_ticks : (from after : World) → after ≡ from → HasTicked from after
+same_ticks from after e = subst (λ (w : World). HasTicked from w) (sym e) refl
+
+one_tick : (from at after : World) → HasTicked from at → after.clock ≡ at.clock + 1 → after.cost ≡ at.cost + 1 → HasTicked from after
+one_tick from at after ticked clock cost = omega (arith, ticked, clock, cost)
+
+quiet_tick : (from w : World) (m : Move) (after : World) → HasTicked from w → Counts w m → quiet_world m ≡ Some after → HasTicked from after
+quiet_tick from w (Goes v) after ticked c e = let same : v ≡ after = cc in subst (λ (u : World). HasTicked from u) same (one_tick from w v ticked c.clock c.cost)
+quiet_tick from w (Spawns number v) after ticked c e = let same : v ≡ after = cc in subst (λ (u : World). HasTicked from u) same (one_tick from w v ticked c.clock c.cost)
+quiet_tick from w (Puts_word value v) after ticked c e = absurd (let no : None ≡ Some after = e in cc)
+quiet_tick from w (Blocks v) after ticked c e = absurd (let no : None ≡ Some after = e in cc)
+quiet_tick from w (Ends v) after ticked c e = absurd (let no : None ≡ Some after = e in cc)
+quiet_tick from w (Stops stop) after ticked c e = absurd (let no : None ≡ Some after = e in cc)
+quiet_tick from w Wrong after ticked c e = absurd (let no : None ≡ Some after = e in cc)
+
+ticks_by : (s : Setting) (n : ℕ) (from w at : World) → HasTicked from w → ((v : World) → HasTicked from v → after_quiet s n v ≡ Some at → HasTicked from at) → (o : Option World) → quiet_world (step s w) ≡ o →
+    and_then o (after_quiet s n) ≡ Some at → HasTicked from at
+ticks_by s n from w at ticked rest None f e = absurd (let no : None ≡ Some at = e in cc)
+ticks_by s n from w at ticked rest (Some v) f e = rest v (quiet_tick from w (step s w) v ticked (counts_step s w) f) e
+
+quiet_ticks : (s : Setting) (n : ℕ) (from w at : World) → HasTicked from w → after_quiet s n w ≡ Some at → HasTicked from at
+quiet_ticks s zero from w at ticked e = let same : w ≡ at = (let some : Some w ≡ Some at = e in cc) in subst (λ (u : World). HasTicked from u) same ticked
+quiet_ticks s (suc n) from w at ticked e = ticks_by s n from w at ticked (λ v t f. quiet_ticks s n from v at t f) (quiet_world (step s w)) refl e
+
+told_ticks : (from at : World) (move : Move) (turn : Turn) (number : ℕ) (new : Held) → HasTicked from at → Counts at move → Tells move turn number at new → HasTicked from new.machine
+told_ticks from at (Puts_word value after) (Turn.Out told) number new ticked c t = subst (λ (u : World). HasTicked from u) (sym t.1) (one_tick from at after ticked c.clock c.cost)
+told_ticks from at (Spawns started after) (Turn.Spawned thread) number new ticked c t = subst (λ (u : World). HasTicked from u) (sym t.2) (one_tick from at after ticked c.clock c.cost)
+told_ticks from at (Spawns started after) Turn.Memory number new ticked c t = subst (λ (u : World). HasTicked from u) (sym t.0) ticked
+told_ticks from at (Blocks after) (Turn.Blocked key cost) number new ticked c t = subst (λ (u : World). HasTicked from u) (sym t.2) (one_tick from at after ticked c.clock c.cost)
+told_ticks from at (Ends after) (Turn.Ended cost) number new ticked c t = subst (λ (u : World). HasTicked from u) (sym t.1) (one_tick from at after ticked c.clock c.cost)
+told_ticks from at (Stops stop) (Turn.Cut told cost) number new ticked c t = subst (λ (u : World). HasTicked from u) (sym t.2) ticked
+told_ticks from at _ _ number new ticked c t = absurd t
+
 -- ---- where the run stands
+
+-- how a machine world has gone on from that of a log's state
+pub record Onward (g : Setup) (from after : World) : Type 0 where
+  pub acts : ActsTo (setting_of g) from after
+  pub way : IsOnWay (setting_of g) from after
+  pub clock : HasTicked from after
+  pub sound : IsSound (checked_of g) after
 
 module _ (g : Setup) (state : State) (k : Kept) (held : Held) (left : Option (List ℕ)) where
   pub acts_between : StandsBetween g state k held left → ActsTo (setting_of g) state.machine held.machine
@@ -106,11 +152,16 @@ module _ (g : Setup) (state : State) (k : Kept) (held : Held) (left : Option (Li
   pub way_now : Stands g state k held left → IsOnWay (setting_of g) state.machine held.machine
   way_now stands = way_by k.under stands
 
-  pub onward_between : StandsBetween g state k held left → ActsTo (setting_of g) state.machine held.machine × IsOnWay (setting_of g) state.machine held.machine
-  onward_between stands = (acts_between stands, way_between stands)
+  pub ticks_within : (under : Under) → StandsWithin g state k held left under → HasTicked state.machine held.machine
+  ticks_within under stands = told_ticks state.machine stands.here (step (setting_of g) stands.here) under.turn stands.segment.thread held
+      (quiet_ticks (setting_of g) stands.within.steps state.machine state.machine stands.here refl stands.within.quiet) (counts_step (setting_of g) stands.here) stands.tells
 
-  pub onward_within : (under : Under) → StandsWithin g state k held left under → ActsTo (setting_of g) state.machine held.machine × IsOnWay (setting_of g) state.machine held.machine
-  onward_within under stands = (acts_within under stands, way_within under stands)
+  -- at a choice point where the clock hasn't moved
+  pub onward_between : StandsBetween g state k held left → held.machine ≡ state.machine → Onward g state.machine held.machine
+  onward_between stands same = record { acts = acts_between stands; way = way_between stands; clock = same_ticks state.machine held.machine same; sound = sound_between g state k held left stands }
+
+  pub onward_within : (under : Under) → StandsWithin g state k held left under → Onward g state.machine held.machine
+  onward_within under stands = record { acts = acts_within under stands; way = way_within under stands; clock = ticks_within under stands; sound = sound_within g state k held left under stands }
 
   pub acts_now : Stands g state k held left → ActsTo (setting_of g) state.machine held.machine
   acts_now stands = acts_by k.under stands
@@ -147,12 +198,8 @@ pub no_line : log_text [] ≡ []
 unfolding log_text
 no_line = refl
 
-keeps_all : (taken : Option (List ℕ)) → Appends taken taken []
-keeps_all None = tt
-keeps_all (Some bytes) = sym (append-nil bytes)
-
--- nothing was written
-pub silent : (g : Setup) (state : State) (left : Option (List ℕ)) (k : Kept) (held : Held) (after taken : Option (List ℕ)) → (IsTold left → IsTold after) → Stands g state k held after → GoesTo g state left k held after taken taken
+-- nothing was put
+pub silent : (g : Setup) (state : State) (left : Option (List ℕ)) (k : Kept) (held : Held) (after : Option (List ℕ)) (taken : Output) → (IsTold left → IsTold after) → Stands g state k held after → GoesTo g state left k held after taken taken
 silent g state left k held after taken told stands = record {
   new = state;
   entries = [];
@@ -160,42 +207,42 @@ silent g state left k held after taken told stands = record {
   leads = λ t. nowhere;
   acts = no_acts (setting_of g) state.machine state.machine refl;
   stands = stands;
-  writes = subst (λ (l : List ℕ). Appends taken taken l) (sym no_line) (keeps_all taken);
+  writes = subst (λ (l : List ℕ). Grows taken taken l) (sym no_line) (grows_none taken);
 }
 
-pub no_part : (g : Setup) (state : State) (left : Option (List ℕ)) (held : Held) (taken : Option (List ℕ)) → IsOf g held → ActsTo (setting_of g) state.machine held.machine × IsOnWay (setting_of g) state.machine held.machine → FailsIn g state left held taken taken
-no_part g state left held taken of acts = record {
+pub no_part : (g : Setup) (state : State) (left : Option (List ℕ)) (held : Held) (taken : Output) → IsOf g held → Onward g state.machine held.machine → FailsIn g state left held taken taken
+no_part g state left held taken of onward = record {
   new = state;
   entries = [];
   leads = λ t. nowhere;
-  count = 0;
-  part = omega arith;
-  writes = keeps_all taken;
-  acts = acts.0;
-  way = acts.1;
+  writes = part_none taken (log_text []);
+  acts = onward.acts;
+  way = onward.way;
+  clock = onward.clock;
+  sound = onward.sound;
   of = of;
 }
 
--- a line was written, whole or in part, by whether the write failed
-pub part_of : (g : Setup) (state new : State) (left : Option (List ℕ)) (k : Kept) (held : Held) (taken written : Option (List ℕ)) (entry : Entry) (result : Result (Unit {0}) Failure) → (IsTold left → IsAllowed g state entry new) →
-    ActsTo (setting_of g) state.machine new.machine → Stands g new k held left → Puts taken written (entry_text entry ++ 10 ∷ []) result → PartEnds g state left k held left taken written result
-part_of g state new left k held taken written entry (Ok v) allowed acts stands puts = record {
+-- a line was put, or a beginning of it and of what was held was taken
+pub part_of : (g : Setup) (state new : State) (left : Option (List ℕ)) (k : Kept) (held : Held) (taken written : Output) (entry : Entry) (result : Result (Unit {0}) Failure) → (IsTold left → IsAllowed g state entry new) →
+    ActsTo (setting_of g) state.machine new.machine → HasTicked new.machine held.machine → Stands g new k held left → PutsText taken written (entry_text entry ++ 10 ∷ []) result → PartEnds g state left k held left taken written result
+part_of g state new left k held taken written entry (Ok v) allowed acts ticked stands puts = record {
   new = new;
   entries = entry ∷ [];
   told = λ told. told;
   leads = λ told. by_entry (allowed told) nowhere;
   acts = acts;
   stands = stands;
-  writes = subst (λ (l : List ℕ). Appends taken written l) (sym (one_line entry)) puts;
+  writes = subst (λ (l : List ℕ). Grows taken written l) (sym (one_line entry)) puts;
 }
-part_of g state new left k held taken written entry (Err failure) allowed acts stands puts = record {
+part_of g state new left k held taken written entry (Err failure) allowed acts ticked stands puts = record {
   new = new;
   entries = entry ∷ [];
   leads = λ told. by_entry (allowed told) nowhere;
-  count = puts.0;
-  part = subst (λ (l : List ℕ). puts.0 ≤ length l) (sym (one_line entry)) puts.1;
-  writes = subst (λ (l : List ℕ). Appends taken written (take puts.0 l)) (sym (one_line entry)) puts.2;
+  writes = subst (λ (l : List ℕ). TakesPart taken written l) (sym (one_line entry)) puts;
   acts = acts_on (setting_of g) state.machine new.machine held.machine acts (acts_now g new k held left stands);
   way = way_now g new k held left stands;
+  clock = ticked;
+  sound = sound_now g new k held left stands;
   of = of_now g new k held left stands;
 }

@@ -15,13 +15,15 @@ use Rattle.runner.specs.Answers.{KeepsRun}
 use Rattle.runner.specs.declared.ends.Halt.{Halt}
 use Rattle.runner.specs.declared.looking.Next.{Next}
 use Rattle.runner.specs.Kept.{Kept, known}
+use Rattle.runner.specs.Output.{Output}
 use Rattle.runner.specs.Ranks.{long_rank, lines_rank, next_rank, under_rank}
 use Rattle.runner.specs.Stands.{FitsNext, IsAtPoint}
 use Rattle.runner.specs.Steps.{HaltsAt, StepEnds}
 use Rattle.runner.specs.Waits.{WaitEnds}
 use Rattle.thread_core.specs.Making.{IsEventInRange, after_event}
 use Rattle.thread_core.specs.Worlds.{Held}
-use Rattle.runner.proofs.Parts.{acts_between, way_between, by_none, silent}
+use Rattle.runner.proofs.Parts.{acts_between, way_between, same_ticks, by_none, silent}
+use Rattle.runner.proofs.Soundness.{sound_between}
 
 known_event : (n : Next) (event : Event) → known n ≡ Some (Some event) → n ≡ Next.Event event
 known_event Next.Unread event e = absurd (cc)
@@ -55,7 +57,7 @@ module _ (g : Setup) (state : State) (k : Kept) (held : Held) (left : Option (Li
   not_due_event event e none = ap (λ (o : Option Event). is_due o held.machine.clock) e ∙ due_by event held.machine.clock none
 
   -- the clock has moved, or the run is idle
-  pub waited : (new : Held) (result : Option Halt) (taken : Option (List ℕ)) → WaitEnds g state k held new left result → StepEnds g state left k new left taken taken (Ok result)
+  pub waited : (new : Held) (result : Option Halt) (taken : Output) → WaitEnds g state k held new left result → StepEnds g state left k new left taken taken (Ok result)
   waited new None taken is = silent g state left k new left taken (λ told. told) (by_none g state k new left at.between is.stands)
   waited new (Some halt) taken is = subst (λ (h : Held). HaltsAt g state left k h halt taken taken) (sym is.same) (subst (λ (stop : Halt). HaltsAt g state left k held stop taken taken) (sym is.halt_is) idle) where
     idle : HaltsAt g state left k held Halt.Idle taken taken
@@ -65,6 +67,9 @@ module _ (g : Setup) (state : State) (k : Kept) (held : Held) (left : Option (Li
       graph = at.stands.past.graph_is;
       acts = acts_between g state k held left at.stands;
       way = way_between g state k held left at.stands;
+      clock = same_ticks state.machine held.machine is.machine_is;
+      sound = sound_between g state k held left at.stands;
+      thread = tt;
       writes = refl;
     }
 

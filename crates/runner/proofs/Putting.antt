@@ -1,19 +1,21 @@
 -- What a run writes of a value that is put, and a thread that starts.
 use Rattle.std.proofs.Common.{◌≡◌, ℕ, List, [], ◌∷◌, ◌++◌, Option, Some, None, Result, refl, subst}
 use Rattle.std.specs.Prelude.{IsSome}
-use Rattle.cap_io.specs.Writes.{Puts}
 use Rattle.cap_word.specs.Word.{signed}
 use Rattle.cap_word.specs.declared.threads.ThreadId.{ThreadId}
 use Rattle.lawful_log.specs.Setup.{Setup, setting_of}
 use Rattle.lawful_log.specs.State.{State}
 use Rattle.machine_world.specs.Threads.{World}
-use Rattle.scheduler.specs.State.{SchedulerState, IsJoined}
+use Rattle.rule_state.specs.Rules.{HasStarted, MayStart}
+use Rattle.rule_state.specs.declared.rules.RuleState.{RuleState}
 use Rattle.scheduler.specs.declared.choices.Choice.{Choice}
 use Rattle.runner.specs.declared.course.Under.{Under}
 use Rattle.runner.specs.declared.ends.Failure.{Failure}
 use Rattle.runner.specs.Kept.{Kept}
+use Rattle.runner.specs.Output.{Output, PutsText}
 use Rattle.runner.specs.Stands.{Stands, StandsInside, StandsWithin}
 use Rattle.runner.specs.Steps.{ActsTo, PartEnds}
+use Rattle.runner.specs.Ways.{HasTicked}
 use Rattle.schedule_log.specs.EntryText.{entry_text}
 use Rattle.schedule_log.specs.declared.entries.Entry.{Entry}
 use Rattle.thread_core.specs.Turns.{MayProceed}
@@ -21,7 +23,7 @@ use Rattle.thread_core.specs.Worlds.{Held}
 use Rattle.thread_core.specs.declared.turns.Turn.{Turn}
 use Rattle.runner.proofs.AsSource.{source_steps}
 use Rattle.runner.proofs.Parts.{acts_within, part_of}
-use Rattle.runner.proofs.Told.{out_state, out_is, out_inside, put_told, spawn_inside}
+use Rattle.runner.proofs.Told.{out_state, out_is, out_inside, put_told, spawn_inside, spawn_may_start}
 
 -- where a segment goes on it may proceed
 may_by : (held : Held) (stopped : Option Turn) → stopped ≡ None → IsSome held.machine.running → MayProceed held stopped
@@ -48,10 +50,13 @@ module _ (g : Setup) (state : State) (k : Kept) (held : Held) (left : Option (Li
         (put_told g state k held left under stands (source_steps g state held stands.of stands.segment.thread) value turn_is).machine (acts_within g state k held left under stands)
 
     -- after the segment has gone on
-    pub put_part : (new : Kept) (after : Held) → Stands g put_next new after left → (taken written : Option (List ℕ)) (result : Result (Unit {0}) Failure) →
-        Puts taken written (entry_text (Entry.Out under.choice.thread.number (signed value)) ++ 10 ∷ []) result → PartEnds g state left new after left taken written result
-    put_part new after stand taken written result puts = part_of g state put_next left new after taken written (Entry.Out under.choice.thread.number (signed value)) result
-        (λ told. out_is g state k held left under stands (source_steps g state held stands.of stands.segment.thread) value turn_is) put_acts stand puts
+    pub put_part : (new : Kept) (after : Held) → Stands g put_next new after left → HasTicked put_next.machine after.machine → (taken written : Output) (result : Result (Unit {0}) Failure) →
+        PutsText taken written (entry_text (Entry.Out under.choice.thread.number (signed value)) ++ 10 ∷ []) result → PartEnds g state left new after left taken written result
+    put_part new after stand ticked taken written result puts = part_of g state put_next left new after taken written (Entry.Out under.choice.thread.number (signed value)) result
+        (λ told. out_is g state k held left under stands (source_steps g state held stands.of stands.segment.thread) value turn_is) put_acts ticked stand puts
 
-  pub spawned_inside : (thread : ThreadId) → under.turn ≡ Turn.Spawned thread → (scheduler : SchedulerState) → IsJoined k.scheduler scheduler 0 thread → StandsInside g state (record k { scheduler = scheduler }) held left under.choice under.before
-  spawned_inside thread turn_is scheduler joined = spawn_inside g state k held left under stands (source_steps g state held stands.of stands.segment.thread) thread turn_is scheduler joined
+  pub spawned_inside : (thread : ThreadId) → under.turn ≡ Turn.Spawned thread → (rule : RuleState) → HasStarted k.rule rule thread → StandsInside g state (record k { rule = rule }) held left under.choice under.before
+  spawned_inside thread turn_is rule starts = spawn_inside g state k held left under stands (source_steps g state held stands.of stands.segment.thread) thread turn_is rule starts
+
+  pub spawned_may_start : (thread : ThreadId) → under.turn ≡ Turn.Spawned thread → MayStart k.rule thread
+  spawned_may_start thread turn_is = spawn_may_start g state k held left under stands (source_steps g state held stands.of stands.segment.thread) thread turn_is

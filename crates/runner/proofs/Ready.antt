@@ -31,6 +31,7 @@ accept_alike (Block.Wait channel) = refl
 accept_alike (Block.Sleep ticks) = refl
 accept_alike Block.Yield = refl
 accept_alike (Block.Take resource amount) = refl
+accept_alike (Block.WaitFor channel ticks) = refl
 
 accepting_alike : (b : Option Blocked) → is_at_accept_blocked b ≡ is_blocked_at_accept b
 accepting_alike None = refl

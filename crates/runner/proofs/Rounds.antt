@@ -1,42 +1,46 @@
 -- The loop of a run.
-use Rattle.std.proofs.Common.{◌≡◌, ℕ, List, [], length, Option, Some, None, Result, Ok, Err, refl, ◌∙◌, subst, arith}
+use Rattle.std.proofs.Common.{◌≡◌, ℕ, List, [], ◌++◌, Option, Some, None, Result, Ok, Err, refl, ◌∙◌, subst, arith}
 use Rattle.std.specs.Io.KnownBytes.{Appends}
+use Rattle.std.proofs.KnownBytes.{Appends-nil}
 use Rattle.cap_io.specs.Writes.{Puts}
 use Rattle.cap_word.specs.declared.stops.Stop.{Stop}
 use Rattle.cap_word.specs.declared.threads.ThreadId.{ThreadId}
+use Rattle.choice_rules.specs.Policy.{Rule}
 use Rattle.lawful_log.specs.Lawful.{nowhere}
 use Rattle.lawful_log.specs.Setup.{Setup, setting_of}
 use Rattle.lawful_log.specs.State.{State, start_of}
 use Rattle.resource_monitor.specs.Monitor.{MonitorState}
-use Rattle.runner.specs.Answers.{IsAtStart, CameTo, FellShort, HasRisen, IsRunEnd, KeepsRun}
+use Rattle.runner.specs.Answers.{IsAtStartBy, CameTo, FellShort, HasRisen, IsRunEnd, KeepsRun}
 use Rattle.runner.specs.Counts.{CountsPart, CountsStep}
 use Rattle.runner.specs.declared.ends.Failure.{Failure}
 use Rattle.runner.specs.declared.ends.Halt.{Halt}
 use Rattle.runner.specs.Kept.{Kept}
 use Rattle.runner.specs.Lines.{failure_end, halt_end, end_lines}
 use Rattle.runner.specs.Looks.{Knows}
+use Rattle.runner.specs.Output.{Output, unheld}
 use Rattle.runner.specs.Sound.{IsSound}
 use Rattle.runner.specs.Ways.{has_run}
 use Rattle.runner.specs.Stands.{StandsBetween, Stands, StandsSomehow, bytes_of}
 use Rattle.runner.specs.Steps.{HaltsAt, StepEnds, stop_line}
 use Rattle.schedule_log.specs.EntryText.{log_text}
 use Rattle.thread_core.specs.Worlds.{Held}
-use Rattle.runner.proofs.Following.{Follows, follows_first, follows_on, fails_now, comes_to, stops_short, fell_leads, keeps_taken}
+use Rattle.runner.proofs.Following.{Follows, follows_first, follows_on, fails_now, comes_to, stops_short, fell_leads}
 use Rattle.runner.proofs.Parts.{no_acts}
+use Rattle.runner.proofs.Started.{start_sound}
 use Rattle.runner.proofs.Stepping.{keeps_on, keeps_same}
 use Rattle.chunk_pool.specs.Pool.{free_count}
 
-pub record RunsOn (first : Held) (monitor : MonitorState) (left_first taken_first : Option (List ℕ)) (reads_first writes_first : ℕ) (k : Kept) (held : Held) (told_left taken : Option (List ℕ)) (reads writes : ℕ) : Type 0 where
-  pub some : (g : Setup) × IsAtStart g first monitor
+pub record RunsOn (first : Held) (rule : Rule) (monitor : MonitorState) (left_first taken_first : Option (List ℕ)) (reads_first writes_first : ℕ) (k : Kept) (held : Held) (told_left : Option (List ℕ)) (now : Output) (reads writes : ℕ) : Type 0 where
+  pub some : (g : Setup) × IsAtStartBy rule g first monitor
   pub sound : IsSound first.accepted
-  pub follows : (g : Setup) → IsAtStart g first monitor → Follows g first left_first taken_first k held told_left taken
+  pub follows : (g : Setup) → IsAtStartBy rule g first monitor → Follows g first left_first taken_first k held told_left now
   pub same_reads : reads ≡ reads_first
   pub same_writes : writes ≡ writes_first
   pub keeps : KeepsRun first held
 
-pub runs_first : (first : Held) (monitor : MonitorState) (left taken : Option (List ℕ)) (reads writes : ℕ) (k : Kept) → ((g : Setup) × IsAtStart g first monitor) → IsSound first.accepted →
-    ((g : Setup) (l : Option (List ℕ)) → IsAtStart g first monitor → (k.under ≡ None) × StandsBetween g (start_of g (bytes_of l) first.machine) k first l) → RunsOn first monitor left taken reads writes k first left taken reads writes
-runs_first first monitor left taken reads writes k some sound starts = record {
+pub runs_first : (first : Held) (rule : Rule) (monitor : MonitorState) (left taken : Option (List ℕ)) (reads writes : ℕ) (k : Kept) → ((g : Setup) × IsAtStartBy rule g first monitor) → IsSound first.accepted →
+    ((g : Setup) (l : Option (List ℕ)) → IsAtStartBy rule g first monitor → (k.under ≡ None) × StandsBetween g (start_of g (bytes_of l) first.machine) k first l) → RunsOn first rule monitor left taken reads writes k first left (unheld taken) reads writes
+runs_first first rule monitor left taken reads writes k some sound starts = record {
   some = some;
   sound = sound;
   follows = λ g at. let s = starts g left at in follows_first g first left taken k s.0 s.1;
@@ -46,49 +50,49 @@ runs_first first monitor left taken reads writes k some sound starts = record {
 }
 
 -- what a step says of every log beside it
-abbrev pub Ends : Kept → Held → Option (List ℕ) → Option (List ℕ) → Kept → Held → Option (List ℕ) → Option (List ℕ) → Result (Option Halt) Failure → Type 0
-Ends k held told taken new after told_after written result =
-    (g : Setup) (state : State) (left : Option (List ℕ)) → Knows left told → Stands g state k held left → (l : Option (List ℕ)) × Knows l told_after × StepEnds g state left new after l taken written result
+abbrev pub Ends : Kept → Held → Option (List ℕ) → Output → Kept → Held → Option (List ℕ) → Output → Result (Option Halt) Failure → Type 0
+Ends k held told now new after told_after then_ result =
+    (g : Setup) (state : State) (left : Option (List ℕ)) → Knows left told → Stands g state k held left → (l : Option (List ℕ)) × Knows l told_after × StepEnds g state left new after l now then_ result
 
-module _ (first : Held) (monitor : MonitorState) (left_first taken_first : Option (List ℕ)) (reads_first writes_first : ℕ) (k : Kept) (held : Held) (told taken : Option (List ℕ)) (reads writes : ℕ)
-    (runs : RunsOn first monitor left_first taken_first reads_first writes_first k held told taken reads writes) where
+module _ (first : Held) (rule : Rule) (monitor : MonitorState) (left_first taken_first : Option (List ℕ)) (reads_first writes_first : ℕ) (k : Kept) (held : Held) (told : Option (List ℕ)) (now : Output) (reads writes : ℕ)
+    (runs : RunsOn first rule monitor left_first taken_first reads_first writes_first k held told now reads writes) where
   pub stands_somehow : StandsSomehow k held
   stands_somehow = let f = runs.follows runs.some.0 runs.some.1 in (runs.some.0, f.state, f.left, f.stands)
 
-  module _ (new : Kept) (after : Held) (told_after written : Option (List ℕ)) (reads_after writes_after : ℕ) (keeps : KeepsRun held after) where
+  module _ (new : Kept) (after : Held) (told_after : Option (List ℕ)) (then_ : Output) (reads_after writes_after : ℕ) (keeps : KeepsRun held after) where
     pub keeps_now : KeepsRun first after
     keeps_now = keeps_on first held after runs.keeps keeps
 
-    pub runs_step : Ends k held told taken new after told_after written (Ok None) → CountsStep {V = Option Halt} (Ok None) reads reads_after writes writes_after → RunsOn first monitor left_first taken_first reads_first writes_first new after told_after written reads_after writes_after
+    pub runs_step : Ends k held told now new after told_after then_ (Ok None) → CountsStep {V = Option Halt} (Ok None) reads reads_after writes writes_after → RunsOn first rule monitor left_first taken_first reads_first writes_first new after told_after then_ reads_after writes_after
     runs_step ends counts = record {
       some = runs.some;
       sound = runs.sound;
       follows = λ g at.
           let f = runs.follows g at in
           let e = ends g f.state f.left f.knows f.stands in
-          follows_on g first left_first taken_first k held told taken f new after e.0 told_after written e.1 e.2;
+          follows_on g first left_first taken_first k held told now f new after e.0 told_after then_ e.1 e.2;
       same_reads = counts.0 ∙ runs.same_reads;
       same_writes = counts.1 ∙ runs.same_writes;
       keeps = keeps_now;
     }
 
     -- a step fails
-    end_by : (failure : Failure) (g : Setup) → FellShort g after left_first taken_first written → CountsStep {V = Option Halt} (Err failure) reads reads_after writes writes_after →
-        IsRunEnd g after left_first taken_first written reads_first reads_after writes_first writes_after (failure_end failure)
+    end_by : (failure : Failure) (g : Setup) → FellShort g after left_first taken_first then_.taken → CountsStep {V = Option Halt} (Err failure) reads reads_after writes writes_after →
+        IsRunEnd g after left_first taken_first then_.taken reads_first reads_after writes_first writes_after (failure_end failure)
     end_by Failure.Read g short counts = (short, subst (λ (n : ℕ). HasRisen n reads_after) runs.same_reads counts.0, counts.1 ∙ runs.same_writes)
     end_by Failure.Write g short counts = (short, counts.0 ∙ runs.same_reads, subst (λ (n : ℕ). HasRisen n writes_after) runs.same_writes counts.1)
     end_by Failure.Memory g short counts = (short, counts.0 ∙ runs.same_reads, counts.1 ∙ runs.same_writes)
 
-    pub run_fails : (failure : Failure) → Ends k held told taken new after told_after written (Err failure) → CountsStep {V = Option Halt} (Err failure) reads reads_after writes writes_after → (g : Setup) → IsAtStart g first monitor →
-        IsRunEnd g after left_first taken_first written reads_first reads_after writes_first writes_after (failure_end failure)
+    pub run_fails : (failure : Failure) → Ends k held told now new after told_after then_ (Err failure) → CountsStep {V = Option Halt} (Err failure) reads reads_after writes writes_after → (g : Setup) → IsAtStartBy rule g first monitor →
+        IsRunEnd g after left_first taken_first then_.taken reads_first reads_after writes_first writes_after (failure_end failure)
     run_fails failure ends counts g at =
         let f = runs.follows g at in
         let e = ends g f.state f.left f.knows f.stands in
-        end_by failure g (fails_now g first left_first taken_first k held told taken f monitor at runs.sound after written e.2) counts
+        end_by failure g (fails_now g first left_first taken_first k held told now f monitor at runs.sound after then_ e.2) counts
 
     -- it stops, and its end is written
-    module _ (halt : Halt) (ends : Ends k held told taken new after told_after written (Ok (Some halt))) (counts : CountsStep {V = Option Halt} (Ok (Some halt)) reads reads_after writes writes_after) (last : Option (List ℕ)) (writes_last : ℕ) where
-      halts : (g : Setup) (at : IsAtStart g first monitor) → let f = runs.follows g at in HaltsAt g f.state f.left new after halt taken written
+    module _ (halt : Halt) (ends : Ends k held told now new after told_after then_ (Ok (Some halt))) (counts : CountsStep {V = Option Halt} (Ok (Some halt)) reads reads_after writes writes_after) (last : Option (List ℕ)) (writes_last : ℕ) where
+      halts : (g : Setup) (at : IsAtStartBy rule g first monitor) → let f = runs.follows g at in HaltsAt g f.state f.left new after halt now then_
       halts g at = let f = runs.follows g at in (ends g f.state f.left f.knows f.stands).2
 
       came_cut : (thread : ThreadId) (stop : Stop) (cost : ℕ) (g : Setup) → CameTo g after left_first taken_first last (halt_end (Halt.Cut thread stop cost)) → writes_last ≡ writes_first →
@@ -104,10 +108,10 @@ module _ (first : Held) (monitor : MonitorState) (left_first taken_first : Optio
       came_by (Halt.BadTrace line) g came same = (came, counts.0 ∙ runs.same_reads, same)
       came_by (Halt.Cut thread stop cost) g came same = came_cut thread stop cost g came same
 
-      pub run_comes : Appends written last (log_text (end_lines after.setting.caps new.graph.edges (stop_line halt (free_count after.machine.areas.pool)))) → CountsPart {V = Unit {0}} (Ok tt) writes_after writes_last → (g : Setup) → IsAtStart g first monitor →
+      pub run_comes : Appends then_.taken last (then_.held ++ log_text (end_lines after.setting.caps new.graph.edges (stop_line halt (free_count after.machine.areas.pool)))) → CountsPart {V = Unit {0}} (Ok tt) writes_after writes_last → (g : Setup) → IsAtStartBy rule g first monitor →
           IsRunEnd g after left_first taken_first last reads_first reads_after writes_first writes_last (halt_end halt)
       run_comes puts same g at =
-          came_by halt g (comes_to g first left_first taken_first k held told taken (runs.follows g at) monitor at runs.sound halt new after written (halts g at) last puts) (same ∙ counts.1 ∙ runs.same_writes)
+          came_by halt g (comes_to g first left_first taken_first k held told now (runs.follows g at) monitor at runs.sound halt new after then_ (halts g at) last puts) (same ∙ counts.1 ∙ runs.same_writes)
 
       short_by : (failure : Failure) (g : Setup) → FellShort g after left_first taken_first last → CountsPart {V = Unit {0}} (Err failure) writes_after writes_last →
           IsRunEnd g after left_first taken_first last reads_first reads_after writes_first writes_last (failure_end failure)
@@ -115,16 +119,16 @@ module _ (first : Held) (monitor : MonitorState) (left_first taken_first : Optio
       short_by Failure.Write g short c = (short, counts.0 ∙ runs.same_reads, subst (λ (n : ℕ). HasRisen n writes_last) (counts.1 ∙ runs.same_writes) c)
       short_by Failure.Memory g short c = (short, counts.0 ∙ runs.same_reads, c ∙ counts.1 ∙ runs.same_writes)
 
-      pub run_unwritten : (failure : Failure) → Puts {E = Failure} written last (log_text (end_lines after.setting.caps new.graph.edges (stop_line halt (free_count after.machine.areas.pool)))) (Err failure) → CountsPart {V = Unit {0}} (Err failure) writes_after writes_last →
-          (g : Setup) → IsAtStart g first monitor → IsRunEnd g after left_first taken_first last reads_first reads_after writes_first writes_last (failure_end failure)
+      pub run_unwritten : (failure : Failure) → Puts {E = Failure} then_.taken last (then_.held ++ log_text (end_lines after.setting.caps new.graph.edges (stop_line halt (free_count after.machine.areas.pool)))) (Err failure) → CountsPart {V = Unit {0}} (Err failure) writes_after writes_last →
+          (g : Setup) → IsAtStartBy rule g first monitor → IsRunEnd g after left_first taken_first last reads_first reads_after writes_first writes_last (failure_end failure)
       run_unwritten failure puts c g at =
-          short_by failure g (stops_short g first left_first taken_first k held told taken (runs.follows g at) monitor at runs.sound halt new after written (halts g at) last puts.0 puts.1 puts.2) c
+          short_by failure g (stops_short g first left_first taken_first k held told now (runs.follows g at) monitor at runs.sound halt new after then_ (halts g at) last puts) c
 
 -- there was no memory to begin with
-pub run_memory : (first : Held) (monitor : MonitorState) (left taken : Option (List ℕ)) (reads writes : ℕ) → IsSound first.accepted → (g : Setup) → IsAtStart g first monitor → IsRunEnd g first left taken taken reads reads writes writes (failure_end Failure.Memory)
-run_memory first monitor left taken reads writes sound g at = (
+pub run_memory : (first : Held) (rule : Rule) (monitor : MonitorState) (left taken : Option (List ℕ)) (reads writes : ℕ) → IsSound first.accepted → (g : Setup) → IsAtStartBy rule g first monitor → IsRunEnd g first left taken taken reads reads writes writes (failure_end Failure.Memory)
+run_memory first rule monitor left taken reads writes sound g at = (
   fell_leads g first monitor at sound left taken taken first (start_of g (bytes_of left) first.machine) [] (λ told. nowhere) 0 (omega arith)
-      (keeps_taken taken) (no_acts (setting_of g) first.machine first.machine refl) (has_run 0 refl),
+      (Appends-nil taken) (no_acts (setting_of g) first.machine first.machine refl) (has_run 0 refl) refl (start_sound g first monitor at sound),
   refl,
   refl,
 )

@@ -10,27 +10,33 @@ use Rattle.certificate_check.specs.Accepting.{accepted_tree}
 use Rattle.certificate_rules.specs.Validity.{IsValid}
 use Rattle.chunk_pool.specs.Pool.{Taken, IsPool, start_pool, taken_for}
 use Rattle.chunk_pool.proofs.PoolStart.{IsPool-start_bytes}
-use Rattle.choice_rules.specs.Policy.{all_caps}
+use Rattle.choice_rules.specs.Policy.{Rule, all_caps}
 use Rattle.lawful_log.specs.Good.{checked_of}
 use Rattle.lawful_log.specs.Setup.{Setup, setting_of, main_fact, start_machine, start_areas}
 use Rattle.lawful_log.specs.State.{State, start_of, uses_of}
-use Rattle.lawful_steps.specs.Waiting.{AreWaiting, AreQueued}
+use Rattle.lawful_steps.specs.Waiting.{AreWaiting}
 use Rattle.lawful_steps.proofs.Between.{between_after}
 use Rattle.machine_world.specs.Areas.{Areas}
 use Rattle.machine_world.specs.Places.{Checked}
 use Rattle.machine_world.specs.Runs.{start_world, started_on, empty_world}
 use Rattle.machine_world.specs.StandsForWorld.{StandsForWorld}
+use Rattle.machine_world.specs.Stretches as stretches
 use Rattle.machine_world.specs.Threads.{World, Setting, with_thread}
 use Rattle.machine_world.specs.WellFormed.{AreWellFormed, AreWords, IsWellFormed, most_fuel}
 use Rattle.resource_monitor.specs.Gate.{gate_after}
 use Rattle.resource_monitor.specs.Monitor.{MonitorState}
 use Rattle.resource_monitor.specs.Pressure.{pressures}
-use Rattle.runner.specs.Answers.{IsAtStart}
+use Rattle.runner.specs.Answers.{IsAtStartBy}
 use Rattle.runner.specs.declared.looking.Next.{Next}
 use Rattle.runner.specs.Kept.{Kept}
 use Rattle.runner.specs.Sound.{IsSound}
 use Rattle.runner.specs.Stands.{IsOf, IsTraceOf, StandsBetween, bytes_of}
-use Rattle.scheduler.specs.State.{SchedulerState, started, IsJoined}
+use Rattle.ready_tree.specs.declared.needs.Need.{Need}
+use Rattle.runner.specs.Needs.{IsNeeded}
+use Rattle.rule_state.specs.Rules.{HasStarted}
+use Rattle.rule_state.specs.declared.rules.RuleState.{RuleState}
+use Rattle.runner.specs.Rules.{HasAccounts, HasNothing, rule_of}
+use Rattle.runner.proofs.Rules.{accounts_first, kept_first, noted_first, told_first}
 use Rattle.segment_run.proofs.Forming.{areas_formed}
 use Rattle.stack_certificate.specs.Certificates.{fact_at}
 use Rattle.stack_certificate.specs.declared.certificates.Certificate.{Certificate}
@@ -38,8 +44,8 @@ use Rattle.stack_image.specs.declared.images.Image.{Image}
 use Rattle.thread_core.specs.Worlds.{Held}
 use Rattle.world_source.specs.UnderWay.{IsSettled}
 use Rattle.world_source.proofs.Between.{starts_law}
+use Rattle.world_source.proofs.Sound.{settled_sound}
 use Rattle.runner.proofs.Times.{timely_start}
-use Rattle.runner.proofs.Told.{queued_more}
 use Rattle.chunk_pool.proofs.NeedLaws.{taken_for-count}
 use Rattle.chunk_pool.proofs.ShapeLaws.{first_bytes-start}
 
@@ -72,6 +78,10 @@ first_waits areas taken entry = record {
   all = λ n apart some. zero_only n (nat_eq 0 n) _ refl some;
 }
 
+-- and its need is nothing
+first_needed : (areas : Areas) (taken : Taken) (entry : ℕ) → IsNeeded (with_thread (empty_world areas) taken entry 0) (record { thread = record { slot = 0; number = 0 }; need = Need.Nothing })
+first_needed areas taken entry = record { thread = _; live = refl; need = refl }
+
 is_true : (b : Bool) → IsTrue b → b ≡ true
 is_true true h = refl
 is_true false h = absurd (cc)
@@ -80,7 +90,7 @@ at_drop : (xs : List ℕ) (r : ℕ) → slice_index (drop 1 xs) r ≡ slice_inde
 at_drop [] r = refl
 at_drop (x ∷ xs) r = refl
 
-module _ (g : Setup) (held : Held) (monitor : MonitorState) (at : IsAtStart g held monitor) (sound : IsSound held.accepted) where
+module _ (g : Setup) (held : Held) {rule : Rule} (monitor : MonitorState) (at : IsAtStartBy rule g held monitor) (sound : IsSound held.accepted) where
   pub scoped : IsWellScoped g.program
   scoped = subst IsWellScoped at.program held.accepted.program.well_scoped
 
@@ -146,6 +156,9 @@ module _ (g : Setup) (held : Held) (monitor : MonitorState) (at : IsAtStart g he
   settled : IsSettled (checked_of g) held.machine
   settled = (starts_law g.program g.image g.certificate held.machine areas scoped valid refl well starts).settled
 
+  pub start_sound : stretches.IsSound (checked_of g) held.machine
+  start_sound = settled_sound (checked_of g) (setting_of g) held.machine start_formed settled
+
   small_by : (r : ℕ) → r < 8 → slice_index (all_caps g.policy) r ≤ 1000000
   small_by zero below = let most = at.ranges.chunks in omega (arith, most)
   small_by (suc r) below = subst (λ (n : ℕ). n ≤ 1000000) (sym (at_drop g.policy.caps r)) (at.ranges.caps (suc r) (omega arith) below)
@@ -158,7 +171,6 @@ module _ (g : Setup) (held : Held) (monitor : MonitorState) (at : IsAtStart g he
     setting = setting_same;
     chunks = ap (λ (w : World). w.areas.pool.count) shape.is ∙ shape.count;
     timely = timely_start areas (main_fact g).entry (main_fact g).bound held.machine starts;
-    rule = at.rule;
     small = small_by;
     scoped = scoped;
     valid = valid;
@@ -171,15 +183,12 @@ module _ (g : Setup) (held : Held) (monitor : MonitorState) (at : IsAtStart g he
   read_by None = tt
   read_by (Some bytes) = refl
 
-  module _ (left : Option (List ℕ)) (scheduler : SchedulerState) (joined : IsJoined started scheduler 0 (record { slot = 0; number = 0 })) where
+  module _ (left : Option (List ℕ)) (before after : RuleState) (rule_is : rule ≡ rule_of before) (nothing : HasNothing before) (starts : HasStarted before after (record { slot = 0; number = 0 })) where
     abbrev start_state : State
     start_state = start_of g (bytes_of left) held.machine
 
     abbrev pub first_kept : Kept
-    first_kept = record { scheduler = scheduler; graph = empty_graph; monitor = monitor; reader = record { held = []; lines = 0; last = 0; refused = None }; next = Next.Unread; under = None }
-
-    none_queued : AreQueued held.places started []
-    none_queued = record { queue = λ node. tt }
+    first_kept = record { rule = after; graph = empty_graph; monitor = monitor; reader = record { held = []; lines = 0; last = 0; refused = None }; next = Next.Unread; under = None }
 
     pub start_between : StandsBetween g start_state first_kept held left
     start_between = record {
@@ -188,13 +197,15 @@ module _ (g : Setup) (held : Held) (monitor : MonitorState) (at : IsAtStart g he
       between = between_after g start_state refl start_formed start_stands threads_wait;
       ended = λ none. refl;
       settled = settled;
-      queued = queued_more held.places started scheduler 0 (record { slot = 0; number = 0 }) [] 0 at.made.main joined none_queued;
+      kept = kept_first held.places before after (record { slot = 0; number = 0 }) nothing starts at.made.main;
+      needed = told_first held.machine before after (record { slot = 0; number = 0 }) nothing starts
+          (subst (λ (w : World). IsNeeded w (record { thread = record { slot = 0; number = 0 }; need = Need.Nothing })) (sym shape.is) (first_needed areas shape.taken (main_fact g).entry));
       past = record {
-        lasts = λ node. joined.lasts node;
+        accounts = subst (λ (r : Rule). HasAccounts r after start_state.past) (sym (at.rule ∙ rule_is)) (accounts_first before after (record { slot = 0; number = 0 }) (uses_of start_state) nothing starts);
         graph_is = record { keys = refl; edges = refl };
         monitor_is = at.monitor_is;
-        taken = joined.noted;
-        noted = let none = joined.noted in omega (arith, none);
+        taken = noted_first before after (record { slot = 0; number = 0 }) nothing starts;
+        noted = let none = noted_first before after (record { slot = 0; number = 0 }) nothing starts in omega (arith, none);
         records = omega arith;
         keys = omega arith;
       };

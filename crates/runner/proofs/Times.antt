@@ -95,7 +95,7 @@ times_printed : (value : Option ℕ) (after : World) → IsTimely after → Keep
 times_printed None after is = is
 times_printed (Some value) after is = is
 
--- a sleep has fewer than 2^31 ticks
+-- a sleep has fewer than 2^31 ticks, and so has a wait with a time
 few_ticks : (ticks : ℕ) → ticks_of ticks < 2 ^ 31
 few_ticks ticks = by_test (nat_le (2 ^ 31) ticks) refl where
   by_test : (b : Bool) → nat_le (2 ^ 31) ticks ≡ b → (if b then 0 else ticks) < 2 ^ 31
@@ -108,6 +108,7 @@ wakes_soon clock cost (Block.Wait channel) h = tt
 wakes_soon clock cost (Block.Sleep ticks) h = let few = few_ticks ticks in omega (arith, h, few)
 wakes_soon clock cost Block.Yield h = tt
 wakes_soon clock cost (Block.Take resource amount) h = tt
+wakes_soon clock cost (Block.WaitFor channel ticks) h = let few = few_ticks ticks in omega (arith, h, few)
 
 times_call : (s : Setting) (w : World) (thread : Thread) (call : Call) → IsTimely w → KeepsTimes (package_call s w thread call)
 times_call s w thread (Blocking block) is =

@@ -1,29 +1,34 @@
 -- What is told within a segment: a value, a thread that started, and a cut.
-use Rattle.std.proofs.Common.{◌≡◌, ◌≢◌, ℕ, ◌+◌, ◌-◌, ◌≤◌, List, [], ◌∷◌, ◌++◌, Option, None, Bool, cond, ⊎_elim, refl, sym, ap, ◌∙◌, subst, append-nil}
+use Rattle.std.proofs.Common.{◌≡◌, ◌≢◌, ℕ, ◌+◌, ◌-◌, ◌<◌, ◌≤◌, List, [], ◌∷◌, ◌++◌, Option, Some, None, sym, ap, ◌∙◌, subst, arith}
 use Rattle.std.specs.Prelude.{length}
-use Rattle.std.proofs.lemmas.Bool.{cases_eq, eq-eqb, ne_eqb}
 use Rattle.cap_word.specs.Word.{signed}
 use Rattle.cap_word.specs.declared.stops.Stop.{Stop}
 use Rattle.cap_word.specs.declared.threads.ThreadId.{ThreadId}
-use Rattle.choice_rules.specs.Seen.{Waiter}
 use Rattle.lawful_log.specs.Good.{checked_of}
 use Rattle.lawful_log.specs.Segments.{IsOut, IsCut}
 use Rattle.lawful_log.specs.Setup.{Setup, setting_of}
 use Rattle.lawful_log.specs.State.{State}
 use Rattle.lawful_log.specs.Stops.{IsStopped, IsCutBy}
-use Rattle.lawful_steps.specs.Waiting.{IsPlaced, IsQueue, AreQueued, at_node}
 use Rattle.lawful_steps.specs.Within.{IsWithin}
 use Rattle.lawful_steps.proofs.Entries.{stops_here}
-use Rattle.lawful_steps.proofs.Queues.{at_node-append, queue_append}
+use Rattle.lawful_steps.proofs.Counts.{Counts, StartsOne, counts_step}
 use Rattle.lawful_steps.proofs.Within.{within_spawns, put_segment, put_state, out_allowed, within_puts}
-use Rattle.machine_world.specs.Threads.{World, Move, Goes, Puts, Spawns, Blocks, Ends, Stops, Wrong, step}
-use Rattle.scheduler.specs.State.{SchedulerState, queue_of, IsJoined}
+use Rattle.machine_world.specs.Alone.{KeepsThread}
+use Rattle.machine_world.proofs.OtherThreads.{KeepsThread-step}
+use Rattle.machine_world.specs.Threads.{World, thread_of, Move, Goes, Puts, Spawns, Blocks, Ends, Stops, Wrong, step}
+use Rattle.rule_state.specs.Rules.{HasStarted, MayStart}
+use Rattle.rule_state.specs.declared.rules.RuleState.{RuleState}
+use Rattle.stride_steps.specs.Clients.{waiter_of}
 use Rattle.thread_core.specs.Turns.{Tells}
 use Rattle.thread_core.specs.Worlds.{Held, IsThread, segment_cost}
 use Rattle.thread_core.specs.declared.turns.Turn.{Turn}
 use Rattle.world_source.specs.Reached.{IsReached, StepReaches}
 use Rattle.runner.specs.declared.course.Under.{Under}
 use Rattle.runner.specs.Kept.{Kept}
+use Rattle.runner.specs.Rules.{AreTold}
+use Rattle.runner.proofs.Rules.{accounts_started, kept_started, may_start_within, next_waits, noted_started, told_started, told_step}
+use Rattle.lawful_steps.proofs.Own.{LeavesOwn, StandsFresh, found_below, own_step}
+use Rattle.thread_core.specs.Needs.{need_of_blocked}
 use Rattle.runner.specs.Stands.{StandsInside, StandsWithin, StepsAsSource}
 use Rattle.chunk_pool.specs.Pool.{free_count}
 
@@ -61,9 +66,9 @@ tells_spawn (Ends after) thread number at new t = absurd t
 tells_spawn (Stops stop) thread number at new t = absurd t
 tells_spawn Wrong thread number at new t = absurd t
 
-record TellsCut (move : Move) (stop : Stop) (cost : ℕ) (at : World) (new : Held) : Type 0 where
+pub record TellsCut (move : Move) (stop : Stop) (cost : ℕ) (at : World) (new : Held) : Type 0 where
   pub step_is : move ≡ Stops stop
-  cost_is : cost ≡ segment_cost new
+  pub cost_is : cost ≡ segment_cost new
   pub machine : new.machine ≡ at
 
 tells_cut : (move : Move) (stop : Stop) (cost number : ℕ) (at : World) (new : Held) → Tells move (Turn.Cut stop cost) number at new → TellsCut move stop cost at new
@@ -74,35 +79,6 @@ tells_cut (Spawns started after) stop cost number at new t = absurd t
 tells_cut (Blocks after) stop cost number at new t = absurd t
 tells_cut (Ends after) stop cost number at new t = absurd t
 tells_cut Wrong stop cost number at new t = absurd t
-
--- ---- a thread joins node 0
-
-at_own : (x : Waiter) (node : ℕ) → x.node ≡ node → at_node (x ∷ []) node ≡ x ∷ []
-at_own x node e = ap (λ (b : Bool). cond b (x ∷ []) []) (eq-eqb x.node node e)
-
-at_other : (x : Waiter) (node : ℕ) → x.node ≢ node → at_node (x ∷ []) node ≡ []
-at_other x node apart = ap (λ (b : Bool). cond b (x ∷ []) []) (ne_eqb x.node node apart)
-
-pub queued_more : (places : List (Option ℕ)) (old new : SchedulerState) (node : ℕ) (thread : ThreadId) (waiting : List Waiter) (since : ℕ) → IsPlaced places thread → IsJoined old new node thread → AreQueued places old waiting →
-    AreQueued places new (waiting ++ record { thread = thread.number; node = node; since = since } ∷ [])
-queued_more places old new node thread waiting since placed joined queued = record {
-  queue = λ other.
-      let x : Waiter = record { thread = thread.number; node = node; since = since } in
-      ⊎_elim
-      (λ (same : node ≡ other).
-      let one : IsQueue places (queue_of old node ++ thread ∷ []) (at_node waiting node ++ x ∷ []) =
-      queue_append places (queue_of old node) (thread ∷ []) (at_node waiting node) (x ∷ []) (queued.queue node) (refl, (placed, tt)) in
-      let here : IsQueue places (queue_of new node) (at_node (waiting ++ x ∷ []) node) =
-      subst (λ (l : List Waiter). IsQueue places (queue_of new node) l)
-      (sym (at_node-append waiting (x ∷ []) node ∙ ap (λ (l : List Waiter). at_node waiting node ++ l) (at_own x node refl)))
-      (subst (λ (l : List ThreadId). IsQueue places l (at_node waiting node ++ x ∷ [])) (sym joined.queue) one) in
-      subst (λ (n : ℕ). IsQueue places (queue_of new n) (at_node (waiting ++ x ∷ []) n)) same here)
-      (λ apart.
-      subst (λ (l : List Waiter). IsQueue places (queue_of new other) l)
-      (sym (at_node-append waiting (x ∷ []) other ∙ ap (λ (l : List Waiter). at_node waiting other ++ l) (at_other x other apart) ∙ append-nil (at_node waiting other)))
-      (subst (λ (l : List ThreadId). IsQueue places l (at_node waiting other)) (sym (joined.others other (λ e. apart (sym e)))) (queued.queue other)))
-      (cases_eq node other);
-}
 
 module _ (g : Setup) (state : State) (k : Kept) (held : Held) (left : Option (List ℕ)) (under : Under) (stands : StandsWithin g state k held left under) (law : StepsAsSource g state stands.segment.thread) where
   -- ---- a value
@@ -134,7 +110,11 @@ module _ (g : Setup) (state : State) (k : Kept) (held : Held) (left : Option (Li
       before_is = stands.before_is;
       within_caps = stands.within_caps;
       placed = stands.placed;
-      queued = stands.queued;
+      kept = stands.kept;
+      started = stands.started;
+      needed = subst (λ (w : World). AreTold w k.rule) (sym put_told.machine)
+          (told_step g state stands.segment held.begun stands.here stands.waiting stands.within held.places k.rule under.choice.thread stands.kept stands.needed put_told.after
+          (λ number apart old. subst (KeepsThread number stands.here) put_told.step_is (KeepsThread-step (setting_of g) number stands.here apart old)));
       past = stands.past;
       gate = stands.gate;
       read = stands.read;
@@ -142,44 +122,77 @@ module _ (g : Setup) (state : State) (k : Kept) (held : Held) (left : Option (Li
 
   -- ---- a thread that started
 
-  module _ (thread : ThreadId) (turn_is : under.turn ≡ Turn.Spawned thread) (scheduler : SchedulerState) (joined : IsJoined k.scheduler scheduler 0 thread) where
+  module _ (thread : ThreadId) (turn_is : under.turn ≡ Turn.Spawned thread) where
     spawn_told : TellsSpawn (step (setting_of g) stands.here) thread held
     spawn_told = tells_spawn (step (setting_of g) stands.here) thread stands.segment.thread stands.here held
         (subst (λ (t : Turn). Tells (step (setting_of g) stands.here) t stands.segment.thread stands.here held) turn_is stands.tells)
 
-    pub spawn_inside : StandsInside g state (record k { scheduler = scheduler }) held left under.choice under.before
-    spawn_inside = record {
-      of = stands.of;
-      going = spawn_told.going;
-      segment = stands.segment;
-      waiting = stands.waiting ++ record { thread = thread.number; node = 0; since = 0 } ∷ [];
-      within = subst (λ (w : World). IsWithin g state stands.segment held.begun w (stands.waiting ++ record { thread = thread.number; node = 0; since = 0 } ∷ [])) (sym spawn_told.machine)
-          (within_spawns g state stands.segment held.begun stands.here stands.waiting stands.within thread.number spawn_told.after spawn_told.step_is);
-      reached = subst (λ (w : World). IsReached (checked_of g) g.program (setting_of g) state.source stands.segment.thread stands.segment.puts w) (sym spawn_told.machine)
-          (subst (StepReaches (checked_of g) g.program (setting_of g) state.source stands.segment.thread stands.segment.puts) spawn_told.step_is (law stands.segment.puts stands.here stands.within.formed stands.reached));
-      thread_is = stands.thread_is;
-      node_is = stands.node_is;
-      before_is = stands.before_is;
-      within_caps = stands.within_caps;
-      placed = stands.placed;
-      queued = queued_more held.places k.scheduler scheduler 0 thread stands.waiting 0 spawn_told.placed joined stands.queued;
-      past = record {
-        lasts = λ node. joined.lasts node ∙ stands.past.lasts node;
-        graph_is = stands.past.graph_is;
-        monitor_is = stands.past.monitor_is;
-        taken = joined.noted ∙ stands.past.taken;
-        noted = subst (λ (n : ℕ). n ≤ held.begun + 1) (sym joined.noted) stands.past.noted;
-        records = stands.past.records;
-        keys = stands.past.keys;
-      };
-      gate = stands.gate;
-      read = stands.read;
-    }
+    fresh : StandsFresh spawn_told.after thread.number
+    fresh = subst (LeavesOwn stands.here stands.segment.thread) spawn_told.step_is (own_step (setting_of g) stands.here stands.segment.thread stands.within.formed.counted.numbered stands.within.running)
+
+    starts_one : StartsOne stands.here spawn_told.after thread.number
+    starts_one = subst (Counts stands.here) spawn_told.step_is (counts_step (setting_of g) stands.here)
+
+    nothing_waits : waiter_of thread.number stands.waiting ≡ None
+    nothing_waits = subst (λ (n : ℕ). waiter_of n stands.waiting ≡ None) (sym starts_one.number_is) (next_waits stands.here stands.waiting stands.within.formed.counted.numbered stands.within.threads.each)
+
+    -- it isn't the one that runs
+    other_thread : thread.number ≢ under.choice.thread.number
+    other_thread same =
+        let live : thread_of stands.here stands.segment.thread ≡ Some stands.reached.under_way.thread = ap (λ (n : ℕ). thread_of stands.here n) (sym stands.reached.of_thread) ∙ stands.reached.under_way.live in
+        let below : stands.segment.thread < stands.here.next = found_below stands.segment.thread 0 stands.here.next stands.here.threads stands.reached.under_way.thread stands.within.formed.counted.numbered live in
+        let number = starts_one.number_is in
+        let thread_is = stands.thread_is in
+        omega arith
+
+    begun_by : length state.source.threads ≤ thread.number
+    begun_by = let number = starts_one.number_is in let most = stands.within.started in omega arith
+
+    pub spawn_may_start : MayStart k.rule thread
+    spawn_may_start = may_start_within held.places k.rule stands.waiting under.choice.thread thread stands.kept other_thread nothing_waits
+
+    module _ (rule : RuleState) (starts : HasStarted k.rule rule thread) where
+      needed_now : AreTold spawn_told.after rule
+      needed_now = told_started spawn_told.after k.rule rule thread starts
+          (record { thread = fresh.thread; live = fresh.live; need = sym (ap need_of_blocked fresh.unblocked) })
+          (told_step g state stands.segment held.begun stands.here stands.waiting stands.within held.places k.rule under.choice.thread stands.kept stands.needed spawn_told.after
+          (λ number apart old. subst (KeepsThread number stands.here) spawn_told.step_is (KeepsThread-step (setting_of g) number stands.here apart old)))
+
+      pub spawn_inside : StandsInside g state (record k { rule = rule }) held left under.choice under.before
+      spawn_inside = record {
+        of = stands.of;
+        going = spawn_told.going;
+        segment = stands.segment;
+        waiting = stands.waiting ++ record { thread = thread.number; node = 0; since = 0 } ∷ [];
+        within = subst (λ (w : World). IsWithin g state stands.segment held.begun w (stands.waiting ++ record { thread = thread.number; node = 0; since = 0 } ∷ [])) (sym spawn_told.machine)
+            (within_spawns g state stands.segment held.begun stands.here stands.waiting stands.within thread.number spawn_told.after spawn_told.step_is);
+        reached = subst (λ (w : World). IsReached (checked_of g) g.program (setting_of g) state.source stands.segment.thread stands.segment.puts w) (sym spawn_told.machine)
+            (subst (StepReaches (checked_of g) g.program (setting_of g) state.source stands.segment.thread stands.segment.puts) spawn_told.step_is (law stands.segment.puts stands.here stands.within.formed stands.reached));
+        thread_is = stands.thread_is;
+        node_is = stands.node_is;
+        before_is = stands.before_is;
+        within_caps = stands.within_caps;
+        placed = stands.placed;
+        kept = kept_started held.places k.rule rule stands.waiting under.choice.thread thread stands.kept starts spawn_told.placed other_thread nothing_waits;
+        started = stands.started;
+        needed = subst (λ (w : World). AreTold w rule) (sym spawn_told.machine) needed_now;
+        past = record {
+          accounts = accounts_started g.policy.rule k.rule rule state.past thread (length state.source.threads) stands.past.accounts starts stands.started begun_by;
+          graph_is = stands.past.graph_is;
+          monitor_is = stands.past.monitor_is;
+          taken = noted_started k.rule rule thread starts ∙ stands.past.taken;
+          noted = subst (λ (n : ℕ). n ≤ held.begun + 1) (sym (noted_started k.rule rule thread starts)) stands.past.noted;
+          records = stands.past.records;
+          keys = stands.past.keys;
+        };
+        gate = stands.gate;
+        read = stands.read;
+      }
 
   -- ---- a cut
 
   module _ (stop : Stop) (cost : ℕ) (turn_is : under.turn ≡ Turn.Cut stop cost) where
-    cut_told : TellsCut (step (setting_of g) stands.here) stop cost stands.here held
+    pub cut_told : TellsCut (step (setting_of g) stands.here) stop cost stands.here held
     cut_told = tells_cut (step (setting_of g) stands.here) stop cost stands.segment.thread stands.here held
         (subst (λ (t : Turn). Tells (step (setting_of g) stands.here) t stands.segment.thread stands.here held) turn_is stands.tells)
 

@@ -19,7 +19,8 @@ use Rattle.runner.specs.Kept.{Kept}
 use Rattle.runner.specs.Stands.{IsOf, HasPast, StandsInside, StandsWithin, StepsAsSource}
 use Rattle.runner.specs.Times.{IsTimely}
 use Rattle.runner.proofs.Times.{timely_turn}
-use Rattle.runner.proofs.Going.{Along, along, queues_kept}
+use Rattle.runner.proofs.Going.{Along, along}
+use Rattle.runner.proofs.Rules.{kept_beside, told_along}
 
 pub of_kept : (g : Setup) (old new : Held) → IsOf g old → KeepsSetting old new → IsTimely new.machine → IsOf g new
 of_kept g old new of keeps timely = record {
@@ -28,7 +29,6 @@ of_kept g old new of keeps timely = record {
   certificate = ap (λ a. a.certificate) keeps.accepted ∙ of.certificate;
   setting = keeps.setting ∙ of.setting;
   chunks = keeps.chunks ∙ of.chunks;
-  rule = of.rule;
   small = of.small;
   scoped = of.scoped;
   valid = of.valid;
@@ -87,10 +87,13 @@ module _ (g : Setup) (state : State) (k : Kept) (old : Held) (left : Option (Lis
     placed = λ live. places choice.thread
         (inside.placed (some_live old.machine choice.thread.number inside.reached.under_way.thread
         (ap (λ (n : ℕ). thread_of old.machine n) (inside.thread_is ∙ sym inside.reached.of_thread) ∙ inside.reached.under_way.live))) live;
-    queued = queues_kept old new k.scheduler inside.waiting places
+    started = inside.started;
+    kept = kept_beside old new k.rule inside.waiting choice.thread places
         (told_live g state inside.segment old.begun did.made.at inside.waiting there.within (step (setting_of g) did.made.at) turn inside.segment.thread new
-        (still_waiting g state inside.segment old.begun did.made.at inside.waiting there.within (step (setting_of g) did.made.at) refl) tells_now) inside.queued;
-    past = subst (λ (b : ℕ). HasPast g state.past k.scheduler k.graph k.monitor (b + 1) b) (sym did.begun) inside.past;
+        (still_waiting g state inside.segment old.begun did.made.at inside.waiting there.within (step (setting_of g) did.made.at) refl) tells_now) inside.kept;
+    needed = told_along g state inside.segment old.begun inside.waiting old.places k.rule choice.thread inside.kept did.made.steps old.machine did.made.at
+        (subst (λ (s : Setting). GoesOn s did.made.steps old.machine did.made.at) inside.of.setting did.made.goes_on) inside.within inside.needed;
+    past = subst (λ (b : ℕ). HasPast g state.past k.rule k.graph k.monitor (b + 1) b) (sym did.begun) inside.past;
     gate = inside.gate;
     read = inside.read;
   }

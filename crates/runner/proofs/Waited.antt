@@ -1,6 +1,6 @@
 -- How a choice point goes on where no thread is ready: the clock moves, or the run is idle; and the other stops.
-use Rattle.std.proofs.Common.{◌≡◌, ◌≢◌, ℕ, ◌+◌, ◌*◌, ◌^◌, ◌<◌, ◌≤◌, ◌||◌, Bool, true, false, List, [], ◌++◌, map, Option, Some, None, refl, sym, ap, ◌∙◌, subst, arith}
-use Rattle.std.specs.Prelude.{All, Contains, IfSome, is_some, if◌then◌else◌}
+use Rattle.std.proofs.Common.{◌≡◌, ◌≢◌, ℕ, ◌+◌, ◌*◌, ◌^◌, ◌<◌, ◌≤◌, ◌||◌, Bool, true, false, List, [], ◌++◌, Option, Some, None, refl, sym, ap, ◌∙◌, subst, arith}
+use Rattle.std.specs.Prelude.{IfSome, is_some, if◌then◌else◌}
 use Rattle.std.proofs.lemmas.List.{nil_from_length}
 use Rattle.event_trace.specs.declared.events.Event.{Event}
 use Rattle.event_trace.specs.Lines.{FitsEvent}
@@ -12,13 +12,12 @@ use Rattle.lawful_log.specs.Setup.{Setup, setting_of}
 use Rattle.lawful_log.specs.State.{Segment, State, seen_of}
 use Rattle.lawful_log.specs.Stops.{IsStop}
 use Rattle.lawful_steps.specs.Clocks.{goes_on}
-use Rattle.lawful_steps.specs.Tests.{later_wake}
 use Rattle.lawful_steps.specs.Within.{IsBetween}
 use Rattle.lawful_steps.proofs.Between.{between_moved}
 use Rattle.lawful_steps.proofs.Clocks.{not_moved, moved_goes_on}
 use Rattle.lawful_steps.proofs.Wakes.{none_wakes, least_wakes}
 use Rattle.machine_world.specs.Runs.{advanced}
-use Rattle.machine_world.specs.Threads.{Thread, World}
+use Rattle.machine_world.specs.Threads.{Setting, World}
 use Rattle.schedule_log.specs.declared.entries.StopLine.{StopLine}
 use Rattle.thread_core.specs.Making.{after_wait}
 use Rattle.thread_core.specs.Ready.{IsWake, any_ready_in}
@@ -28,13 +27,14 @@ use Rattle.runner.specs.declared.looking.Next.{Next}
 use Rattle.runner.specs.Kept.{Kept, known}
 use Rattle.runner.specs.Ranks.{due_at, long_rank, lines_rank, stuck_rank}
 use Rattle.runner.specs.Stands.{IsTraceOf, FitsNext, StandsBetween, IsAtPoint}
+use Rattle.runner.proofs.Rules.{told_same}
 use Rattle.runner.specs.Answers.{KeepsRun}
 use Rattle.runner.specs.Steps.{IsTold}
 use Rattle.runner.specs.Times.{latest}
 use Rattle.runner.specs.Waits.{earlier, time_of, MovesOn, StaysIdle}
 use Rattle.runner.proofs.Ready.{any_ready_told}
 use Rattle.runner.proofs.Times.{possible, timely_advanced}
-use Rattle.runner.proofs.Waking.{AreWakes, none_told, some_told, time_within, time_least, none_earlier}
+use Rattle.runner.proofs.Waking.{AreWakes, time_within, time_least, none_earlier}
 
 pub clock_same : (state : State) (machine : World) → machine ≡ advanced state.machine machine.clock → machine.clock ≡ state.machine.clock → machine ≡ state.machine
 clock_same state machine is same = is ∙ ap (λ (n : ℕ). advanced state.machine n) same
@@ -53,7 +53,12 @@ module _ (g : Setup) (state : State) (held : Held) (next : Option Event) (is : I
   still : any_ready_in held ≡ false → is_due next held.machine.clock ≡ false → held.machine.clock ≡ state.machine.clock
   still e due = not_moved g state next held.machine.clock is.clock_is (stuck e due)
 
-  pub idle_is : any_ready_in held ≡ false → next ≡ None → held.machine.threads ≢ [] → IsNext state.trace None → All (λ thread. later_wake held.machine.clock thread.blocked ≡ None) held.machine.threads → IsStop g state StopLine.Idle held.machine
+  -- the least time is that of the state's machine at this clock
+  wake_here : (wake : Option ℕ) → IsWake held.setting held.machine wake → IsWake (setting_of g) (advanced state.machine held.machine.clock) wake
+  wake_here wake w =
+      subst (λ (m : World). IsWake (setting_of g) m wake) is.machine_is (subst (λ (s : Setting). IsWake s held.machine wake) setting_is w)
+
+  pub idle_is : any_ready_in held ≡ false → next ≡ None → held.machine.threads ≢ [] → IsNext state.trace None → IsWake held.setting held.machine None → IsStop g state StopLine.Idle held.machine
   idle_is e none live over wake =
       let due : is_due next held.machine.clock ≡ false = ap (λ (o : Option Event). is_due o held.machine.clock) none in
       let same = clock_same state held.machine is.machine_is (still e due) in
@@ -63,8 +68,7 @@ module _ (g : Setup) (state : State) (held : Held) (next : Option Event) (is : I
         live = λ f. live (threads ∙ nil_from_length state.machine.threads f);
         over = over;
         none_ready = subst (λ (n : ℕ). any_ready g state n ≡ false) (still e due) (unready e);
-        none_sleeps = none_wakes g state held.machine.clock is.formed.counted.numbered is.stands is.threads (unready e)
-            (subst (λ (l : List Thread). All (λ thread. later_wake held.machine.clock thread.blocked ≡ None) l) threads wake);
+        none_sleeps = none_wakes g state held.machine.clock is.formed.counted.numbered is.stands is.threads (unready e) (wake_here None wake);
       } in
       (idle, same)
 
@@ -89,20 +93,16 @@ module _ (g : Setup) (state : State) (k : Kept) (held : Held) (left : Option (Li
   machine_same : held.machine ≡ state.machine
   machine_same = clock_same state held.machine is_between.machine_is (still g state held next is_between stands.of.setting none_ready due)
 
-  threads_same : held.machine.threads ≡ state.machine.threads
-  threads_same = ap (λ (w : World). w.threads) is_between.machine_is
+  wakes_by : (wake : Option ℕ) → IsWake (setting_of g) (advanced state.machine held.machine.clock) wake → AreWakes (waking_times state) wake
+  wakes_by None is =
+      none_wakes g state held.machine.clock is_between.formed.counted.numbered is_between.stands is_between.threads nobody_ready is
+  wakes_by (Some time) is =
+      least_wakes g state held.machine.clock is_between.formed.counted.numbered is_between.stands is_between.threads nobody_ready time is.0 is.1
 
-  wakes_are : (wake : Option ℕ) → IsWake held.machine wake → AreWakes (waking_times state) wake
-  wakes_are None is =
-      none_wakes g state held.machine.clock is_between.formed.counted.numbered is_between.stands is_between.threads nobody_ready
-      (subst (λ (l : List Thread). All (λ thread. later_wake held.machine.clock thread.blocked ≡ None) l) threads_same (none_told held.machine is))
-  wakes_are (Some time) is =
-      let told = some_told held.machine time is in
-      least_wakes g state held.machine.clock is_between.formed.counted.numbered is_between.stands is_between.threads nobody_ready time
-      (subst (λ (l : List Thread). Contains (map (λ thread. later_wake held.machine.clock thread.blocked) l) (Some time)) threads_same told.one)
-      (λ other c. told.least other (subst (λ (l : List Thread). Contains (map (λ thread. later_wake held.machine.clock thread.blocked) l) (Some other)) (sym threads_same) c))
+  wakes_are : (wake : Option ℕ) → IsWake held.setting held.machine wake → AreWakes (waking_times state) wake
+  wakes_are wake is = wakes_by wake (wake_here g state held next is_between stands.of.setting wake is)
 
-  module _ (wake : Option ℕ) (wake_is : IsWake held.machine wake) where
+  module _ (wake : Option ℕ) (wake_is : IsWake held.setting held.machine wake) where
     module _ (time : ℕ) (within : (held.machine.clock < time) × (time ≤ latest held.machine.cost)) (e : earlier (time_of next) wake ≡ Some time) where
       least : IsLeastOf (event_times next ++ waking_times state) time
       least = time_least next wake time (waking_times state) (wakes_are wake wake_is) e
@@ -118,7 +118,6 @@ module _ (g : Setup) (state : State) (k : Kept) (held : Held) (left : Option (Li
           certificate = stands.of.certificate;
           setting = stands.of.setting;
           chunks = stands.of.chunks;
-          rule = stands.of.rule;
           small = stands.of.small;
           scoped = stands.of.scoped;
           valid = stands.of.valid;
@@ -128,7 +127,8 @@ module _ (g : Setup) (state : State) (k : Kept) (held : Held) (left : Option (Li
         between = subst (λ (o : Option (Option Event)). IsBetween g state o (advanced held.machine time)) (sym known_is) between_later;
         ended = λ none. absurd (live none);
         settled = record { between = stands.settled.between; threads = stands.settled.threads };
-        queued = stands.queued;
+        kept = stands.kept;
+        needed = told_same held.machine (after_wait held time).machine k.rule (λ number. refl) stands.needed;
         past = stands.past;
         gate = stands.gate;
         read = stands.read;
@@ -154,7 +154,7 @@ module _ (g : Setup) (state : State) (k : Kept) (held : Held) (left : Option (Li
       halt_is = refl;
       same = refl;
       idle = λ told. idle_is g state held next is_between stands.of.setting none_ready (none_earlier next wake e).0 live (over_at k.next left told (known_is ∙ ap Some (none_earlier next wake e).0) stands.read.trace_is)
-          (none_told held.machine (subst (IsWake held.machine) (none_earlier next wake e).1 wake_is));
+          (subst (IsWake held.setting held.machine) (none_earlier next wake e).1 wake_is);
       machine_is = machine_same;
     } where
       over_at : (n : Next) (l : Option (List ℕ)) → IsTold l → known n ≡ Some None → IsTraceOf state.trace k.reader n l → IsNext state.trace None
@@ -176,9 +176,9 @@ module _ (g : Setup) (state : State) (k : Kept) (held : Held) (left : Option (Li
       let same : held.machine.cost ≡ state.machine.cost = ap (λ (w : World). w.cost) at.stands.between.machine_is in
       let within = at.stands.between.formed.cost in let most = at.stands.between.formed.fuel in omega (arith, same, within, most)
 
-  module _ (due : is_due next held.machine.clock ≡ false) (wake : Option ℕ) (wake_is : IsWake held.machine wake) where
+  module _ (due : is_due next held.machine.clock ≡ false) (wake : Option ℕ) (wake_is : IsWake held.setting held.machine wake) where
     time_is : (time : ℕ) → earlier (time_of next) wake ≡ Some time → (held.machine.clock < time) × (time ≤ latest held.machine.cost)
-    time_is time e = time_within held.machine next wake time at.stands.of.timely (fits_next k.next next at.known_is at.stands.read.fits) due wake_is e
+    time_is time e = time_within held.setting held.machine next wake time at.stands.of.timely (fits_next k.next next at.known_is at.stands.read.fits) due wake_is e
 
     pub is_later : (time : ℕ) → earlier (time_of next) wake ≡ Some time → held.machine.clock ≤ time
     is_later time e = let h = (time_is time e).0 in omega (arith, h)

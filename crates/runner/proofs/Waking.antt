@@ -1,75 +1,47 @@
 -- The next time at which something may go on, as the machine world tells it.
-use Rattle.std.proofs.Common.{◌≡◌, ℕ, zero, suc, ◌^◌, ◌<◌, ◌≤◌, Bool, true, false, List, [], ◌∷◌, ◌++◌, map, Option, Some, None, refl, sym, ap, ◌∙◌, subst, arith, ⊎_elim}
-use Rattle.std.specs.Prelude.{All, Contains, IfSome, nat_le, nat_lt, if◌then◌else◌}
+use Rattle.std.proofs.Common.{◌≡◌, ℕ, zero, suc, ◌^◌, ◌<◌, ◌≤◌, Bool, true, false, cond, List, [], ◌∷◌, ◌++◌, map, Option, Some, None, refl, sym, subst, arith, ⊎_elim}
+use Rattle.std.specs.Prelude.{All, Contains, IfSome, nat_le, if◌then◌else◌}
 use Rattle.std.specs.List.{AllByRecursion}
 use Rattle.std.proofs.lemmas.Bool.Decides.{nat_tests}
+use Rattle.c_mean.specs.ModelledCalls.{is_ready, wakes_at}
 use Rattle.event_trace.specs.declared.events.Event.{Event}
 use Rattle.event_trace.specs.Lines.{FitsEvent}
 use Rattle.choice_rules.specs.Clock.{is_due, event_times, IsLeastOf}
-use Rattle.lawful_steps.specs.Tests.{waking_time, if_later, later_wake}
-use Rattle.lawful_steps.proofs.Clocks.{contains_tail, contains_later, contains_head, contains_none}
-use Rattle.machine_world.specs.Threads.{Blocked, Thread, World}
-use Rattle.thread_core.specs.Ready as core
+use Rattle.lawful_steps.specs.Tests.{waking_time}
+use Rattle.lawful_steps.proofs.Clocks.{contains_tail, contains_later, contains_head, contains_none, later_block}
+use Rattle.machine_world.specs.Runs.{asleep_until}
+use Rattle.machine_world.specs.Threads.{Blocked, Setting, Thread, World}
 use Rattle.thread_core.specs.Ready.{IsWake}
-use Rattle.thread_waits.specs.Waiting as waits
 use Rattle.runner.specs.Times.{latest, IsTimely}
 use Rattle.runner.specs.Waits.{earlier, time_of}
 
--- ---- the same test in other words
-
-later_alike : (clock : ℕ) (o : Option ℕ) → waits.if_later clock o ≡ if_later clock o
-later_alike clock None = refl
-later_alike clock (Some time) = refl
-
-wake_alike : (clock : ℕ) (b : Option Blocked) → core.later_wake clock b ≡ later_wake clock b
-wake_alike clock None = refl
-wake_alike clock (Some b) = later_alike clock (waking_time (Some b))
-
-abbrev wake_in : ℕ → Thread → Option ℕ
-wake_in clock thread = later_wake clock thread.blocked
-
-abbrev core_wake_in : ℕ → Thread → Option ℕ
-core_wake_in clock thread = core.later_wake clock thread.blocked
-
-maps_alike : (clock : ℕ) (threads : List Thread) → map (core_wake_in clock) threads ≡ map (wake_in clock) threads
-maps_alike clock [] = refl
-maps_alike clock (t ∷ ts) = ap (λ (o : Option ℕ). o ∷ map (core_wake_in clock) ts) (wake_alike clock t.blocked) ∙ ap (λ (l : List (Option ℕ)). wake_in clock t ∷ l) (maps_alike clock ts)
-
-pub none_told : (w : World) → IsWake w None → All (λ thread. later_wake w.clock thread.blocked ≡ None) w.threads
-none_told w all k d h = sym (wake_alike w.clock _) ∙ all k d h
-
-pub record Wakes (w : World) (time : ℕ) : Type 0 where
-  pub one : Contains (map (λ thread. later_wake w.clock thread.blocked) w.threads) (Some time)
-  pub least : (other : ℕ) → Contains (map (λ thread. later_wake w.clock thread.blocked) w.threads) (Some other) → time ≤ other
-
-pub some_told : (w : World) (time : ℕ) → IsWake w (Some time) → Wakes w time
-some_told w time is = record {
-  one = subst (λ (l : List (Option ℕ)). Contains l (Some time)) (maps_alike w.clock w.threads) is.0;
-  least = λ other c. is.1 other (subst (λ (l : List (Option ℕ)). Contains l (Some other)) (sym (maps_alike w.clock w.threads)) c);
-}
+abbrev wake_in : Setting → World → Thread → Option ℕ
+wake_in s w = λ thread. asleep_until s w thread.blocked
 
 -- ---- a time that is told is still to come, and possible
 
-by_test : (clock t time : ℕ) (b : Bool) → nat_lt clock t ≡ b → (if b then Some t else None) ≡ Some time → (clock < time) × (t ≡ time)
-by_test clock t time true e is = let same : t ≡ time = cc in (subst (λ (n : ℕ). clock < n) same (grind (arith, nat_tests, e)), same)
-by_test clock t time false e is = absurd (cc)
+asleep_by : (r : Bool) (o : Option ℕ) (time : ℕ) → cond r None o ≡ Some time → (r ≡ false) × (o ≡ Some time)
+asleep_by true o time e = absurd (let no : None ≡ Some time = e in cc)
+asleep_by false o time e = (refl, e)
 
-by_wake : (clock cost time : ℕ) (o : Option ℕ) → IfSome o (λ t. t ≤ latest cost) → if_later clock o ≡ Some time → (clock < time) × (time ≤ latest cost)
-by_wake clock cost time None within e = absurd (cc)
-by_wake clock cost time (Some t) within e =
-    let is = by_test clock t time (nat_lt clock t) refl e in
-    (is.0, subst (λ (n : ℕ). n ≤ latest cost) is.1 within)
+within_by : (cost time : ℕ) (o : Option ℕ) → IfSome o (λ t. t ≤ latest cost) → o ≡ Some time → time ≤ latest cost
+within_by cost time None within e = absurd (cc)
+within_by cost time (Some t) within e = let same : t ≡ time = cc in subst (λ (n : ℕ). n ≤ latest cost) same within
 
-by_blocked : (clock cost time : ℕ) (b : Option Blocked) → IfSome (waking_time b) (λ t. t ≤ latest cost) → later_wake clock b ≡ Some time → (clock < time) × (time ≤ latest cost)
-by_blocked clock cost time None within e = absurd (cc)
-by_blocked clock cost time (Some b) within e = by_wake clock cost time (waking_time (Some b)) within e
+by_blocked : (s : Setting) (w : World) (time : ℕ) (b : Option Blocked) → IfSome (waking_time b) (λ t. t ≤ latest w.cost) → asleep_until s w b ≡ Some time → (w.clock < time) × (time ≤ latest w.cost)
+by_blocked s w time None within e = absurd (cc)
+by_blocked s w time (Some b) within e =
+    let is : (is_ready s.caps w.exchange w.clock b.since b.block ≡ false) × (wakes_at b.since b.block ≡ Some time) =
+    asleep_by (is_ready s.caps w.exchange w.clock b.since b.block) (wakes_at b.since b.block) time e in
+    (later_block s.caps w.exchange w.clock b.since b.block time is.0 is.1, within_by w.cost time (wakes_at b.since b.block) within is.1)
 
-wake_within : (clock cost time : ℕ) (threads : List Thread) → AllByRecursion (λ thread. IfSome (waking_time thread.blocked) (λ t. t ≤ latest cost)) threads → Contains (map (wake_in clock) threads) (Some time) → (clock < time) × (time ≤ latest cost)
-wake_within clock cost time [] all c = absurd (contains_none (Some time) c)
-wake_within clock cost time (t ∷ ts) all c = ⊎_elim
-    (λ (here : wake_in clock t ≡ Some time). by_blocked clock cost time t.blocked all.0 here)
-    (λ later. wake_within clock cost time ts all.1 later)
-    (contains_tail (wake_in clock t) (map (wake_in clock) ts) (Some time) c)
+wake_within : (s : Setting) (w : World) (time : ℕ) (threads : List Thread) → AllByRecursion (λ thread. IfSome (waking_time thread.blocked) (λ t. t ≤ latest w.cost)) threads → Contains (map (wake_in s w) threads) (Some time) →
+    (w.clock < time) × (time ≤ latest w.cost)
+wake_within s w time [] all c = absurd (contains_none (Some time) c)
+wake_within s w time (t ∷ ts) all c = ⊎_elim
+    (λ (here : wake_in s w t ≡ Some time). by_blocked s w time t.blocked all.0 here)
+    (λ later. wake_within s w time ts all.1 later)
+    (contains_tail (wake_in s w t) (map (wake_in s w) ts) (Some time) c)
 
 event_later : (clock time : ℕ) → nat_le time clock ≡ false → clock < time
 event_later clock time e = grind (arith, nat_tests, e)
@@ -82,20 +54,20 @@ lesser : (P : ℕ → Type 0) (a b : ℕ) (test : Bool) → P a → P b → P (i
 lesser P a b true p q = p
 lesser P a b false p q = q
 
-pub time_within : (w : World) (next : Option Event) (wake : Option ℕ) (time : ℕ) → IsTimely w → IfSome next FitsEvent → is_due next w.clock ≡ false → IsWake w wake → earlier (time_of next) wake ≡ Some time → (w.clock < time) × (time ≤ latest w.cost)
-time_within w None None time timely fits due is e = absurd (cc)
-time_within w None (Some t) time timely fits due is e =
+pub time_within : (s : Setting) (w : World) (next : Option Event) (wake : Option ℕ) (time : ℕ) → IsTimely w → IfSome next FitsEvent → is_due next w.clock ≡ false → IsWake s w wake → earlier (time_of next) wake ≡ Some time → (w.clock < time) × (time ≤ latest w.cost)
+time_within s w None None time timely fits due is e = absurd (cc)
+time_within s w None (Some t) time timely fits due is e =
     let same : t ≡ time = cc in
-    subst (λ (n : ℕ). (w.clock < n) × (n ≤ latest w.cost)) same (wake_within w.clock w.cost t w.threads timely.sleepers (some_told w t is).one)
-time_within w (Some event) None time timely fits due is e =
+    subst (λ (n : ℕ). (w.clock < n) × (n ≤ latest w.cost)) same (wake_within s w t w.threads timely.sleepers is.0)
+time_within s w (Some event) None time timely fits due is e =
     let same : event.time ≡ time = cc in
     subst (λ (n : ℕ). (w.clock < n) × (n ≤ latest w.cost)) same (event_later w.clock event.time due, event_within w.cost event.time fits.time)
-time_within w (Some event) (Some t) time timely fits due is e =
+time_within s w (Some event) (Some t) time timely fits due is e =
     let same : (if nat_le event.time t then event.time else t) ≡ time = cc in
     subst (λ (n : ℕ). (w.clock < n) × (n ≤ latest w.cost)) same
     (lesser (λ n. (w.clock < n) × (n ≤ latest w.cost)) event.time t (nat_le event.time t)
     (event_later w.clock event.time due, event_within w.cost event.time fits.time)
-    (wake_within w.clock w.cost t w.threads timely.sleepers (some_told w t is).one))
+    (wake_within s w t w.threads timely.sleepers is.0))
 
 -- ---- and the least
 

@@ -4,12 +4,12 @@ use Rattle.blocking_graph.specs.Graph.{GraphState}
 use Rattle.event_trace.specs.Reader.{ReaderState}
 use Rattle.event_trace.specs.declared.events.Event.{Event}
 use Rattle.resource_monitor.specs.Monitor.{MonitorState}
-use Rattle.scheduler.specs.State.{SchedulerState}
+use Rattle.rule_state.specs.declared.rules.RuleState.{RuleState}
 use Rattle.runner.specs.declared.course.Under.{Under}
 use Rattle.runner.specs.declared.looking.Next.{Next}
 
 pub record Kept : Type 0 where
-  pub scheduler : SchedulerState
+  pub rule : RuleState
   pub graph : GraphState
   pub monitor : MonitorState
   pub reader : ReaderState

@@ -1,9 +1,12 @@
 pub mod Kept
 pub mod Times
+pub mod Needs
+pub mod Rules
 pub mod Stands
 pub mod Steps
 pub mod Answers
 pub mod Lines
+pub mod Output
 pub mod Looks
 pub mod Counts
 pub mod Ranks

@@ -1,7 +1,6 @@
 -- The lines of a run.
-use Rattle.std.specs.Prelude.{◌≡◌, ℕ, List, [], ◌∷◌, ◌++◌, map, Result, Ok, Err}
+use Rattle.std.specs.Prelude.{ℕ, List, [], ◌∷◌, ◌++◌, map, Result, Ok, Err}
 use Rattle.blocking_graph.specs.declared.edges.EdgeLine.{EdgeLine}
-use Rattle.cap_io.specs.Faults.{Rose}
 use Rattle.cap_word.specs.declared.stops.Stop.{Stop}
 use Rattle.cap_word.specs.declared.threads.ThreadId.{ThreadId}
 use Rattle.event_trace.specs.declared.events.EventKind.{EventKind}
@@ -12,6 +11,7 @@ use Rattle.runner.specs.declared.ends.Halt.{Halt}
 use Rattle.runner.specs.declared.ends.RunEnd.{RunEnd}
 use Rattle.schedule_log.specs.declared.entries.Entry.{Entry}
 use Rattle.schedule_log.specs.declared.entries.StopLine.{StopLine}
+use Rattle.schedule_log.specs.declared.writing.PutError.{PutError}
 use Rattle.thread_core.specs.declared.outside.Delivered.{Delivered}
 
 -- the line of what came
@@ -53,9 +53,7 @@ abbrev pub run_end : Result RunEnd Failure → RunEnd
 run_end (Ok end) = end
 run_end (Err failure) = failure_end failure
 
--- the count of the sink's faults over a line: it rises where a write failed, and only there
-abbrev pub CountsLine : Result (Unit {0}) Failure → ℕ → ℕ → Type 0
-CountsLine (Ok _) old new = new ≡ old
-CountsLine (Err Failure.Write) old new = Rose old new
-CountsLine (Err Failure.Memory) old new = new ≡ old
-CountsLine (Err Failure.Read) old new = ⊥
+-- why a run can't go on whose log could not be written
+abbrev pub put_failure : PutError → Failure
+put_failure PutError.WriteFault = Failure.Write
+put_failure PutError.Memory = Failure.Memory

@@ -33,7 +33,7 @@ pub record Refuses (g : Setup) (state : State) (before : Option (List ℕ)) (hel
 abbrev pub LooksAt : Setup → State → Option (List ℕ) → Kept → Held → Option (List ℕ) → Result Looked Failure → Type 0
 LooksAt g state before k held told (Ok (Looked.Comes event)) = Sees g state before k held told event
 LooksAt g state before k held told (Ok (Looked.Refused line)) = Refuses g state before held line
-LooksAt g state before k held told (Err failure) = failure ≡ Failure.Read
+LooksAt g state before k held told (Err failure) = (failure ≡ Failure.Read) × (held.machine ≡ state.machine)
 
 -- a look that finds no refusal leaves less of the trace to look at, or changes nothing
 abbrev pub Nears : Kept → Kept → Result Looked Failure → Type 0

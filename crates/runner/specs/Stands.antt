@@ -9,7 +9,7 @@ use Rattle.c_tree.specs.WellScoped.{IsWellScoped}
 use Rattle.event_trace.specs.declared.events.Event.{Event}
 use Rattle.event_trace.specs.Lines.{FitsEvent}
 use Rattle.event_trace.specs.Reader.{ReaderState}
-use Rattle.choice_rules.specs.Policy.{by_graph, all_caps}
+use Rattle.choice_rules.specs.Policy.{all_caps}
 use Rattle.choice_rules.specs.Trace.{Trace, IsNext, behind}
 use Rattle.choice_rules.specs.Seen.{Waiter, Past}
 use Rattle.choice_rules.specs.Clock.{is_due}
@@ -17,18 +17,20 @@ use Rattle.lawful_log.specs.Choice.{is_open}
 use Rattle.lawful_log.specs.Good.{checked_of}
 use Rattle.lawful_log.specs.Setup.{Setup, setting_of}
 use Rattle.lawful_log.specs.State.{Segment, State, uses_of}
-use Rattle.lawful_steps.specs.Beside.{HasLasts, IsGraphOf, IsMonitorOf}
-use Rattle.lawful_steps.specs.Waiting.{IsPlaced, AreQueued}
+use Rattle.lawful_steps.specs.Beside.{IsGraphOf, IsMonitorOf}
+use Rattle.lawful_steps.specs.Waiting.{IsPlaced}
 use Rattle.lawful_steps.specs.Within.{IsBetween, IsWithin}
 use Rattle.machine_world.specs.Threads.{World, thread_of, step}
 use Rattle.machine_world.specs.WellFormed.{IsWellFormed}
 use Rattle.resource_monitor.specs.Gate.{gate_after}
 use Rattle.resource_monitor.specs.Monitor.{MonitorState, NoneAbove, SmallCaps}
 use Rattle.resource_monitor.specs.Pressure.{pressures}
-use Rattle.scheduler.specs.State.{SchedulerState}
+use Rattle.rule_state.specs.Rules.{noted_of}
+use Rattle.rule_state.specs.declared.rules.RuleState.{RuleState}
 use Rattle.scheduler.specs.declared.choices.Choice.{Choice}
 use Rattle.runner.specs.declared.course.Under.{Under}
 use Rattle.runner.specs.declared.looking.Next.{Next}
+use Rattle.stride_steps.specs.Passes.{StartedBy}
 use Rattle.thread_core.specs.Ready.{any_ready_in}
 use Rattle.thread_core.specs.Turns.{Tells}
 use Rattle.thread_core.specs.declared.turns.Turn.{Turn}
@@ -36,16 +38,16 @@ use Rattle.thread_core.specs.Worlds.{Held}
 use Rattle.world_source.specs.Reached.{IsReached, StepReaches}
 use Rattle.world_source.specs.UnderWay.{IsSettled}
 use Rattle.runner.specs.Kept.{Kept, known}
+use Rattle.runner.specs.Rules.{AreKept, AreKeptBeside, AreTold, HasAccounts}
 use Rattle.runner.specs.Times.{IsTimely}
 
--- the world is one of this program, image, certificate and policy, which chooses by the graph, and its times are possible
+-- the world is one of this program, image, certificate and policy, and its times are possible
 pub record IsOf (g : Setup) (held : Held) : Type 0 where
   pub program : accepted_tree held.accepted ≡ g.program
   pub image : held.accepted.image ≡ g.image
   pub certificate : held.accepted.certificate ≡ g.certificate
   pub setting : held.setting ≡ setting_of g
   pub chunks : held.machine.areas.pool.count ≡ g.policy.chunks
-  pub rule : g.policy.rule ≡ by_graph
   -- each cap is at most 1,000,000
   pub small : SmallCaps (all_caps g.policy)
   pub scoped : IsWellScoped g.program
@@ -71,12 +73,12 @@ pub record IsRead (trace : Trace) (reader : ReaderState) (next : Next) (left : O
   pub fits : FitsNext next
 
 -- what choices rest on; and there are no more choices, and no more records and keys, than so many
-pub record HasPast (g : Setup) (past : Past) (scheduler : SchedulerState) (graph : GraphState) (monitor : MonitorState) (choices most : ℕ) : Type 0 where
-  pub lasts : HasLasts scheduler past
+pub record HasPast (g : Setup) (past : Past) (rule : RuleState) (graph : GraphState) (monitor : MonitorState) (choices most : ℕ) : Type 0 where
+  pub accounts : HasAccounts g.policy.rule rule past
   pub graph_is : IsGraphOf graph past
   pub monitor_is : IsMonitorOf g monitor
-  pub taken : scheduler.noted ≡ length past.taken
-  pub noted : scheduler.noted ≤ choices
+  pub taken : noted_of rule ≡ length past.taken
+  pub noted : noted_of rule ≤ choices
   pub records : count_of graph.edges ≤ most
   pub keys : length graph.keys ≤ most
 
@@ -89,8 +91,9 @@ pub record StandsBetween (g : Setup) (state : State) (k : Kept) (held : Held) (l
   -- the clock moves only while a thread lives
   pub ended : held.machine.threads ≡ [] → held.machine.clock ≡ state.machine.clock
   pub settled : IsSettled (checked_of g) held.machine
-  pub queued : AreQueued held.places k.scheduler state.waiting
-  pub past : HasPast g state.past k.scheduler k.graph k.monitor held.machine.cost held.machine.cost
+  pub kept : AreKept held.places k.rule state.waiting
+  pub needed : AreTold held.machine k.rule
+  pub past : HasPast g state.past k.rule k.graph k.monitor held.machine.cost held.machine.cost
   pub gate : gate_after g.policy.high g.policy.low k.monitor.is_open (pressures g.policy.curves (uses_of state) (all_caps g.policy)) ≡ is_open g state.past
   pub read : IsRead state.trace k.reader k.next left
 
@@ -110,8 +113,10 @@ pub record StandsWithin (g : Setup) (state : State) (k : Kept) (held : Held) (le
   pub before_is : under.before ≡ segment.uses
   pub within_caps : NoneAbove under.before (all_caps g.policy)
   pub placed : IsSome (thread_of held.machine under.choice.thread.number) → IsPlaced held.places under.choice.thread
-  pub queued : AreQueued held.places k.scheduler waiting
-  pub past : HasPast g state.past k.scheduler k.graph k.monitor (held.begun + 1) held.begun
+  pub kept : AreKeptBeside held.places k.rule waiting under.choice.thread
+  pub needed : AreTold here k.rule
+  pub started : StartedBy state.past.taken (length state.source.threads)
+  pub past : HasPast g state.past k.rule k.graph k.monitor (held.begun + 1) held.begun
   pub gate : k.monitor.is_open ≡ is_open g state.past
   pub read : IsRead state.trace k.reader k.next left
 
@@ -148,8 +153,10 @@ pub record StandsInside (g : Setup) (state : State) (k : Kept) (held : Held) (le
   pub before_is : before ≡ segment.uses
   pub within_caps : NoneAbove before (all_caps g.policy)
   pub placed : IsSome (thread_of held.machine choice.thread.number) → IsPlaced held.places choice.thread
-  pub queued : AreQueued held.places k.scheduler waiting
-  pub past : HasPast g state.past k.scheduler k.graph k.monitor (held.begun + 1) held.begun
+  pub kept : AreKeptBeside held.places k.rule waiting choice.thread
+  pub needed : AreTold held.machine k.rule
+  pub started : StartedBy state.past.taken (length state.source.threads)
+  pub past : HasPast g state.past k.rule k.graph k.monitor (held.begun + 1) held.begun
   pub gate : k.monitor.is_open ≡ is_open g state.past
   pub read : IsRead state.trace k.reader k.next left
 

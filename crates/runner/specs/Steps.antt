@@ -1,21 +1,23 @@
 -- What a step of a run comes to.
-use Rattle.std.specs.Prelude.{◌≡◌, ℕ, List, Option, None, Some, Result, Ok, Err, take, length, ◌≤◌}
-use Rattle.std.specs.Io.KnownBytes.{Appends}
+use Rattle.std.specs.Prelude.{◌≡◌, ℕ, List, Option, None, Some, Result, Ok, Err}
+use Rattle.lawful_log.specs.Good.{checked_of}
 use Rattle.lawful_log.specs.Lawful.{Leads}
 use Rattle.lawful_log.specs.Setup.{Setup, setting_of}
 use Rattle.lawful_log.specs.State.{State}
 use Rattle.lawful_log.specs.Stops.{IsStop}
 use Rattle.lawful_steps.specs.Beside.{IsGraphOf}
 use Rattle.machine_world.specs.Runs.{Action, after_actions}
+use Rattle.machine_world.specs.Stretches.{IsSound}
 use Rattle.machine_world.specs.Threads.{World, Setting}
 use Rattle.runner.specs.declared.ends.Failure.{Failure}
 use Rattle.runner.specs.declared.ends.Halt.{Halt}
 use Rattle.schedule_log.specs.EntryText.{log_text}
 use Rattle.schedule_log.specs.declared.entries.Entry.{Entry}
 use Rattle.schedule_log.specs.declared.entries.StopLine.{StopLine}
-use Rattle.thread_core.specs.Worlds.{Held}
+use Rattle.thread_core.specs.Worlds.{Held, IsThread}
 use Rattle.runner.specs.Kept.{Kept}
-use Rattle.runner.specs.Ways.{IsOnWay}
+use Rattle.runner.specs.Output.{Output, Grows, TakesPart}
+use Rattle.runner.specs.Ways.{IsOnWay, HasTicked}
 use Rattle.runner.specs.Stands.{IsOf, Stands}
 use Rattle.chunk_pool.specs.Pool.{free_count}
 
@@ -31,48 +33,59 @@ stop_line Halt.Idle free = StopLine.Idle
 stop_line (Halt.BadTrace line) free = StopLine.Trace line
 stop_line (Halt.Cut thread stop cost) free = StopLine.Cut thread.number stop cost free
 
+-- the record of a thread that cuts the run stands at its place
+abbrev pub HasThread : Held → Halt → Type 0
+HasThread held Halt.Done = Unit {0}
+HasThread held Halt.Idle = Unit {0}
+HasThread held (Halt.BadTrace line) = Unit {0}
+HasThread held (Halt.Cut thread stop cost) = IsThread held thread
+
 -- some actions lead from a machine world to another
 pub record ActsTo (s : Setting) (w after : World) : Type 0 where
   pub actions : List Action
   pub leads : after_actions s actions w ≡ Some after
 
--- entries were allowed and written, and the run stands beside the state after them
-pub record GoesTo (g : Setup) (state : State) (before : Option (List ℕ)) (k : Kept) (held : Held) (left taken written : Option (List ℕ)) : Type 0 where
+-- entries were allowed and put, and the run stands beside the state after them
+pub record GoesTo (g : Setup) (state : State) (before : Option (List ℕ)) (k : Kept) (held : Held) (left : Option (List ℕ)) (taken written : Output) : Type 0 where
   pub new : State
   pub entries : List Entry
   pub told : IsTold before → IsTold left
   pub leads : IsTold before → Leads g state entries new
   pub acts : ActsTo (setting_of g) state.machine new.machine
   pub stands : Stands g new k held left
-  pub writes : Appends taken written (log_text entries)
+  pub writes : Grows taken written (log_text entries)
 
 -- the run stops here, in the machine world as it is now
-pub record HaltsAt (g : Setup) (state : State) (before : Option (List ℕ)) (k : Kept) (held : Held) (halt : Halt) (taken written : Option (List ℕ)) : Type 0 where
+pub record HaltsAt (g : Setup) (state : State) (before : Option (List ℕ)) (k : Kept) (held : Held) (halt : Halt) (taken written : Output) : Type 0 where
   pub of : IsOf g held
   pub stops : IsTold before → IsStop g state (stop_line halt (free_count held.machine.areas.pool)) held.machine
   pub graph : IsGraphOf k.graph state.past
   pub acts : ActsTo (setting_of g) state.machine held.machine
   pub way : IsOnWay (setting_of g) state.machine held.machine
+  pub clock : HasTicked state.machine held.machine
+  pub sound : IsSound (checked_of g) held.machine
+  pub thread : HasThread held halt
   pub writes : written ≡ taken
 
--- the run can't go on: a beginning of entries that are allowed was written, and the machine has made some steps
-pub record FailsIn (g : Setup) (state : State) (before : Option (List ℕ)) (held : Held) (taken written : Option (List ℕ)) : Type 0 where
+-- the run can't go on: the sink took a beginning of what was held and of entries that are allowed, and the machine has made
+-- some steps
+pub record FailsIn (g : Setup) (state : State) (before : Option (List ℕ)) (held : Held) (taken written : Output) : Type 0 where
   pub new : State
   pub entries : List Entry
   pub leads : IsTold before → Leads g state entries new
-  pub count : ℕ
-  pub part : count ≤ length (log_text entries)
-  pub writes : Appends taken written (take count (log_text entries))
+  pub writes : TakesPart taken written (log_text entries)
   pub acts : ActsTo (setting_of g) state.machine held.machine
   pub way : IsOnWay (setting_of g) new.machine held.machine
+  pub clock : HasTicked new.machine held.machine
+  pub sound : IsSound (checked_of g) held.machine
   pub of : IsOf g held
 
-abbrev pub StepEnds : Setup → State → Option (List ℕ) → Kept → Held → Option (List ℕ) → Option (List ℕ) → Option (List ℕ) → Result (Option Halt) Failure → Type 0
+abbrev pub StepEnds : Setup → State → Option (List ℕ) → Kept → Held → Option (List ℕ) → Output → Output → Result (Option Halt) Failure → Type 0
 StepEnds g state before k held left taken written (Ok None) = GoesTo g state before k held left taken written
 StepEnds g state before k held left taken written (Ok (Some halt)) = HaltsAt g state before k held halt taken written
 StepEnds g state before k held left taken written (Err failure) = FailsIn g state before held taken written
 
 -- the same of a part of a step, which stops nowhere
-abbrev pub PartEnds : Setup → State → Option (List ℕ) → Kept → Held → Option (List ℕ) → Option (List ℕ) → Option (List ℕ) → Result (Unit {0}) Failure → Type 0
+abbrev pub PartEnds : Setup → State → Option (List ℕ) → Kept → Held → Option (List ℕ) → Output → Output → Result (Unit {0}) Failure → Type 0
 PartEnds g state before k held left taken written (Ok _) = GoesTo g state before k held left taken written
 PartEnds g state before k held left taken written (Err failure) = FailsIn g state before held taken written

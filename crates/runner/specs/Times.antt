@@ -1,5 +1,5 @@
 -- How far the clock of a run can have come: up to the latest time of an event, and then for each instruction that has retired
--- its one cycle and the ticks of one sleep.
+-- its one cycle and the ticks of one sleep or of one wait with a time.
 use Rattle.std.specs.Prelude.{ℕ, ◌+◌, ◌*◌, ◌^◌, ◌≤◌, IfSome}
 use Rattle.std.specs.List.{AllByRecursion}
 use Rattle.lawful_steps.specs.Tests.{waking_time}

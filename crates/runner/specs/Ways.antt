@@ -1,5 +1,5 @@
 -- Where a machine world is in the run of a log.
-use Rattle.std.specs.Prelude.{◌≡◌, ℕ, ◌≤◌, List, ◌++◌, Some}
+use Rattle.std.specs.Prelude.{◌≡◌, ℕ, ◌+◌, ◌≤◌, List, ◌++◌, Some}
 use Rattle.lawful_log.specs.Lawful.{Leads}
 use Rattle.lawful_log.specs.Segments.{after_quiet}
 use Rattle.lawful_log.specs.Setup.{Setup, setting_of}
@@ -15,6 +15,10 @@ pub data IsOnWay (s : Setting) (from after : World) : Type 0 where
   has_run : (steps : ℕ) → after_quiet s steps from ≡ Some after → IsOnWay s from after
   has_told : (steps : ℕ) (here : World) → after_quiet s steps from ≡ Some here → world_of (step s here) ≡ Some after → IsOnWay s from after
 
+-- from the one to the other the clock went on by a cycle for each instruction that retired, and by nothing else
+abbrev pub HasTicked : World → World → Type 0
+HasTicked from after = after.clock + from.cost ≡ from.clock + after.cost
+
 -- the entries begin with some that lead to a state, and the machine world is on the way from there
 pub record IsOnRun (g : Setup) (bytes : List ℕ) (start : World) (entries : List Entry) (after : World) : Type 0 where
   pub done : List Entry
@@ -23,3 +27,4 @@ pub record IsOnRun (g : Setup) (bytes : List ℕ) (start : World) (entries : Lis
   pub state : State
   pub leads : Leads g (start_of g bytes start) done state
   pub way : IsOnWay (setting_of g) state.machine after
+  pub clock : HasTicked state.machine after

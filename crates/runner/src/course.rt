@@ -1,4 +1,4 @@
-ghost use Rattle.std.specs.Prelude.{◌≡◌, ◌<◌, ◌≤◌, IfOk, List, None, Option, Some, ℕ};
+ghost use Rattle.std.specs.Prelude.{◌≡◌, ◌<◌, ◌≤◌, IfOk, List, None, OnOk, Option, Some, ℕ};
 ghost use Rattle.thread_core.specs.Making.{IsEventInRange};
 ghost use Rattle.lawful_log.specs.Setup.{Setup};
 ghost use Rattle.lawful_log.specs.State.{State, start_of};
@@ -13,8 +13,9 @@ use blocking_graph::Graph;
 use cap_io::{Sink, Source};
 use event_trace::{Event, TraceReader};
 use resource_monitor::{Measure, Monitor};
-use schedule_log::Entry;
-use scheduler::{Choice, Scheduler};
+use rule_state::RuleState;
+use schedule_log::{Entry, LogWriter};
+use scheduler::Choice;
 use std::alloc::{AllocError, Global};
 use std::marker::Model;
 use thread_core::{Turn, World};
@@ -30,7 +31,7 @@ pub(crate) struct Under {
 /// What a run keeps beside its world.
 #[derive(Drop)]
 pub(crate) struct Course<C: Measure> {
-    pub(crate) scheduler: Scheduler,
+    pub(crate) rule: RuleState,
     pub(crate) graph: Graph,
     pub(crate) monitor: Monitor<C>,
     pub(crate) reader: TraceReader,
@@ -43,14 +44,16 @@ impl<C: Measure> Model for Course<C> {
 
     ghost Value = { Kept };
 
-    ghost view = { λ c. record { scheduler = c.scheduler; graph = c.graph; monitor = c.monitor; reader = c.reader; next = c.next; under = c.under } };
+    ghost view = { λ c. record { rule = c.rule; graph = c.graph; monitor = c.monitor; reader = c.reader; next = c.next; under = c.under } };
 }
 
 impl<C: Measure + Drop> Course<C> {
-    ghost use Rattle.runner.specs.Answers.{IsAtStart, KeepsRun};
+    ghost use Rattle.runner.specs.Answers.{IsAtStartBy, KeepsRun};
     ghost use Rattle.runner.specs.Counts.{CountsPart, CountsStep};
     ghost use Rattle.runner.specs.Looks.{Knows};
+    ghost use Rattle.runner.specs.Output.{output_of};
     ghost use Rattle.runner.specs.Ranks.{FallsTo, lines_rank, long_rank, rank};
+    ghost use Rattle.runner.specs.Rules.{HasNothing, rule_of};
     ghost use Rattle.runner.specs.Sound.{IsSound};
     ghost use Rattle.runner.specs.Stands.{ChoiceStands, IsAtChoice, IsAtPoint, PointStands, Stands, StandsBetween, StandsSomehow, bytes_of};
     ghost use Rattle.runner.specs.Steps.{PartEnds, StepEnds};
@@ -59,17 +62,19 @@ impl<C: Measure + Drop> Course<C> {
     pub(crate) fn new(
         alloc: Global,
         world: &World,
+        rule: RuleState,
         monitor: Monitor<C>,
     ) -> Result<Course<C>, AllocError>
-        requires { IsSound world.now.accepted }
-        ensures { IfOk result (λ course. (g : Setup) (left : Option (List ℕ)) → IsAtStart g world.now monitor → (course.under ≡ None) × StandsBetween g (start_of g (bytes_of left) world.now.machine) course world.now left) }
+        requires sound { IsSound world.now.accepted }
+        requires fresh { HasNothing rule }
+        ensures { IfOk result (λ course. (g : Setup) (left : Option (List ℕ)) → IsAtStartBy (rule_of rule) g world.now monitor → (course.under ≡ None) × StandsBetween g (start_of g (bytes_of left) world.now.machine) course world.now left) }
     {
         let reader = TraceReader::new(alloc)?;
         let graph = Graph::new(alloc);
-        let mut scheduler = Scheduler::new(alloc);
-        scheduler.enqueue(0, world.main_thread())?;
+        let mut rule = rule;
+        rule.start(world.main_thread())?;
         Ok(Course {
-            scheduler,
+            rule,
             graph,
             monitor,
             reader,
@@ -81,37 +86,41 @@ impl<C: Measure + Drop> Course<C> {
     /// One step of a run: the next thing in a segment, or at a choice point.
     pub(crate) fn step<S: Source, K: Sink>(
         &mut self,
-        alloc: Global,
         world: &mut World,
         trace: &mut S,
+        writer: &mut LogWriter,
         out: &mut K,
     ) -> Result<Option<Halt>, Failure>
-        requires { StandsSomehow self.old world.old }
+        requires stands { StandsSomehow self.old world.old }
+        requires unrefused { writer.old.refused ≡ None }
         ensures ends { (g : Setup) (state : State) (left : Option (List ℕ)) → Knows left (S.left trace.old) → Stands g state self.old world.old left →
-            (after : Option (List ℕ)) × Knows after (S.left trace.new) × StepEnds g state left self.new world.new after (K.taken out.old) (K.taken out.new) result }
+            (after : Option (List ℕ)) × Knows after (S.left trace.new) × StepEnds g state left self.new world.new after (output_of writer.old (K.taken out.old)) (output_of writer.new (K.taken out.new)) result }
         ensures counts { CountsStep result (S.faults trace.old) (S.faults trace.new) (K.faults out.old) (K.faults out.new) }
+        ensures unrefused { OnOk result (writer.new.refused ≡ None) }
         ensures falls { FallsTo (rank self.old world.old) result (rank self.new world.new) }
         ensures keeps { KeepsRun world.old world.new }
     {
         match self.under {
-            Some(under) => self.pass(alloc, world, under, out),
-            None => self.point(alloc, world, trace, out),
+            Some(under) => self.pass(world, under, writer, out),
+            None => self.point(world, trace, writer, out),
         }
     }
 
     /// One step of a choice point: the run stops, an event is delivered, the clock moves, or a segment begins.
     fn point<S: Source, K: Sink>(
         &mut self,
-        alloc: Global,
         world: &mut World,
         trace: &mut S,
+        writer: &mut LogWriter,
         out: &mut K,
     ) -> Result<Option<Halt>, Failure>
         requires stands { StandsSomehow self.old world.old }
         requires between { self.old.under ≡ None }
+        requires unrefused { writer.old.refused ≡ None }
         ensures ends { (g : Setup) (state : State) (left : Option (List ℕ)) → Knows left (S.left trace.old) → StandsBetween g state self.old world.old left →
-            (after : Option (List ℕ)) × Knows after (S.left trace.new) × StepEnds g state left self.new world.new after (K.taken out.old) (K.taken out.new) result }
+            (after : Option (List ℕ)) × Knows after (S.left trace.new) × StepEnds g state left self.new world.new after (output_of writer.old (K.taken out.old)) (output_of writer.new (K.taken out.new)) result }
         ensures counts { CountsStep result (S.faults trace.old) (S.faults trace.new) (K.faults out.old) (K.faults out.new) }
+        ensures unrefused { OnOk result (writer.new.refused ≡ None) }
         ensures falls { FallsTo (rank self.old world.old) result (rank self.new world.new) }
         ensures keeps { KeepsRun world.old world.new }
     {
@@ -120,32 +129,34 @@ impl<C: Measure + Drop> Course<C> {
         }
         match self.look(trace)? {
             Looked::Refused { line } => Ok(Some(Halt::BadTrace { line })),
-            Looked::Comes { event } => self.go_on(alloc, world, event, out),
+            Looked::Comes { event } => self.go_on(world, event, writer, out),
         }
     }
 
     /// The step goes on where the next line is good: the event of it, or None where the trace is over.
     fn go_on<K: Sink>(
         &mut self,
-        alloc: Global,
         world: &mut World,
         next: Option<Event>,
+        writer: &mut LogWriter,
         out: &mut K,
     ) -> Result<Option<Halt>, Failure>
-        requires { PointStands self.old world.old next }
-        ensures ends { (g : Setup) (state : State) (left : Option (List ℕ)) → IsAtPoint g state self.old world.old left next → StepEnds g state left self.new world.new left (K.taken out.old) (K.taken out.new) result }
+        requires stands { PointStands self.old world.old next }
+        requires unrefused { writer.old.refused ≡ None }
+        ensures ends { (g : Setup) (state : State) (left : Option (List ℕ)) → IsAtPoint g state self.old world.old left next → StepEnds g state left self.new world.new left (output_of writer.old (K.taken out.old)) (output_of writer.new (K.taken out.new)) result }
         ensures counts { CountsPart result (K.faults out.old) (K.faults out.new) }
+        ensures unrefused { OnOk result (writer.new.refused ≡ None) }
         ensures falls { FallsTo (rank self.old world.old) result (rank self.new world.new) }
         ensures keeps { KeepsRun world.old world.new }
     {
         if let Some(event) = next {
             if event.time <= world.clock() {
-                self.deliver(alloc, world, event, out)?;
+                self.deliver(world, event, writer, out)?;
                 return Ok(None);
             }
         }
         if world.any_ready() {
-            self.choose(alloc, world, out)?;
+            self.choose(world, writer, out)?;
             return Ok(None);
         }
         Ok(wait(world, next))
@@ -154,15 +165,17 @@ impl<C: Measure + Drop> Course<C> {
     /// The event that is due joins its queue, or is dropped.
     fn deliver<K: Sink>(
         &mut self,
-        alloc: Global,
         world: &mut World,
         event: Event,
+        writer: &mut LogWriter,
         out: &mut K,
     ) -> Result<(), Failure>
         requires between { world.old.machine.running ≡ None }
         requires in_range { IsEventInRange event.kind }
-        ensures ends { (g : Setup) (state : State) (left : Option (List ℕ)) → IsAtPoint g state self.old world.old left (Some event) → event.time ≤ world.old.machine.clock → PartEnds g state left self.new world.new left (K.taken out.old) (K.taken out.new) result }
+        requires unrefused { writer.old.refused ≡ None }
+        ensures ends { (g : Setup) (state : State) (left : Option (List ℕ)) → IsAtPoint g state self.old world.old left (Some event) → event.time ≤ world.old.machine.clock → PartEnds g state left self.new world.new left (output_of writer.old (K.taken out.old)) (output_of writer.new (K.taken out.new)) result }
         ensures counts { CountsPart result (K.faults out.old) (K.faults out.new) }
+        ensures unrefused { OnOk result (writer.new.refused ≡ None) }
         ensures long_rank { long_rank self.new world.new ≡ long_rank self.old world.old }
         ensures lines_rank { self.old.next ≡ Next.Event event → lines_rank self.new < lines_rank self.old }
         ensures keeps { KeepsRun world.old world.new }
@@ -170,7 +183,7 @@ impl<C: Measure + Drop> Course<C> {
         let delivered = world.deliver(event);
         self.next = Next::Unread;
         write_line(
-            alloc,
+            writer,
             out,
             &coming_entry(world.clock(), event.kind, delivered),
         )
@@ -179,22 +192,22 @@ impl<C: Measure + Drop> Course<C> {
     /// A thread is chosen, and its segment begins.
     fn choose<K: Sink>(
         &mut self,
-        alloc: Global,
         world: &mut World,
+        writer: &mut LogWriter,
         out: &mut K,
     ) -> Result<(), Failure>
-        requires { ChoiceStands self.old world.old }
-        ensures ends { (g : Setup) (state : State) (left : Option (List ℕ)) (next : Option Event) → IsAtChoice g state self.old world.old left next → PartEnds g state left self.new world.new left (K.taken out.old) (K.taken out.new) result }
+        requires stands { ChoiceStands self.old world.old }
+        requires unrefused { writer.old.refused ≡ None }
+        ensures ends { (g : Setup) (state : State) (left : Option (List ℕ)) (next : Option Event) → IsAtChoice g state self.old world.old left next → PartEnds g state left self.new world.new left (output_of writer.old (K.taken out.old)) (output_of writer.new (K.taken out.new)) result }
         ensures counts { CountsPart result (K.faults out.old) (K.faults out.new) }
+        ensures unrefused { OnOk result (writer.new.refused ≡ None) }
         ensures falls { long_rank self.new world.new < long_rank self.old world.old }
         ensures keeps { KeepsRun world.old world.new }
     {
         let before = uses_of(world);
         self.monitor.observe(before);
-        let Some(choice) = self.scheduler.choose(&self.graph, &self.monitor, world) else {
-            unreachable!()
-        };
-        self.scheduler.note_choice(&choice);
+        let taken = self.rule.take(&self.graph, &self.monitor, world);
+        let Some(choice) = taken else { unreachable!() };
         let entry = Entry::Run {
             clock: world.clock(),
             thread: choice.thread.number,
@@ -207,6 +220,6 @@ impl<C: Measure + Drop> Course<C> {
             turn,
         };
         self.under = Some(under);
-        write_line(alloc, out, &entry)
+        write_line(writer, out, &entry)
     }
 }

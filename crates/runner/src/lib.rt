@@ -19,4 +19,4 @@ mod uses;
 mod waiting;
 
 pub use ends::RunEnd;
-pub use running::run;
+pub use running::{run, run_stride};

@@ -1,22 +1,50 @@
-ghost use Rattle.std.specs.Prelude.{◌≤◌, ◌∷◌, [], ◌++◌};
+// The lines of a log, through a writer with a buffer.
+ghost use Rattle.std.specs.Prelude.{◌≡◌, ◌∷◌, [], ◌++◌, None, OnOk};
 ghost use Rattle.cap_io.specs.Writes.{Puts};
-ghost use Rattle.runner.specs.Lines.{CountsLine};
+ghost use Rattle.runner.specs.Counts.{CountsPart};
+ghost use Rattle.runner.specs.Lines.{put_failure};
+ghost use Rattle.runner.specs.Output.{PutsText, output_of};
 ghost use Rattle.schedule_log.specs.EntryText.{entry_text};
 
 use crate::ends::Failure;
 use cap_io::Sink;
-use schedule_log::{Entry, PutError, put_entry};
-use std::alloc::Global;
+use schedule_log::{Entry, LogWriter, PutError};
 
-/// Writes the line of an entry.
-pub(crate) fn write_line<K: Sink>(alloc: Global, out: &mut K, entry: &Entry) -> Result<(), Failure>
-    ensures bytes { Puts (K.taken out.old) (K.taken out.new) (entry_text entry.now ++ 10 ∷ []) result }
-    ensures counts { CountsLine result (K.faults out.old) (K.faults out.new) }
-    ensures never_falls { K.faults out.old ≤ K.faults out.new }
+/// Puts the line of an entry: it goes to the sink when the buffer is full.
+pub(crate) fn write_line<K: Sink>(
+    writer: &mut LogWriter,
+    out: &mut K,
+    entry: &Entry,
+) -> Result<(), Failure>
+    requires { writer.old.refused ≡ None }
+    ensures bytes { PutsText (output_of writer.old (K.taken out.old)) (output_of writer.new (K.taken out.new)) (entry_text entry.now ++ 10 ∷ []) result }
+    ensures counts { CountsPart result (K.faults out.old) (K.faults out.new) }
+    ensures unrefused { OnOk result (writer.new.refused ≡ None) }
 {
-    match put_entry(alloc, out, entry) {
+    match writer.put(out, entry) {
         Ok(()) => Ok(()),
-        Err(PutError::WriteFault) => Err(Failure::Write),
-        Err(PutError::Memory) => Err(Failure::Memory),
+        Err(refusal) => Err(failure_of(refusal)),
+    }
+}
+
+/// Writes what is held, at the end of a log.
+pub(crate) fn finish<K: Sink>(writer: LogWriter, out: &mut K) -> Result<(), Failure>
+    requires { writer.refused ≡ None }
+    ensures bytes { Puts (K.taken out.old) (K.taken out.new) writer.held result }
+    ensures counts { CountsPart result (K.faults out.old) (K.faults out.new) }
+{
+    match writer.finish(out) {
+        Ok(()) => Ok(()),
+        Err(refusal) => Err(failure_of(refusal)),
+    }
+}
+
+/// Why a run can't go on whose log could not be written.
+fn failure_of(refusal: PutError) -> Failure
+    ensures { result ≡ put_failure refusal }
+{
+    match refusal {
+        PutError::WriteFault => Failure::Write,
+        PutError::Memory => Failure::Memory,
     }
 }

@@ -1,14 +1,22 @@
+ghost use Rattle.std.specs.Prelude.{◌≡◌};
+ghost use Rattle.choice_rules.specs.Policy.{by_stride};
 ghost use Rattle.lawful_log.specs.Setup.{Setup};
-ghost use Rattle.runner.specs.Answers.{IsAtStart, IsRunEnd, KeepsRun};
+ghost use Rattle.runner.specs.Answers.{IsAtStart, IsAtStartBy, IsRunEnd, KeepsRun};
 ghost use Rattle.runner.specs.Lines.{run_end};
+ghost use Rattle.runner.specs.Rules.{HasNothing, rule_of};
+ghost use Rattle.stride_rule.specs.State.{new_rule};
 
 use crate::course::Course;
 use crate::edges::write_end;
 use crate::ends::{Failure, RunEnd, failed_end};
 use cap_io::{Sink, Source};
 use resource_monitor::{Measure, Monitor};
+use rule_state::{RuleState, StridesAtNodes};
+use schedule_log::LogWriter;
+use scheduler::Scheduler;
 use segment_run::sizes_law;
 use std::alloc::Global;
+use stride_rule::StrideRule;
 use thread_core::World;
 
 /// Runs a world that was just made over a trace, and writes its log. A run ends with
@@ -23,7 +31,7 @@ use thread_core::World;
 /// - `Threads` where the thread is to start one, and 65,535 live; this is tested before the want of a chunk;
 /// - `ReadFault` where a read of the trace failed: the trace's count of faults rose, or stands at its end;
 /// - `WriteFault` where a write of the log failed: the sink's count of faults rose, or stands at its end;
-/// - `Memory` where there was no memory for what is kept, or for a line.
+/// - `Memory` where there was no memory for what is kept, or in the sink.
 ///
 /// At the first seven the log is written whole, and the world is as it was at the stop. At the last three a beginning of the
 /// log is written, and the world is one of those that its run comes through.
@@ -38,7 +46,46 @@ pub fn run<S: Source, K: Sink, C: Measure + Drop>(
     ensures answer { (g : Setup) → IsAtStart g world.old monitor → IsRunEnd g world.new (S.left trace.old) (K.taken out.old) (K.taken out.new) (S.faults trace.old) (S.faults trace.new) (K.faults out.old) (K.faults out.new) result }
     ensures keeps { KeepsRun world.old world.new }
 {
-    match go(alloc, world, monitor, trace, out) {
+    let scheduler = Scheduler::new(alloc);
+    let by_graph = RuleState::Graph { scheduler };
+    run_by(alloc, world, by_graph, monitor, trace, out)
+}
+
+/// Runs a world that was just made over a trace, and writes its log, as `run` does; threads are chosen by strides. The rule is
+/// new: no thread was started. A run ends as one by the graph, with the same answers.
+pub fn run_stride<S: Source, K: Sink, C: Measure + Drop>(
+    alloc: Global,
+    world: &mut World,
+    rule: StrideRule,
+    monitor: Monitor<C>,
+    trace: &mut S,
+    out: &mut K,
+) -> RunEnd
+    requires start { (g : Setup) × IsAtStartBy (by_stride rule.tickets) g world.old monitor }
+    requires fresh { rule ≡ new_rule rule.tickets }
+    ensures answer { (g : Setup) → IsAtStartBy (by_stride rule.tickets) g world.old monitor → IsRunEnd g world.new (S.left trace.old) (K.taken out.old) (K.taken out.new) (S.faults trace.old) (S.faults trace.new) (K.faults out.old) (K.faults out.new) result }
+    ensures keeps { KeepsRun world.old world.new }
+{
+    let strides = StridesAtNodes::new(alloc, rule);
+    let by_strides = RuleState::Stride { strides };
+    run_by(alloc, world, by_strides, monitor, trace, out)
+}
+
+/// Runs a world by a rule at which no thread was started.
+fn run_by<S: Source, K: Sink, C: Measure + Drop>(
+    alloc: Global,
+    world: &mut World,
+    rule: RuleState,
+    monitor: Monitor<C>,
+    trace: &mut S,
+    out: &mut K,
+) -> RunEnd
+    requires start { (g : Setup) × IsAtStartBy (rule_of rule) g world.old monitor }
+    requires fresh { HasNothing rule }
+    ensures answer { (g : Setup) → IsAtStartBy (rule_of rule) g world.old monitor → IsRunEnd g world.new (S.left trace.old) (K.taken out.old) (K.taken out.new) (S.faults trace.old) (S.faults trace.new) (K.faults out.old) (K.faults out.new) result }
+    ensures keeps { KeepsRun world.old world.new }
+{
+    match go(alloc, world, rule, monitor, trace, out) {
         Ok(end) => end,
         Err(failure) => failed_end(failure),
     }
@@ -47,26 +94,31 @@ pub fn run<S: Source, K: Sink, C: Measure + Drop>(
 fn go<S: Source, K: Sink, C: Measure + Drop>(
     alloc: Global,
     world: &mut World,
+    rule: RuleState,
     monitor: Monitor<C>,
     trace: &mut S,
     out: &mut K,
 ) -> Result<RunEnd, Failure>
-    requires { (g : Setup) × IsAtStart g world.old monitor }
-    ensures answer { (g : Setup) → IsAtStart g world.old monitor → IsRunEnd g world.new (S.left trace.old) (K.taken out.old) (K.taken out.new) (S.faults trace.old) (S.faults trace.new) (K.faults out.old) (K.faults out.new) (run_end result) }
+    requires start { (g : Setup) × IsAtStartBy (rule_of rule) g world.old monitor }
+    requires fresh { HasNothing rule }
+    ensures answer { (g : Setup) → IsAtStartBy (rule_of rule) g world.old monitor → IsRunEnd g world.new (S.left trace.old) (K.taken out.old) (K.taken out.new) (S.faults trace.old) (S.faults trace.new) (K.faults out.old) (K.faults out.new) (run_end result) }
     ensures keeps { KeepsRun world.old world.new }
 {
     // What these calls tell: the pair is valid, and its chunks have a size that a pool's may have.
     let accepted = world.accepted();
     sizes_law(accepted);
     let _image = accepted.image();
-    let Ok(mut course) = Course::new(alloc, world, monitor) else {
+    let Ok(mut writer) = LogWriter::new(alloc) else {
+        return Err(Failure::Memory);
+    };
+    let Ok(mut course) = Course::new(alloc, world, rule, monitor) else {
         return Err(Failure::Memory);
     };
     loop {
-        match course.step(alloc, world, trace, out) {
+        match course.step(world, trace, &mut writer, out) {
             Ok(None) => (),
             Ok(Some(halt)) => {
-                let written = write_end(alloc, world, &course.graph, halt, out);
+                let written = write_end(world, &course.graph, halt, writer, out);
                 drop(course);
                 return match written {
                     Ok(()) => Ok(halt.end()),

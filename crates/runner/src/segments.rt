@@ -4,10 +4,12 @@ ghost use Rattle.lawful_log.specs.Setup.{Setup};
 ghost use Rattle.lawful_log.specs.State.{State};
 ghost use Rattle.runner.specs.Answers.{KeepsRun};
 ghost use Rattle.runner.specs.Counts.{CountsPart};
+ghost use Rattle.runner.specs.Output.{Output, output_of};
 ghost use Rattle.runner.specs.Ranks.{FallsTo, long_rank, rank, under_rank};
 ghost use Rattle.runner.specs.Recorded.{HasSmallCaps, IsRecorded};
 ghost use Rattle.runner.specs.Stands.{HasTurn, SegmentStands, Stands, StandsInside, StandsWithin};
 ghost use Rattle.runner.specs.Steps.{ActsTo, PartEnds, StepEnds};
+ghost use Rattle.runner.specs.Ways.{HasTicked};
 ghost use Rattle.thread_core.specs.Turns.{MayProceed};
 
 use crate::course::{Course, Under};
@@ -19,34 +21,33 @@ use blocking_graph::SegmentRecord;
 use cap_io::Sink;
 use cap_word::{SiteKey, ThreadId};
 use resource_monitor::Measure;
-use schedule_log::Entry;
-use std::alloc::Global;
+use schedule_log::{Entry, LogWriter};
 use thread_core::{Turn, World};
 
-/// The node of threads that haven't run, and the one of those that have ended.
-const START: u32 = 0;
-
+/// The node of threads that have ended.
 const END: u32 = 1;
 
 impl<C: Measure + Drop> Course<C> {
     /// What the thread of the segment under way did last is told, and the segment goes on.
     pub(crate) fn pass<K: Sink>(
         &mut self,
-        alloc: Global,
         world: &mut World,
         under: Under,
+        writer: &mut LogWriter,
         out: &mut K,
     ) -> Result<Option<Halt>, Failure>
-        requires { SegmentStands self.old world.old under }
-        ensures ends { (g : Setup) (state : State) (left : Option (List ℕ)) → StandsWithin g state self.old world.old left under → StepEnds g state left self.new world.new left (K.taken out.old) (K.taken out.new) result }
+        requires stands { SegmentStands self.old world.old under }
+        requires unrefused { writer.old.refused ≡ None }
+        ensures ends { (g : Setup) (state : State) (left : Option (List ℕ)) → StandsWithin g state self.old world.old left under → StepEnds g state left self.new world.new left (output_of writer.old (K.taken out.old)) (output_of writer.new (K.taken out.new)) result }
         ensures counts { CountsPart result (K.faults out.old) (K.faults out.new) }
+        ensures unrefused { OnOk result (writer.new.refused ≡ None) }
         ensures falls { self.old.under ≡ Some under → FallsTo (rank self.old world.old) result (rank self.new world.new) }
         ensures keeps { KeepsRun world.old world.new }
     {
         let turn = under.turn;
         match turn {
             Turn::Out { value } => {
-                self.put(alloc, world, under, value, out)?;
+                self.put(world, under, value, writer, out)?;
                 Ok(None)
             }
             Turn::Spawned { thread } => {
@@ -54,11 +55,11 @@ impl<C: Measure + Drop> Course<C> {
                 Ok(None)
             }
             Turn::Blocked { key, cost } => {
-                self.block(alloc, world, under, &key, cost, out)?;
+                self.block(world, under, &key, cost, writer, out)?;
                 Ok(None)
             }
             Turn::Ended { cost } => {
-                self.end(alloc, world, under, cost, out)?;
+                self.end(world, under, cost, writer, out)?;
                 Ok(None)
             }
             Turn::Cut { stop, cost } => Ok(Some(Halt::Cut {
@@ -73,15 +74,17 @@ impl<C: Measure + Drop> Course<C> {
     /// A value was put.
     fn put<K: Sink>(
         &mut self,
-        alloc: Global,
         world: &mut World,
         under: Under,
         value: u32,
+        writer: &mut LogWriter,
         out: &mut K,
     ) -> Result<(), Failure>
-        requires { HasTurn self.old world.old under (Turn.Out value) }
-        ensures ends { (g : Setup) (state : State) (left : Option (List ℕ)) → StandsWithin g state self.old world.old left under → PartEnds g state left self.new world.new left (K.taken out.old) (K.taken out.new) result }
+        requires turn { HasTurn self.old world.old under (Turn.Out value) }
+        requires unrefused { writer.old.refused ≡ None }
+        ensures ends { (g : Setup) (state : State) (left : Option (List ℕ)) → StandsWithin g state self.old world.old left under → PartEnds g state left self.new world.new left (output_of writer.old (K.taken out.old)) (output_of writer.new (K.taken out.new)) result }
         ensures counts { CountsPart result (K.faults out.old) (K.faults out.new) }
+        ensures unrefused { OnOk result (writer.new.refused ≡ None) }
         ensures falls { self.old.under ≡ Some under → long_rank self.new world.new < long_rank self.old world.old }
         ensures keeps { KeepsRun world.old world.new }
     {
@@ -90,18 +93,18 @@ impl<C: Measure + Drop> Course<C> {
             value: signed_word(value),
         };
         self.proceed(world, under);
-        write_line(alloc, out, &entry)
+        write_line(writer, out, &entry)
     }
 
     /// A thread has started.
     fn spawn(&mut self, world: &mut World, under: Under, thread: ThreadId) -> Result<(), Failure>
         requires { HasTurn self.old world.old under (Turn.Spawned thread) }
-        ensures ends { (g : Setup) (state : State) (left taken : Option (List ℕ)) → StandsWithin g state self.old world.old left under → PartEnds g state left self.new world.new left taken taken result }
+        ensures ends { (g : Setup) (state : State) (left : Option (List ℕ)) (now : Output) → StandsWithin g state self.old world.old left under → PartEnds g state left self.new world.new left now now result }
         ensures only_memory { IfErr result (λ failure. failure ≡ Failure.Memory) }
         ensures falls { IfOk result (λ _. self.old.under ≡ Some under → long_rank self.new world.new < long_rank self.old world.old) }
         ensures keeps { KeepsRun world.old world.new }
     {
-        self.scheduler.enqueue(START, thread)?;
+        self.rule.start(thread)?;
         self.proceed(world, under);
         Ok(())
     }
@@ -110,6 +113,7 @@ impl<C: Measure + Drop> Course<C> {
     fn proceed(&mut self, world: &mut World, under: Under)
         requires { MayProceed world.old world.old.stopped }
         ensures goes_on { (g : Setup) (state : State) (left : Option (List ℕ)) → StandsInside g state self.old world.old left under.choice under.before → Stands g state self.new world.new left }
+        ensures ticks { (g : Setup) (state : State) (left : Option (List ℕ)) → StandsInside g state self.old world.old left under.choice under.before → HasTicked state.machine world.new.machine }
         ensures acts { world.old.stopped ≡ None → ActsTo world.old.setting world.old.machine world.new.machine }
         ensures falls { (g : Setup) (state : State) (left : Option (List ℕ)) → StandsInside g state self.old world.old left under.choice under.before → 1 ≤ under_rank self.old.under → long_rank self.new world.new < long_rank self.old world.old }
         ensures keeps { KeepsRun world.old world.new }
@@ -128,22 +132,25 @@ impl<C: Measure + Drop> Course<C> {
     /// The segment has ended at a blocking call.
     fn block<K: Sink>(
         &mut self,
-        alloc: Global,
         world: &World,
         under: Under,
         key: &SiteKey,
         cost: u64,
+        writer: &mut LogWriter,
         out: &mut K,
     ) -> Result<(), Failure>
-        requires { HasTurn self.old world.now under (Turn.Blocked key.now cost) }
-        ensures ends { (g : Setup) (state : State) (left : Option (List ℕ)) → StandsWithin g state self.old world.now left under → PartEnds g state left self.new world.now left (K.taken out.old) (K.taken out.new) result }
+        requires turn { HasTurn self.old world.now under (Turn.Blocked key.now cost) }
+        requires unrefused { writer.old.refused ≡ None }
+        ensures ends { (g : Setup) (state : State) (left : Option (List ℕ)) → StandsWithin g state self.old world.now left under → PartEnds g state left self.new world.now left (output_of writer.old (K.taken out.old)) (output_of writer.new (K.taken out.new)) result }
         ensures counts { CountsPart result (K.faults out.old) (K.faults out.new) }
+        ensures unrefused { OnOk result (writer.new.refused ≡ None) }
         ensures over { OnOk result (self.new.under ≡ None) }
     {
         let thread = under.choice.thread;
         let node = self.graph.node_of(key)?;
         self.record(world, under, node, cost)?;
-        self.scheduler.enqueue(node, thread)?;
+        let need = world.need_of(thread);
+        self.rule.rejoin(thread, node, need)?;
         self.under = None;
         let key = *key;
         let free = world.free();
@@ -154,25 +161,28 @@ impl<C: Measure + Drop> Course<C> {
             cost,
             free,
         };
-        write_line(alloc, out, &entry)
+        write_line(writer, out, &entry)
     }
 
     /// The segment has ended with its thread.
     fn end<K: Sink>(
         &mut self,
-        alloc: Global,
         world: &World,
         under: Under,
         cost: u64,
+        writer: &mut LogWriter,
         out: &mut K,
     ) -> Result<(), Failure>
-        requires { HasTurn self.old world.now under (Turn.Ended cost) }
-        ensures ends { (g : Setup) (state : State) (left : Option (List ℕ)) → StandsWithin g state self.old world.now left under → PartEnds g state left self.new world.now left (K.taken out.old) (K.taken out.new) result }
+        requires turn { HasTurn self.old world.now under (Turn.Ended cost) }
+        requires unrefused { writer.old.refused ≡ None }
+        ensures ends { (g : Setup) (state : State) (left : Option (List ℕ)) → StandsWithin g state self.old world.now left under → PartEnds g state left self.new world.now left (output_of writer.old (K.taken out.old)) (output_of writer.new (K.taken out.new)) result }
         ensures counts { CountsPart result (K.faults out.old) (K.faults out.new) }
+        ensures unrefused { OnOk result (writer.new.refused ≡ None) }
         ensures over { OnOk result (self.new.under ≡ None) }
     {
         let thread = under.choice.thread;
         self.record(world, under, END, cost)?;
+        self.rule.leave(thread);
         self.under = None;
         let free = world.free();
         let entry = Entry::End {
@@ -180,7 +190,7 @@ impl<C: Measure + Drop> Course<C> {
             cost,
             free,
         };
-        write_line(alloc, out, &entry)
+        write_line(writer, out, &entry)
     }
 
     /// The record of a segment that has ended at a node.

@@ -1,4 +1,4 @@
-ghost use Rattle.std.specs.Prelude.{◌≡◌, ℕ, List, map};
+ghost use Rattle.std.specs.Prelude.{◌≡◌, ℕ, List, map, Ok};
 ghost use Rattle.rv_code.specs.Decoding.{decoding};
 ghost use Rattle.rv_machine.specs.Step.{instruction_at, outcome, machine, answer, regs_after, bytes_after, memory_after};
 
@@ -30,9 +30,26 @@ pub fn step_decoded<M: Memory>(
         memory.new ≡ memory_after M.with_byte (outcome words (machine regs.old (M.byte_at memory.old) (M.is_writable memory.old))) memory.old }
 {
     match fetch_decoded(code, regs.pc) {
-        Ok(instr) => execute(row_of(instr, memory, regs), memory, regs),
+        Ok(instr) => step_of(instr, memory, regs),
         Err(kind) => regs.fault(kind),
     }
+}
+
+/// One step, as `step` does it, of an instruction that the caller has fetched: over whatever words this instruction stands
+/// at pc, the step is that over those words, by the same table and with the same answers. Nothing is fetched or tested again.
+#[tactic(auto, unfolding(crate::specs::Step::outcome, crate::specs::Step::started))]
+pub fn step_of<M: Memory>(instr: Instr, memory: &mut M, regs: &mut Regs) -> StepResult
+    ensures answer { (words : List ℕ) → instruction_at words regs.old.pc ≡ Ok instr →
+        result ≡ answer (outcome words (machine regs.old (M.byte_at memory.old) (M.is_writable memory.old))) regs.old }
+    ensures registers { (words : List ℕ) → instruction_at words regs.old.pc ≡ Ok instr →
+        regs.new ≡ regs_after (outcome words (machine regs.old (M.byte_at memory.old) (M.is_writable memory.old))) regs.old }
+    ensures bytes { (words : List ℕ) (at : ℕ) → instruction_at words regs.old.pc ≡ Ok instr →
+        M.byte_at memory.new at ≡ bytes_after (outcome words (machine regs.old (M.byte_at memory.old) (M.is_writable memory.old))) (M.byte_at memory.old) at }
+    ensures writable { (at : ℕ) → M.is_writable memory.new at ≡ M.is_writable memory.old at }
+    ensures whole { (words : List ℕ) → instruction_at words regs.old.pc ≡ Ok instr →
+        memory.new ≡ memory_after M.with_byte (outcome words (machine regs.old (M.byte_at memory.old) (M.is_writable memory.old))) memory.old }
+{
+    execute(row_of(instr, memory, regs), memory, regs)
 }
 
 // The instruction at pc among those of the code's words, or the fault.

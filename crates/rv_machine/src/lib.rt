@@ -5,8 +5,8 @@
 // changed nothing. The definitions are in specs/: `Effect` has a row an instruction, `Rows` the forms of these rows,
 // `RowEffect` what a value of such a form does, `Step` the whole step with its faults in order, `Bytes` the meaning of
 // memory, `Access` the bytes that a step touches, `Words` the ranges that it keeps. The crate above gives a memory and
-// cites the clauses of `step`, or of `step_decoded`, which say the same, and the laws. Source: RISC-V unprivileged manual,
-// chapters "RV32I" and "M".
+// cites the clauses of `step`, or of `step_decoded` or `step_of`, which say the same, and the laws. Source: RISC-V
+// unprivileged manual, chapters "RV32I" and "M".
 #![tactic(auto)]
 
 mod accesses;
@@ -21,7 +21,7 @@ mod rows;
 mod stepping;
 mod words;
 
-pub use decoded::step_decoded;
+pub use decoded::{step_decoded, step_of};
 pub use laws::{access_laws, byte_laws, word_laws};
 pub use memory::Memory;
 pub use registers::Regs;

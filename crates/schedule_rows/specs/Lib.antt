@@ -1,0 +1,2 @@
+pub mod Eighths
+pub mod Needs

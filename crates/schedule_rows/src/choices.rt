@@ -45,8 +45,11 @@ fn thread(number: u32) -> ThreadId {
     ThreadId { slot: 0, number }
 }
 
-// The only resource is in use as a whole: its pressure is 1000, and the gate is closed.
-fn full_monitor<C: Measure + Copy>(alloc: Global, call: C) -> Result<Monitor<C>, AllocError>
+/// The only resource is in use as a whole: its pressure is 1000, and the gate is closed.
+pub(crate) fn full_monitor<C: Measure + Copy>(
+    alloc: Global,
+    call: C,
+) -> Result<Monitor<C>, AllocError>
     requires { AnswersCurve (C.can_measure call) (C.measure_gives call) Linear }
 {
     let gauges = gauges_of(alloc, call)?;

@@ -12,3 +12,9 @@ mod choices;
 mod graphs;
 #[cfg(test)]
 mod monitors;
+#[cfg(test)]
+mod needs;
+#[cfg(test)]
+mod steps;
+#[cfg(test)]
+mod strides;

@@ -1,20 +1,21 @@
 -- A search through the queues finds the lawful choice.
-use Rattle.std.proofs.Common.{◌≡◌, ◌≢◌, ℕ, suc, Bool, true, false, IsSome, ℤ, Option, Some, None, find, Contains, IfSome, List, [], ◌∷◌, refl, sym, ap, ◌∙◌, subst, arith, rules, ⊎_elim}
+use Rattle.std.proofs.Common.{◌≡◌, ◌≢◌, ℕ, suc, Bool, true, false, IsSome, ℤ, Option, Some, None, find, Contains, IfSome, position, List, [], ◌∷◌, refl, sym, ap, ◌∙◌, subst, arith, rules, ⊎_elim}
 use Rattle.std.specs.BTreeMap.{BTreeMap, get, is_at}
 use Rattle.std.specs.Map.{lookup}
 use Rattle.std.specs.Ordering.{nat_cmp}
-use Rattle.std.specs.declared.alloc.Global.{Global}
-use Rattle.std.specs.declared.collections.VecDeque.{VecDeque}
 use Rattle.std.proofs.lemmas.Bool.{cases_eq}
 use Rattle.std.proofs.lemmas.Bool.Decides.{nat_tests}
 use Rattle.cap_word.specs.declared.threads.ThreadId.{ThreadId}
+use Rattle.ready_tree.specs.declared.entries.Entry.{Entry}
+use Rattle.ready_tree.specs.Entries.{entries_of}
 use Rattle.scheduler.specs.declared.choices.Choice.{Choice}
 use Rattle.scheduler.specs.declared.choosing.Candidate.{Candidate}
+use Rattle.scheduler.specs.declared.finding.Found.{Found}
 use Rattle.scheduler.specs.declared.scores.Rank.{Rank}
 use Rattle.scheduler.specs.LawfulChoice.{IsLawfulChoice}
-use Rattle.scheduler.specs.Queues.{queue_in, threads_of}
+use Rattle.scheduler.specs.Queues.{queue_in, places_in, places_of, threads_of, passes_at}
 use Rattle.scheduler.specs.Scores.{comes_before}
-use Rattle.scheduler.specs.Search.{IsBestBut, IsNoBetter, IsRankOf, is_rank_below, is_rank_below_best, choice_of}
+use Rattle.scheduler.specs.Search.{IsBestBut, IsFound, IsNoBetter, IsRankOf, is_rank_below, is_rank_below_best, choice_of}
 use Rattle.scheduler.proofs.OrderLemmas.{comes_before-self, comes_before-asym, comes_before-total, comes_before-cotrans}
 
 -- a test is true or false
@@ -33,19 +34,20 @@ not_none (Some x) e some = cc
 not_at : (node other : ℕ) → node ≢ other → is_at (nat_cmp node) other ≡ false
 not_at node other ne = grind (arith, nat_tests)
 
-not_there : (node : ℕ) (queue : VecDeque ThreadId Global) (rest : List (ℕ × VecDeque ThreadId Global)) (other : ℕ) → node ≢ other →
+not_there : (node : ℕ) (queue : List (Option Entry)) (rest : List (ℕ × List (Option Entry))) (other : ℕ) → node ≢ other →
     lookup (is_at (nat_cmp other)) rest ≡ None → lookup (is_at (nat_cmp other)) ((node, queue) ∷ rest) ≡ None
 not_there node queue rest other ne none = rw (not_at other node (λ e. ne (sym e))) none
 
-module _ (eligible : ThreadId → Bool) (score : ℕ → ℤ) (last : ℕ → ℕ) (queues : BTreeMap ℕ (VecDeque ThreadId Global)) where
+module _ (eligible : ThreadId → Bool) (score : ℕ → ℤ) (last : ℕ → ℕ) (queues : BTreeMap ℕ (List (Option Entry))) where
   -- ---- before any node was looked at
 
   pub IsBestBut-none : IsBestBut eligible score last queues queues.entries None
   IsBestBut-none = record {
     ranked = tt;
     first = tt;
+    place = tt;
     least = λ node some none.
-        not_none (find eligible (queue_in queues node)) (ap (λ (o : Option (VecDeque ThreadId Global)). find eligible (threads_of o)) none) some;
+        not_none (find eligible (queue_in queues node)) (ap (λ (o : Option (List (Option Entry))). find eligible (threads_of (entries_of (places_of o)))) none) some;
   }
 
   -- ---- one node more
@@ -65,21 +67,25 @@ module _ (eligible : ThreadId → Bool) (score : ℕ → ℤ) (last : ℕ → �
   no_better_passed None rank ranked own below = absurd (let e : true ≡ false = below in cc)
   no_better_passed (Some b) rank ranked own below = sym (below_by_rank rank b.rank own ranked) ∙ below
 
-  module _ (node : ℕ) (queue : VecDeque ThreadId Global) (left rest : List (ℕ × VecDeque ThreadId Global)) (best : Option Candidate) (rank : Rank)
+  module _ (node : ℕ) (queue : List (Option Entry)) (left rest : List (ℕ × List (Option Entry))) (best : Option Candidate) (rank : Rank)
       (there : get nat_cmp queues node ≡ Some queue) (next : left ≡ (node, queue) ∷ rest) (at : IsBestBut eligible score last queues left best)
       (own : IsRankOf score last rank) (of_node : rank.node ≡ node) where
-    found : find eligible (queue_in queues node) ≡ find eligible queue.items
-    found = ap (λ (o : Option (VecDeque ThreadId Global)). find eligible (threads_of o)) there
+    same_find : find eligible (queue_in queues node) ≡ find eligible (threads_of (entries_of queue))
+    same_find = ap (λ (o : Option (List (Option Entry))). find eligible (threads_of (entries_of (places_of o)))) there
+
+    same_place : position (passes_at eligible) (places_in queues node) ≡ position (passes_at eligible) queue
+    same_place = ap (λ (o : Option (List (Option Entry))). position (passes_at eligible) (places_of o)) there
 
     before : (other : ℕ) → IsSome (find eligible (queue_in queues other)) → lookup (is_at (nat_cmp other)) rest ≡ None → node ≢ other → IsNoBetter score last best other
     before other some none ne =
         at.least other some (subst (λ es. lookup (is_at (nat_cmp other)) es ≡ None) (sym next) (not_there node queue rest other ne none))
 
-    pub IsBestBut-taken : (thread : ThreadId) → is_rank_below_best rank best ≡ true → find eligible queue.items ≡ Some thread →
-        IsBestBut eligible score last queues rest (Some (record { rank = rank; thread = thread }))
-    IsBestBut-taken thread below first = record {
+    pub IsBestBut-taken : (found : Found) → is_rank_below_best rank best ≡ true → IsFound eligible queue found →
+        IsBestBut eligible score last queues rest (Some (record { rank = rank; place = found.place; thread = found.thread }))
+    IsBestBut-taken found below is = record {
       ranked = own;
-      first = ap (λ (n : ℕ). find eligible (queue_in queues n)) of_node ∙ found ∙ first;
+      first = ap (λ (n : ℕ). find eligible (queue_in queues n)) of_node ∙ same_find ∙ is.thread;
+      place = ap (λ (n : ℕ). position (passes_at eligible) (places_in queues n)) of_node ∙ same_place ∙ is.place;
       least = λ other some none.
           ⊎_elim
           (λ same. subst (λ n. comes_before score last n rank.node ≡ false) (of_node ∙ same) (comes_before-self score last rank.node))
@@ -91,6 +97,7 @@ module _ (eligible : ThreadId → Bool) (score : ℕ → ℤ) (last : ℕ → �
     IsBestBut-passed below = record {
       ranked = at.ranked;
       first = at.first;
+      place = at.place;
       least = λ other some none.
           ⊎_elim
           (λ same. subst (λ n. IsNoBetter score last best n) (of_node ∙ same) (no_better_passed best rank at.ranked own below))
@@ -98,13 +105,14 @@ module _ (eligible : ThreadId → Bool) (score : ℕ → ℤ) (last : ℕ → �
           (cases_eq node other);
     }
 
-    pub IsBestBut-ineligible : find eligible queue.items ≡ None → IsBestBut eligible score last queues rest best
+    pub IsBestBut-ineligible : find eligible (threads_of (entries_of queue)) ≡ None → IsBestBut eligible score last queues rest best
     IsBestBut-ineligible nobody = record {
       ranked = at.ranked;
       first = at.first;
+      place = at.place;
       least = λ other some none.
           ⊎_elim
-          (λ same. absurd (not_none (find eligible (queue_in queues other)) (ap (λ (n : ℕ). find eligible (queue_in queues n)) (sym same) ∙ found ∙ nobody) some))
+          (λ same. absurd (not_none (find eligible (queue_in queues other)) (ap (λ (n : ℕ). find eligible (queue_in queues n)) (sym same) ∙ same_find ∙ nobody) some))
           (λ ne. before other some none ne)
           (cases_eq node other);
     }

@@ -1,11 +1,13 @@
 -- Queues of threads.
-use Rattle.std.specs.Prelude.{ℕ, ◌==◌, ◌&&◌, Bool, if◌then◌else◌, Option, Some, None, List, [], ◌∷◌, map}
-use Rattle.std.specs.List.{range_with_len}
+use Rattle.std.specs.Prelude.{ℕ, ◌≡◌, ◌==◌, ◌&&◌, Bool, false, if◌then◌else◌, Option, Some, None, List, [], ◌∷◌, map}
+use Rattle.std.specs.List.{AllByRecursion, range_with_len}
 use Rattle.std.specs.BTreeMap.{BTreeMap, get}
 use Rattle.std.specs.Ordering.{nat_cmp}
-use Rattle.std.specs.declared.alloc.Global.{Global}
-use Rattle.std.specs.declared.collections.VecDeque.{VecDeque}
 use Rattle.cap_word.specs.declared.threads.ThreadId.{ThreadId}
+use Rattle.ready_tree.specs.declared.bounds.Bounds.{Bounds}
+use Rattle.ready_tree.specs.declared.entries.Entry.{Entry}
+use Rattle.ready_tree.specs.Needs.{is_met}
+use Rattle.ready_tree.specs.Entries.{entries_of}
 
 -- whether two names are of one thread
 abbrev pub is_same : ThreadId → ThreadId → Bool
@@ -16,15 +18,42 @@ abbrev pub without : ThreadId → List ThreadId → List ThreadId
 without thread [] = []
 without thread (first ∷ queue) = if is_same first thread then queue else first ∷ without thread queue
 
--- the threads of a queue, and none where there is no queue
-abbrev pub threads_of : Option (VecDeque ThreadId Global) → List ThreadId
-threads_of None = []
-threads_of (Some queue) = queue.items
+-- the same with needs
+abbrev pub without_entry : ThreadId → List Entry → List Entry
+without_entry thread [] = []
+without_entry thread (first ∷ queue) = if is_same first.thread thread then queue else first ∷ without_entry thread queue
 
--- the threads that wait at a node, in order of joining
-abbrev pub queue_in : BTreeMap ℕ (VecDeque ThreadId Global) → ℕ → List ThreadId
-queue_in queues node = threads_of (get nat_cmp queues node)
+-- threads without their needs
+abbrev pub threads_of : List Entry → List ThreadId
+threads_of entries = map (λ entry. entry.thread) entries
+
+-- the places of a queue, and none where there is no queue
+abbrev pub places_of : Option (List (Option Entry)) → List (Option Entry)
+places_of None = []
+places_of (Some places) = places
+
+abbrev pub places_in : BTreeMap ℕ (List (Option Entry)) → ℕ → List (Option Entry)
+places_in queues node = places_of (get nat_cmp queues node)
+
+-- the threads that wait at a node with their needs, in order of joining
+abbrev pub entries_in : BTreeMap ℕ (List (Option Entry)) → ℕ → List Entry
+entries_in queues node = entries_of (places_in queues node)
+
+-- the threads alone
+abbrev pub queue_in : BTreeMap ℕ (List (Option Entry)) → ℕ → List ThreadId
+queue_in queues node = threads_of (entries_in queues node)
 
 -- the queues of so many nodes, by number
-abbrev pub queues_of : BTreeMap ℕ (VecDeque ThreadId Global) → ℕ → List (List ThreadId)
-queues_of queues count = map (queue_in queues) (range_with_len 0 count)
+abbrev pub queues_of : BTreeMap ℕ (List (Option Entry)) → ℕ → List (List Entry)
+queues_of queues count = map (entries_in queues) (range_with_len 0 count)
+
+-- ---- who may go on
+
+-- whether the thread at a place passes a test
+abbrev pub passes_at : (ThreadId → Bool) → Option Entry → Bool
+passes_at test None = false
+passes_at test (Some entry) = test entry.thread
+
+-- the needs say which threads pass the test
+abbrev pub AreExact : Bounds → (ThreadId → Bool) → List Entry → Type 0
+AreExact bounds test entries = AllByRecursion (λ entry. is_met bounds entry.need ≡ test entry.thread) entries

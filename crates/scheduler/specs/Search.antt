@@ -1,21 +1,32 @@
 -- The best node so far, in a search through the queues.
-use Rattle.std.specs.Prelude.{ℕ, ◌≡◌, Bool, true, false, IsSome, IfSome, ℤ, Option, Some, None, find, List}
+use Rattle.std.specs.Prelude.{ℕ, ◌≡◌, Bool, true, false, IsSome, IfSome, ℤ, Option, Some, None, find, position, List}
 use Rattle.std.specs.BTreeMap.{BTreeMap, is_at}
 use Rattle.std.specs.Map.{lookup}
 use Rattle.std.specs.Ordering.{nat_cmp}
-use Rattle.std.specs.declared.alloc.Global.{Global}
-use Rattle.std.specs.declared.collections.VecDeque.{VecDeque}
 use Rattle.cap_word.specs.declared.threads.ThreadId.{ThreadId}
+use Rattle.ready_tree.specs.declared.entries.Entry.{Entry}
+use Rattle.ready_tree.specs.Entries.{entries_of}
 use Rattle.scheduler.specs.declared.choices.Choice.{Choice}
 use Rattle.scheduler.specs.declared.scores.Rank.{Rank}
 use Rattle.scheduler.specs.declared.choosing.Candidate.{Candidate}
-use Rattle.scheduler.specs.Queues.{queue_in}
+use Rattle.scheduler.specs.declared.finding.Found.{Found}
+use Rattle.scheduler.specs.Queues.{threads_of, places_in, queue_in, passes_at}
 use Rattle.scheduler.specs.Scores.{ranks_below, comes_before}
 
 -- a rank has its node's score and last choice
 pub record IsRankOf (score_of : ℕ → ℤ) (last_of : ℕ → ℕ) (rank : Rank) : Type 0 where
   pub score : rank.score ≡ score_of rank.node
   pub last : rank.last ≡ last_of rank.node
+
+-- the first thread of these that may go on, and its place
+pub record IsFound (eligible : ThreadId → Bool) (places : List (Option Entry)) (found : Found) : Type 0 where
+  pub thread : find eligible (threads_of (entries_of places)) ≡ Some found.thread
+  pub place : position (passes_at eligible) places ≡ Some found.place
+
+-- the first that may go on, and none where none may
+abbrev pub IsFoundIf : (ThreadId → Bool) → List (Option Entry) → Option Found → Type 0
+IsFoundIf eligible places None = find eligible (threads_of (entries_of places)) ≡ None
+IsFoundIf eligible places (Some found) = IsFound eligible places found
 
 -- whether one rank is below another
 abbrev pub is_rank_below : Rank → Rank → Bool
@@ -33,13 +44,14 @@ IsNoBetter score last (Some best) node = comes_before score last node best.rank.
 
 -- the best of the nodes that aren't among those left: its thread is the first eligible one of its queue, and no node
 -- with an eligible thread comes before it
-pub record IsBestBut (eligible : ThreadId → Bool) (score : ℕ → ℤ) (last : ℕ → ℕ) (queues : BTreeMap ℕ (VecDeque ThreadId Global))
-    (left : List (ℕ × VecDeque ThreadId Global)) (best : Option Candidate) : Type 0 where
+pub record IsBestBut (eligible : ThreadId → Bool) (score : ℕ → ℤ) (last : ℕ → ℕ) (queues : BTreeMap ℕ (List (Option Entry)))
+    (left : List (ℕ × List (Option Entry))) (best : Option Candidate) : Type 0 where
   pub ranked : IfSome best (λ candidate. IsRankOf score last candidate.rank)
   pub first : IfSome best (λ candidate. find eligible (queue_in queues candidate.rank.node) ≡ Some candidate.thread)
+  pub place : IfSome best (λ candidate. position (passes_at eligible) (places_in queues candidate.rank.node) ≡ Some candidate.place)
   pub least : (node : ℕ) → IsSome (find eligible (queue_in queues node)) → lookup (is_at (nat_cmp node)) left ≡ None → IsNoBetter score last best node
 
--- the choice of a candidate
+-- the choice of a candidate, if there is one
 abbrev pub choice_of : Option Candidate → Option Choice
 choice_of None = None
 choice_of (Some candidate) = Some (record { thread = candidate.thread; node = candidate.rank.node })

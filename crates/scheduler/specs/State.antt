@@ -1,22 +1,27 @@
 -- What a scheduler means: the queue of each node, the choice that last took each node, and the number of choices.
-use Rattle.std.specs.Prelude.{ℕ, ◌≡◌, ◌≢◌, ◌+◌, ◌^◌, ◌<◌, ◌≤◌, IsSome, List, [], ◌∷◌, ◌++◌, length, slice_index, slice_index_or}
+use Rattle.std.specs.Prelude.{ℕ, ◌≡◌, ◌≢◌, ◌+◌, ◌^◌, ◌<◌, ◌≤◌, IsSome, Option, List, [], ◌∷◌, ◌++◌, length, slice_index, slice_index_or}
+use Rattle.std.specs.List.{AllByRecursion}
 use Rattle.std.specs.BTreeMap.{BTreeMap, get}
 use Rattle.std.specs.Ordering.{nat_cmp}
-use Rattle.std.specs.declared.alloc.Global.{Global}
-use Rattle.std.specs.declared.collections.VecDeque.{VecDeque}
 use Rattle.cap_word.specs.declared.threads.ThreadId.{ThreadId}
+use Rattle.ready_tree.specs.declared.entries.Entry.{Entry}
+use Rattle.ready_tree.specs.declared.needs.Need.{Need}
 use Rattle.scheduler.specs.declared.choices.Choice.{Choice}
-use Rattle.scheduler.specs.Queues.{without}
+use Rattle.scheduler.specs.Queues.{without, without_entry, threads_of}
 
 -- by the numbers of the nodes, their queues and the choices that last took them, and the number of choices so far
 pub record SchedulerState : Type 0 where
-  pub queues : List (List ThreadId)
+  pub queues : List (List Entry)
   pub lasts : List ℕ
   pub noted : ℕ
 
+-- the threads that wait at a node with the needs that were told of them, in order of joining
+abbrev pub entries_at : SchedulerState → ℕ → List Entry
+entries_at scheduler node = slice_index_or scheduler.queues node []
+
 -- the threads that wait at a node, in order of joining
 abbrev pub queue_of : SchedulerState → ℕ → List ThreadId
-queue_of scheduler node = slice_index_or scheduler.queues node []
+queue_of scheduler node = threads_of (entries_at scheduler node)
 
 -- the number, from 1, of the choice that last took a node, or 0
 abbrev pub last_of : SchedulerState → ℕ → ℕ
@@ -41,7 +46,23 @@ pub record IsNoted (old new : SchedulerState) (choice : Choice) : Type 0 where
   pub other_lasts : (other : ℕ) → other ≢ choice.node → last_of new other ≡ last_of old other
   pub noted : new.noted ≡ old.noted + 1
 
+-- ---- needs
+
+-- a thread joined with its need
+pub record IsTold (old new : SchedulerState) (node : ℕ) (entry : Entry) : Type 0 where
+  pub queue : entries_at new node ≡ entries_at old node ++ entry ∷ []
+  pub others : (other : ℕ) → other ≢ node → entries_at new other ≡ entries_at old other
+
+-- a choice's thread left with its need
+pub record IsTaken (old new : SchedulerState) (choice : Choice) : Type 0 where
+  pub queue : entries_at new choice.node ≡ without_entry choice.thread (entries_at old choice.node)
+  pub others : (other : ℕ) → other ≢ choice.node → entries_at new other ≡ entries_at old other
+
+-- a world vouches for the needs that were told
+abbrev pub AreKnown : (ThreadId → Need → Type 0) → SchedulerState → Type 0
+AreKnown vouches scheduler = (node : ℕ) → AllByRecursion (λ entry. vouches entry.thread entry.need) (entries_at scheduler node)
+
 -- what a scheduler keeps of its queues: each of their nodes has a place for its last choice
-pub record IsKept (queues : BTreeMap ℕ (VecDeque ThreadId Global)) (lasts : List ℕ) (count : ℕ) : Type 0 where
+pub record IsKept (queues : BTreeMap ℕ (List (Option Entry))) (lasts : List ℕ) (count : ℕ) : Type 0 where
   pub placed : (node : ℕ) → IsSome (get nat_cmp queues node) → node < length lasts
   pub counted : count ≤ 2 ^ 40

@@ -1,15 +1,16 @@
-ghost use Rattle.std.specs.Prelude.{◌≡◌, ◌≢◌, ◌≤◌, ◌<◌, ◌+◌, ◌∷◌, [], ◌++◌, ℕ, length, take, vec_len, slice_index, position, remove, IsSome, IfOk, OnOk, OnErr};
+ghost use Rattle.std.specs.Prelude.{◌≡◌, ◌≢◌, ◌≤◌, ◌<◌, ◌+◌, ◌∷◌, [], ◌++◌, ℕ, None, length, take, vec_len, slice_index, slice_set, position, IsSome, IfOk, OnOk, OnErr};
 ghost use Rattle.std.specs.BTreeMap.{get};
 ghost use Rattle.std.specs.Ordering.{nat_cmp};
-ghost use Rattle.scheduler.specs.Queues.{is_same, without, queue_in};
+ghost use Rattle.ready_tree.specs.Entries.{entries_of, is_of};
+ghost use Rattle.scheduler.specs.Queues.{without_entry, places_in, entries_in};
 
 use crate::choices::Choice;
-use cap_word::ThreadId;
+use ready_tree::{Entry, ReadyTree};
 use std::alloc::{AllocError, Global};
-use std::collections::{BTreeMap, VecDeque};
+use std::collections::BTreeMap;
 
 /// The queues of the nodes at which threads wait.
-pub(crate) type NodeQueues = BTreeMap<u32, VecDeque<ThreadId>>;
+pub(crate) type NodeQueues = BTreeMap<u32, ReadyTree>;
 
 /// Makes a place for the last choice of a node, which is 0 so far.
 pub(crate) fn make_place(lasts: &mut Vec<u64>, node: u32) -> Result<(), AllocError>
@@ -27,11 +28,11 @@ pub(crate) fn make_place(lasts: &mut Vec<u64>, node: u32) -> Result<(), AllocErr
 }
 
 /// A queue of one thread.
-fn queue_of_one(alloc: Global, thread: ThreadId) -> Result<VecDeque<ThreadId>, AllocError>
-    ensures { IfOk result (λ queue. queue.items ≡ thread ∷ []) }
+fn queue_of_one(alloc: Global, entry: Entry) -> Result<ReadyTree, AllocError>
+    ensures { IfOk result (λ queue. entries_of queue ≡ entry ∷ []) }
 {
-    let mut queue = VecDeque::new(alloc);
-    queue.push_back(thread)?;
+    let mut queue = ReadyTree::new(alloc);
+    queue.push(entry)?;
     Ok(queue)
 }
 
@@ -40,57 +41,54 @@ pub(crate) fn join(
     queues: &mut NodeQueues,
     alloc: Global,
     node: u32,
-    thread: ThreadId,
+    entry: Entry,
 ) -> Result<(), AllocError>
-    ensures queue { OnOk result (queue_in queues.new node ≡ queue_in queues.old node ++ thread ∷ []) }
-    ensures others { (other : ℕ) → other ≢ node → queue_in queues.new other ≡ queue_in queues.old other }
+    ensures queue { OnOk result (entries_in queues.new node ≡ entries_in queues.old node ++ entry ∷ []) }
+    ensures others { (other : ℕ) → other ≢ node → entries_in queues.new other ≡ entries_in queues.old other }
     ensures nodes { (other : ℕ) → other ≢ node → IsSome (get nat_cmp queues.new other) → IsSome (get nat_cmp queues.old other) }
-    ensures err { OnErr result ((other : ℕ) → queue_in queues.new other ≡ queue_in queues.old other) }
+    ensures err { OnErr result ((other : ℕ) → entries_in queues.new other ≡ entries_in queues.old other) }
     ensures err_nodes { OnErr result ((other : ℕ) → IsSome (get nat_cmp queues.new other) → IsSome (get nat_cmp queues.old other)) }
 {
     if let Some(queue) = queues.get_mut(&node) {
-        queue.push_back(thread)?;
+        queue.push(entry)?;
         return Ok(());
     }
-    let queue = queue_of_one(alloc, thread)?;
+    let queue = queue_of_one(alloc, entry)?;
     queues.insert(node, queue)?;
     Ok(())
 }
 
-fn place_of(queue: &VecDeque<ThreadId>, thread: ThreadId) -> Option<usize>
-    ensures { result ≡ position (λ other. is_same other thread) queue.now.items }
-{
-    queue.iter().position(|other| other.slot == thread.slot && other.number == thread.number)
-}
-
-fn take_at(queue: &mut VecDeque<ThreadId>, place: usize)
-    requires { place < length queue.old.items }
-    ensures { queue.new.items ≡ remove queue.old.items place }
-{
-    queue.remove(place);
-}
-
-/// Takes a thread out of a queue.
-fn take_out(queue: &mut VecDeque<ThreadId>, thread: ThreadId)
-    ensures { queue.new.items ≡ without thread queue.old.items }
-{
-    if let Some(place) = place_of(queue, thread) {
-        take_at(queue, place);
-    }
-}
-
-/// Takes the choice's thread out of its node's queue. A queue that is then empty goes, and its memory.
-pub(crate) fn leave(queues: &mut NodeQueues, choice: &Choice)
-    ensures queue { queue_in queues.new choice.now.node ≡ without choice.now.thread (queue_in queues.old choice.now.node) }
-    ensures others { (other : ℕ) → other ≢ choice.now.node → queue_in queues.new other ≡ queue_in queues.old other }
+/// Takes the thread at a place out of a node's queue. A queue that is then empty goes, and its memory.
+pub(crate) fn leave_at(queues: &mut NodeQueues, node: u32, place: usize)
+    requires { place < length (places_in queues.old node) }
+    ensures queue { entries_in queues.new node ≡ entries_of (slice_set (places_in queues.old node) place None) }
+    ensures others { (other : ℕ) → other ≢ node → entries_in queues.new other ≡ entries_in queues.old other }
     ensures nodes { (other : ℕ) → IsSome (get nat_cmp queues.new other) → IsSome (get nat_cmp queues.old other) }
 {
     let mut is_empty = false;
-    if let Some(queue) = queues.get_mut(&choice.node) {
-        take_out(queue, choice.thread);
-        is_empty = queue.is_empty();
+    if let Some(queue) = queues.get_mut(&node) {
+        queue.remove(place);
+        is_empty = queue.len() == 0;
     }
     if is_empty {
-        queues.remove(&choice.node);
+        queues.remove(&node);
+    }
+}
+
+/// The place of a thread in a node's queue. It looks at each place before that.
+fn place_in(queues: &NodeQueues, choice: &Choice) -> Option<usize>
+    ensures { result ≡ position (is_of choice.now.thread) (places_in queues.now choice.now.node) }
+{
+    queues.get(&choice.node)?.place_of(choice.thread)
+}
+
+/// Takes the choice's thread out of its node's queue.
+pub(crate) fn leave(queues: &mut NodeQueues, choice: &Choice)
+    ensures queue { entries_in queues.new choice.now.node ≡ without_entry choice.now.thread (entries_in queues.old choice.now.node) }
+    ensures others { (other : ℕ) → other ≢ choice.now.node → entries_in queues.new other ≡ entries_in queues.old other }
+    ensures nodes { (other : ℕ) → IsSome (get nat_cmp queues.new other) → IsSome (get nat_cmp queues.old other) }
+{
+    if let Some(place) = place_in(queues, choice) {
+        leave_at(queues, choice.node, place);
     }
 }

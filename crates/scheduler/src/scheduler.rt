@@ -1,12 +1,14 @@
-ghost use Rattle.std.specs.Prelude.{◌≡◌, ◌<◌, ◌^◌, Contains, IfSome, OnOk, OnErr};
+ghost use Rattle.std.specs.Prelude.{◌≡◌, ◌<◌, ◌^◌, Contains, IfSome, None, OnOk, OnErr};
 ghost use Rattle.scheduler.specs.LawfulChoice.{is_eligible, IsLawfulChoice};
 ghost use Rattle.scheduler.specs.Scores.{score};
 
 use crate::choices::Choice;
-use crate::choosing::best_of;
-use crate::queues::{NodeQueues, join, leave, make_place};
+use crate::choosing::{as_choice, best_of};
+use crate::finding::bounds_at_gate;
+use crate::queues::{NodeQueues, join, leave, leave_at, make_place};
 use blocking_graph::Graph;
 use cap_word::{Ready, ThreadId};
+use ready_tree::{Bounded, Entry, Need};
 use resource_monitor::{Measure, Monitor};
 use std::alloc::{AllocError, Global};
 use std::collections::BTreeMap;
@@ -34,7 +36,7 @@ impl Model for Scheduler {
 }
 
 impl Scheduler {
-    ghost use Rattle.scheduler.specs.State.{started, queue_of, last_of, IsJoined, IsNoted};
+    ghost use Rattle.scheduler.specs.State.{started, queue_of, last_of, AreKnown, IsJoined, IsNoted, IsTaken, IsTold};
 
     /// A scheduler at which nothing waits. It takes no memory.
     pub fn new(alloc: Global) -> Scheduler
@@ -47,15 +49,25 @@ impl Scheduler {
         }
     }
 
-    /// Puts a thread at the end of a node's queue.
+    /// Puts a thread at the end of a node's queue that waits for nothing, or that only `choose` is to choose.
     pub fn enqueue(&mut self, node: u32, thread: ThreadId) -> Result<(), AllocError>
         ensures ok { OnOk result (IsJoined self.old self.new node thread) }
+        ensures told { OnOk result (IsTold self.old self.new node (record { thread = thread; need = Need.Nothing })) }
+        ensures err { OnErr result (self.new ≡ self.old) }
+    {
+        self.enqueue_for(node, thread, Need::Nothing)
+    }
+
+    /// Puts a thread at the end of a node's queue, with what it waits for.
+    pub fn enqueue_for(&mut self, node: u32, thread: ThreadId, need: Need) -> Result<(), AllocError>
+        ensures ok { OnOk result (IsJoined self.old self.new node thread) }
+        ensures told { OnOk result (IsTold self.old self.new node (record { thread = thread; need = need })) }
         ensures err { OnErr result (self.new ≡ self.old) }
     {
         let places = self.lasts.len();
         make_place(&mut self.lasts, node)?;
         let alloc = *self.lasts.allocator();
-        match join(&mut self.queues, alloc, node, thread) {
+        match join(&mut self.queues, alloc, node, Entry { thread, need }) {
             Ok(()) => Ok(()),
             Err(refusal) => {
                 self.lasts.truncate(places);
@@ -78,7 +90,47 @@ impl Scheduler {
         ensures queued { IfSome result (λ choice. Contains (queue_of self.now choice.node) choice.thread) }
         ensures lawful { IsLawfulChoice (queue_of self.now) (is_eligible (R.is_ready ready.now) (R.at_accept ready.now) (R.any_elsewhere ready.now) monitor.now.is_open) (score monitor.now graph.now.edges) (last_of self.now) result }
     {
-        best_of(&self.queues, self.lasts.as_slice(), graph, monitor, ready)
+        let best = best_of(
+            &self.queues,
+            self.lasts.as_slice(),
+            graph,
+            monitor,
+            ready,
+            &None,
+        );
+        as_choice(best)
+    }
+
+    /// The choice that `choose` makes, which is noted then. No thread is asked: the needs that were told say who may go on, and
+    /// the world vouches for them. Each node with waiting threads costs a score and a search of as many steps as the tree
+    /// above its queue is high. It takes no memory.
+    pub fn take_choice<C: Measure, W: Bounded>(
+        &mut self,
+        graph: &Graph,
+        monitor: &Monitor<C>,
+        world: &W,
+    ) -> Option<Choice>
+        requires known { AreKnown (W.vouches world.now) self.old }
+        requires room { self.old.noted < 2 ^ 40 }
+        ensures queued { IfSome result (λ choice. Contains (queue_of self.old choice.node) choice.thread) }
+        ensures lawful { IsLawfulChoice (queue_of self.old) (is_eligible (W.is_ready world.now) (W.at_accept world.now) (W.any_elsewhere world.now) monitor.now.is_open) (score monitor.now graph.now.edges) (last_of self.old) result }
+        ensures noted { IfSome result (λ choice. IsNoted self.old self.new choice) }
+        ensures taken { IfSome result (λ choice. IsTaken self.old self.new choice) }
+        ensures none { result ≡ None → self.new ≡ self.old }
+    {
+        let bounds = Some(bounds_at_gate(world, monitor.gate()));
+        let lasts = self.lasts.as_slice();
+        let best = best_of(&self.queues, lasts, graph, monitor, world, &bounds);
+        let Some(candidate) = best else {
+            return None;
+        };
+        leave_at(&mut self.queues, candidate.rank.node, candidate.place);
+        self.noted += 1;
+        self.lasts[candidate.rank.node as usize] = self.noted;
+        Some(Choice {
+            thread: candidate.thread,
+            node: candidate.rank.node,
+        })
     }
 
     /// Takes the chosen thread out of its queue, and notes that its node was taken. It takes no memory.

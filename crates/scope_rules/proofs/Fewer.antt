@@ -118,6 +118,7 @@ few_parameters ModelledCall.Wait = omega arith
 few_parameters ModelledCall.Sleep = omega arith
 few_parameters ModelledCall.Yield = omega arith
 few_parameters ModelledCall.Take = omega arith
+few_parameters ModelledCall.WaitFor = omega arith
 few_parameters ModelledCall.Put = omega arith
 few_parameters ModelledCall.Give = omega arith
 few_parameters ModelledCall.SelfNumber = omega arith

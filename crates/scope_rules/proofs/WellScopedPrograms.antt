@@ -52,7 +52,7 @@ module _ (is : List RawItemTree) (none : faults_of is ≡ []) (has : has_main is
   few_tables = let a = tables_few (parts_of is).tables positive.1 in omega (arith, here.tables)
 
   start_fine : IsFine (program_of is) at_start
-  start_fine = record { fits = (tt, (tt, (tt, (tt, (tt, (tt, (tt, (tt, (tt, tt))))))))); six = (tt, (tt, (tt, (tt, (tt, (tt, (tt, (tt, (tt, tt))))))))); functions = tt; tables = tt }
+  start_fine = record { fits = (tt, (tt, (tt, (tt, (tt, (tt, (tt, (tt, (tt, (tt, tt)))))))))); six = (tt, (tt, (tt, (tt, (tt, (tt, (tt, (tt, (tt, (tt, tt)))))))))); functions = tt; tables = tt }
 
   fine : IsFine (program_of is) (parts_of is)
   fine = items_fine (program_of is) (definitions is) (parts_of is).spot.names here agree are short backed few_globals few_tables [] at_start is none refl refl refl refl refl held start_fine

@@ -25,6 +25,7 @@ modelled t m = record { text = t; meaning = m }
 abbrev pub modelled_names : List Binding
 modelled_names =
     modelled (codes "spawn") Meaning.Spawn
+    ∷ modelled (codes "waitfor") (Meaning.Modelled ModelledCall.WaitFor)
     ∷ modelled (codes "self") (Meaning.Modelled ModelledCall.SelfNumber)
     ∷ modelled (codes "give") (Meaning.Modelled ModelledCall.Give)
     ∷ modelled (codes "put") (Meaning.Modelled ModelledCall.Put)
@@ -58,7 +59,7 @@ pub record Sofar : Type 0 where
   pub functions : List FunctionTree
 
 abbrev pub at_start : Sofar
-at_start = record { spot = record { names = modelled_names; outer = 9; sizes = []; site = 0 }; globals = []; tables = []; functions = [] }
+at_start = record { spot = record { names = modelled_names; outer = length modelled_names; sizes = []; site = 0 }; globals = []; tables = []; functions = [] }
 
 -- a global's or a table's name: Twice where it is declared already, Kind where it is a modelled call's
 abbrev pub outer_in : ℕ → Meaning → List Fault

@@ -288,6 +288,7 @@ fn modelled_names<'a>(alloc: Global) -> Result<Names<'a>, AllocError>
     let names = names.with(b"put", Meaning::Modelled(ModelledCall::Put))?;
     let names = names.with(b"give", Meaning::Modelled(ModelledCall::Give))?;
     let names = names.with(b"self", Meaning::Modelled(ModelledCall::SelfNumber))?;
+    let names = names.with(b"waitfor", Meaning::Modelled(ModelledCall::WaitFor))?;
     let names = names.with(b"spawn", Meaning::Spawn)?;
     Ok(names)
 }
@@ -300,11 +301,13 @@ impl<'a> Items<'a> {
         ensures faults { IfOk result (λ w. w.place.least ≡ None) }
         ensures counted { IfOk result (λ w. IsCounted w) }
     {
+        let names = modelled_names(alloc)?;
+        let outer = names.len();
         Ok(Items {
             place: Place {
                 alloc,
-                names: modelled_names(alloc)?,
-                outer: 9,
+                names,
+                outer,
                 sizes: Vec::new(alloc),
                 site: 0,
                 least: None,

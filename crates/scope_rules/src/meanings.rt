@@ -1,7 +1,6 @@
 // What a name is, and what it may be used for.
 
 ghost use Rattle.std.specs.Prelude.{◌≡◌};
-ghost use Rattle.c_tree.specs.Modelled.{parameters_of, gives_result};
 ghost use Rattle.scope_rules.specs.Meanings.{is_scalar, is_array, is_table, is_callable, is_modelled, is_spawnable, is_member, is_void, takes, is_wrong_count, variable_in, variable_of, table_in, table_of, function_in, function_of, callee_of};
 
 use c_tree::ModelledCall;
@@ -56,31 +55,6 @@ pub enum Callee {
     Function(u32),
     Modelled(ModelledCall),
     Spawn,
-}
-
-// The parameters of a modelled call.
-fn parameters(call: ModelledCall) -> usize
-    ensures { result ≡ parameters_of call }
-{
-    match call {
-        ModelledCall::Accept | ModelledCall::Yield | ModelledCall::SelfNumber => 0,
-        ModelledCall::Wait | ModelledCall::Sleep | ModelledCall::Put => 1,
-        ModelledCall::Take | ModelledCall::Give => 2,
-    }
-}
-
-// Whether a modelled call gives a result.
-fn gives(call: ModelledCall) -> bool
-    ensures { result ≡ gives_result call }
-{
-    match call {
-        ModelledCall::Accept | ModelledCall::Wait | ModelledCall::SelfNumber => true,
-        ModelledCall::Sleep
-        | ModelledCall::Yield
-        | ModelledCall::Take
-        | ModelledCall::Put
-        | ModelledCall::Give => false,
-    }
 }
 
 impl Meaning {
@@ -181,7 +155,7 @@ impl Meaning {
     {
         match self {
             Meaning::Function { gives, .. } => !gives,
-            Meaning::Modelled(call) => !gives(call),
+            Meaning::Modelled(call) => !call.gives(),
             Meaning::Local { .. }
             | Meaning::Global { .. }
             | Meaning::Table { .. }
@@ -197,7 +171,7 @@ impl Meaning {
             Meaning::Local { .. } | Meaning::Global { .. } => None,
             Meaning::Table { .. } => Some(1),
             Meaning::Function { params, .. } => Some(params),
-            Meaning::Modelled(call) => Some(parameters(call)),
+            Meaning::Modelled(call) => Some(call.parameters()),
             Meaning::Spawn => Some(2),
         }
     }

@@ -28,12 +28,14 @@ known_one n a call e = ⊎_elim inl
     cond-false (nat_eq n 3) _ _ (ne_eqb n 3 not3) ∙ cond-false (nat_eq n 17) _ _ (ne_eqb n 17 not17) ∙ cond-false (nat_eq n 18) _ _ (ne_eqb n 18 not18) in cc))
     (cases_eq n 18)) (cases_eq n 17)) (cases_eq n 3)
 
-known_two : (n a b : ℕ) (call : Call) → call_of_two n a b ≡ Some call → (n ≡ 5) ⊎ (n ≡ 20)
+known_two : (n a b : ℕ) (call : Call) → call_of_two n a b ≡ Some call → (n ≡ 5) ⊎ ((n ≡ 20) ⊎ (n ≡ 21))
 known_two n a b call e = ⊎_elim inl
-    (λ (not5 : n ≡ 5 → ⊥). ⊎_elim inr
-    (λ (not20 : n ≡ 20 → ⊥).
-    absurd (let none : call_of_two n a b ≡ None = cond-false (nat_eq n 5) _ _ (ne_eqb n 5 not5) ∙ cond-false (nat_eq n 20) _ _ (ne_eqb n 20 not20) in cc))
-    (cases_eq n 20)) (cases_eq n 5)
+    (λ (not5 : n ≡ 5 → ⊥). ⊎_elim (λ (is : n ≡ 20). inr (inl is))
+    (λ (not20 : n ≡ 20 → ⊥). ⊎_elim (λ (is : n ≡ 21). inr (inr is))
+    (λ (not21 : n ≡ 21 → ⊥).
+    absurd (let none : call_of_two n a b ≡ None =
+    cond-false (nat_eq n 5) _ _ (ne_eqb n 5 not5) ∙ cond-false (nat_eq n 20) _ _ (ne_eqb n 20 not20) ∙ cond-false (nat_eq n 21) _ _ (ne_eqb n 21 not21) in cc))
+    (cases_eq n 21)) (cases_eq n 20)) (cases_eq n 5)
 
 -- the ECALL asks the call
 abbrev pub AsksFor : Local → ℕ → Call → Type 0
@@ -64,7 +66,9 @@ asks_one l n a call held e = ⊎_elim
 asks_two : (l : Local) (n a b : ℕ) (call : Call) → read l.core.x 10 ≡ a → read l.core.x 11 ≡ b → call_of_two n a b ≡ Some call → AsksFor l n call
 asks_two l n a b call first second e = ⊎_elim
     (λ (is : n ≡ 5). number 5 is ((λ i. Asks (Calls (Immediate (Ask.Give (first i) (second i)))) l) ∙ (let c : Immediate (Ask.Give a b) ≡ call = (let v : call_of_two 5 a b ≡ Some call = ap (λ (k : ℕ). call_of_two k a b) (sym is) ∙ e in cc) in ap (λ (k : Call). Asks (Calls k) l) c)))
+    (⊎_elim
     (λ (is : n ≡ 20). number 20 is ((λ i. Asks (Calls (Blocking (Block.Take (first i) (second i)))) l) ∙ (let c : Blocking (Block.Take a b) ≡ call = (let v : call_of_two 20 a b ≡ Some call = ap (λ (k : ℕ). call_of_two k a b) (sym is) ∙ e in cc) in ap (λ (k : Call). Asks (Calls k) l) c)))
+    (λ (is : n ≡ 21). number 21 is ((λ i. Asks (Calls (Blocking (Block.WaitFor (first i) (second i)))) l) ∙ (let c : Blocking (Block.WaitFor a b) ≡ call = (let v : call_of_two 21 a b ≡ Some call = ap (λ (k : ℕ). call_of_two k a b) (sym is) ∙ e in cc) in ap (λ (k : Call). Asks (Calls k) l) c))))
     (known_two n a b call e)
   where
     number : (k : ℕ) → n ≡ k → system_call l k ≡ Asks (Calls call) l → AsksFor l n call
@@ -81,5 +85,5 @@ asks_for l n (a ∷ b ∷ d ∷ vs) call held e = absurd (cc)
 pub call_small : (n : ℕ) (vs : List ℕ) (call : Call) → call_of n vs ≡ Some call → (n < 32) × (length vs ≤ 2)
 call_small n [] call e = (⊎_elim (λ (is : n ≡ 6). omega arith) (⊎_elim (λ (is : n ≡ 16). omega arith) (λ (is : n ≡ 19). omega arith)) (known_none n call e), omega arith)
 call_small n (a ∷ []) call e = (⊎_elim (λ (is : n ≡ 3). omega arith) (⊎_elim (λ (is : n ≡ 17). omega arith) (λ (is : n ≡ 18). omega arith)) (known_one n a call e), omega arith)
-call_small n (a ∷ b ∷ []) call e = (⊎_elim (λ (is : n ≡ 5). omega arith) (λ (is : n ≡ 20). omega arith) (known_two n a b call e), omega arith)
+call_small n (a ∷ b ∷ []) call e = (⊎_elim (λ (is : n ≡ 5). omega arith) (⊎_elim (λ (is : n ≡ 20). omega arith) (λ (is : n ≡ 21). omega arith)) (known_two n a b call e), omega arith)
 call_small n (a ∷ b ∷ d ∷ vs) call e = absurd (cc)

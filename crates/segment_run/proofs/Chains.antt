@@ -1,15 +1,13 @@
 -- The chain that the headers of chunks name, and what keeps it.
-use Rattle.std.proofs.Common.{◌≡◌, ℕ, zero, suc, ◌+◌, ◌-◌, ◌*◌, ◌/◌, ◌%◌, ◌^◌, ◌<◌, ◌≤◌, List, [], ◌∷◌, length, Option, Some, None, refl, ap, ◌∙◌, arith, cond}
+use Rattle.std.proofs.Common.{◌≡◌, ℕ, zero, suc, ◌+◌, ◌/◌, ◌%◌, ◌^◌, ◌<◌, ◌≤◌, List, ◌∷◌, length, Option, Some, None, refl, ap, ◌∙◌, arith, cond}
 use Rattle.std.specs.Prelude.{Bool, nat_eq}
 use Rattle.std.proofs.lemmas.Bool.{eq-eqb}
-use Rattle.std.proofs.lemmas.Nat.{div-mul-add}
 use Rattle.chunk_pool.specs.Pool.{Pool, payload_place_of, IsPool, shape_of, words_of, chunk_at}
 use Rattle.rv_machine.specs.Bytes.{Stored, Nothing, Byte, Half, Word, with_half, with_word, with_stored}
 use Rattle.rv_machine.specs.Rows as rows
 use Rattle.rv_machine.specs.Words.{TellsWords}
 use Rattle.machine_world.specs.Areas.{Areas, Spot, InGlobals, InTables, InPayload, spot_of, with_byte_on, with_byte}
 use Rattle.machine_world.specs.Held.{copies}
-use Rattle.machine_world.specs.InPlace.{HeadersName}
 use Rattle.machine_world.specs.Local.{saved_tp}
 use Rattle.machine_world.proofs.AreaLaws.{IsSpot, IsSpot-spot_of, IsPool-with_byte}
 use Rattle.machine_world.proofs.HeldLaws.{copies-cons}

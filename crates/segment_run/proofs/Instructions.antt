@@ -1,5 +1,5 @@
 -- One instruction of the machine over the areas is one step of the thread.
-use Rattle.std.proofs.Common.{◌≡◌, ℕ, ◌^◌, ◌<◌, List, Option, Some, None, sym, ap, subst, ◌∙◌, arith}
+use Rattle.std.proofs.Common.{◌≡◌, ℕ, ◌^◌, ◌<◌, List, Option, Some, None, Result, Ok, Err, refl, sym, ap, subst, ◌∙◌, arith}
 use Rattle.std.specs.Prelude.{IfSome}
 use Rattle.cap_word.specs.Runs as runs
 use Rattle.cap_word.specs.Runs.{Stops}
@@ -7,7 +7,7 @@ use Rattle.chunk_pool.specs.Pool.{IsPool, shape_of}
 use Rattle.rv_machine.specs.Bytes.{with_stored}
 use Rattle.rv_machine.specs.Rows as rows
 use Rattle.rv_machine.specs.Rows.{Outcome}
-use Rattle.rv_machine.specs.Step.{outcome, answer, regs_after, memory_after}
+use Rattle.rv_machine.specs.Step.{instruction_at, started, outcome, answer, regs_after, memory_after}
 use Rattle.rv_machine.specs.Words.{TellsWords}
 use Rattle.rv_machine.specs.declared.registers.Regs.{Regs}
 use Rattle.rv_machine.specs.declared.results.StepResult.TheVariants as results
@@ -17,6 +17,9 @@ use Rattle.machine_world.specs.Held.{KeepsShape}
 use Rattle.machine_world.specs.Local.{Local, Wrong, machine_of, local_move, local_step, system_call}
 use Rattle.machine_world.specs.WellFormed.{IsCore}
 use Rattle.machine_world.proofs.HeldLaws.{KeepsShape-step}
+use Rattle.machine_world.specs.Places.{Checked}
+use Rattle.rv_code.specs.declared.instructions.Instr.{Instr}
+use Rattle.segment_run.specs.Safe.{IsSafe, IsSafeMove}
 use Rattle.segment_run.specs.Turns.{thread_of}
 use Rattle.segment_run.specs.declared.running.Thread.{Thread}
 use Rattle.segment_run.proofs.Chains.{chain_from-stored}
@@ -86,3 +89,14 @@ unfolding local_step
 failed code areas after thread regs pc kind (rows.Goes pc' x stored) is answered = absurd (cc)
 failed code areas after thread regs pc kind (rows.Asks n) is answered = absurd (cc)
 failed code areas after thread regs pc kind (rows.Fails kind') is answered = ap (local_move (thread_of areas thread)) is.outcome_is
+
+-- an instruction stands where a safe thread is
+no_fault : (c : Checked) (code : List ℕ) (l : Local) (found : Result Instr FaultKind) → instruction_at code l.core.pc ≡ found → IsSafeMove c l (local_step code l) → (instr : Instr) × (instruction_at code l.core.pc ≡ Ok instr)
+unfolding local_step outcome started
+no_fault c code l (Ok instr) e move = (instr, e)
+no_fault c code l (Err kind) e move =
+    let wrong : local_step code l ≡ Stops Wrong = ap (λ (found : Result Instr FaultKind). local_move l (started found (machine_of l))) e in
+    absurd (subst (IsSafeMove c l) wrong move)
+
+pub stands_at : (c : Checked) (code : List ℕ) (l : Local) → IsSafe c code l → (instr : Instr) × (instruction_at code l.core.pc ≡ Ok instr)
+stands_at c code l safe = no_fault c code l (instruction_at code l.core.pc) refl safe.move

@@ -6,7 +6,7 @@ use Rattle.std.proofs.lemmas.Bool.{cases_eq, cases_lt, eq-eqb, eqb-true, eqb-fal
 use Rattle.std.proofs.lemmas.List.Elements.{All-cons, All-head, All-tail}
 use Rattle.std.proofs.lemmas.Map.Steps.{length-le_from_distinct_below}
 use Rattle.std.proofs.lemmas.Map.Views.{Contains-from_any}
-use Rattle.chunk_pool.specs.Pool.{IsPool, IsHeld, IsFree, all_free}
+use Rattle.chunk_pool.specs.Pool.{IsPool, IsHeld, all_free}
 use Rattle.chunk_pool.proofs.FreeLaws.{copies-free, copies-held, absent_from_copies}
 use Rattle.chunk_pool.proofs.PoolLaws.{Contains-cases}
 use Rattle.machine_world.specs.Held.{copies}

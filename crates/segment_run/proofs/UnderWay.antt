@@ -9,14 +9,14 @@ use Rattle.machine_world.specs.Places.{Checked}
 use Rattle.machine_world.proofs.FormLaws as forms
 use Rattle.machine_world.proofs.FormLaws.{KeepsForm, KeepsForm-step}
 use Rattle.machine_world.proofs.HeldLaws.{KeepsCopies-step, KeepsShape-step}
-use Rattle.segment_laws.specs.Ways.{HasForm, IsGoodState, WayIn, Leads}
+use Rattle.segment_laws.specs.Ways.{HasForm, IsGoodState, WayIn}
 use Rattle.segment_laws.proofs.Ways.{Leads-none, Leads-one, Leads-then, HasForm-next}
 use Rattle.flat_code.specs.WellFormed.{IsWellFormed}
 use Rattle.segment_around.proofs.Untouched.{keeps_step}
 use Rattle.segment_run.specs.Safe.{IsSafe, StaysSafe}
 use Rattle.segment_run.specs.Segments.{IsEnd, IsSegment}
 use Rattle.segment_run.specs.declared.segments.Segment.{Segment}
-use Rattle.segment_run.specs.Turns.{KeepsCounts}
+use Rattle.segment_run.specs.Turns.{KeepsCounts, IsUnderWay}
 use Rattle.chunk_pool.specs.Pool.{all_free}
 
 -- good steps are silent steps
@@ -41,13 +41,6 @@ counts_goes c code start l next formed kept form good e = record {
 
 -- ---- under way
 
-pub record IsUnderWay (c : Checked) (code : List ℕ) (start : Local) (left : ℕ) (now : Local) (left_now : ℕ) : Type 0 where
-  pub steps : ℕ
-  pub fuel : steps + left_now ≡ left
-  pub leads : Leads c code steps start now
-  pub form : HasForm c now
-  pub counts : KeepsCounts c start now
-
 pub begun : (c : Checked) (code : List ℕ) (start : Local) (left : ℕ) → HasForm c start → IsUnderWay c code start left start left
 begun c code start left form = record { steps = 0; fuel = omega arith; leads = Leads-none c code start; form = form; counts = counts_none c start form }
 
@@ -65,6 +58,41 @@ goes_on c code start now next left left_now left_next formed safe way e less =
       form = HasForm-next c code now next way.form e;
       counts = counts_goes c code start now next formed way.counts way.form good e;
     }
+
+-- from its start to a place, and from there on
+counts_then : (c : Checked) (start middle now : Local) → KeepsCounts c start middle → KeepsCounts c middle now → KeepsCounts c start now
+counts_then c start middle now first second = record {
+  areas = second.areas;
+  shape = second.shape ∙ first.shape;
+  copies = λ chunk. second.copies chunk ∙ first.copies chunk;
+  others = λ chunk away. second.others chunk (first.copies chunk ∙ away) ∙ first.others chunk away;
+}
+
+pub way_then : (c : Checked) (code : List ℕ) (start middle now : Local) (left left_middle left_now : ℕ) → IsUnderWay c code start left middle left_middle → IsUnderWay c code middle left_middle now left_now →
+    IsUnderWay c code start left now left_now
+way_then c code start middle now left left_middle left_now first second = record {
+  steps = first.steps + second.steps;
+  fuel = omega (arith, first.fuel, second.fuel);
+  leads = Leads-then c code first.steps second.steps start middle now first.leads second.leads;
+  form = second.form;
+  counts = counts_then c start middle now first.counts second.counts;
+}
+
+-- good steps, and then as many moves as are still to make
+moves_then : (c : Checked) (code : List ℕ) (m n : ℕ) (l middle after : Local) → WayIn c code m l middle → moves (local_machine code) n middle ≡ Goes after → moves (local_machine code) (m + n) l ≡ Goes after
+moves_then c code zero n l middle after way e =
+    let same : n ≡ zero + n = omega arith in
+    subst (λ (k : ℕ). moves (local_machine code) k l ≡ Goes after) same (ap (moves (local_machine code) n) way ∙ e)
+moves_then c code (suc m) n l middle after way e =
+    let same : suc (m + n) ≡ suc m + n = omega arith in
+    subst (λ (k : ℕ). moves (local_machine code) k l ≡ Goes after) same
+    (ap (λ move. runs.and_then move (moves (local_machine code) (m + n))) way.1.1 ∙ moves_then c code m n way.1.0 middle after way.1.2 e)
+
+-- so it stays safe from there on
+pub stays_safe : (c : Checked) (code : List ℕ) (start now : Local) (left left_now : ℕ) → StaysSafe c code start → IsUnderWay c code start left now left_now → StaysSafe c code now
+stays_safe c code start now left left_now safe way = record {
+  safe = λ n after e. safe.safe (way.steps + n) after (moves_then c code way.steps n start now after way.leads.way e);
+}
 
 -- ---- at its end
 

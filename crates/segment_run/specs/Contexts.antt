@@ -1,5 +1,5 @@
 -- Which thread of the machine world a context is, and what it needs to run.
-use Rattle.std.specs.Prelude.{◌≡◌, ◌≢◌, ℕ, zero, suc, ◌-◌, ◌*◌, ◌/◌, List, [], ◌∷◌, length, All, Ok, nat_eq}
+use Rattle.std.specs.Prelude.{◌≡◌, ◌≢◌, ℕ, zero, suc, List, [], ◌∷◌, length, All, Ok, nat_eq}
 use Rattle.std.specs.List.{IsDistinct}
 use Rattle.rv_code.specs.declared.instructions.Instr.{Instr}
 use Rattle.rv_machine.specs.Step.{instruction_at}

@@ -1,5 +1,5 @@
 -- What never comes of a thread of an accepted program, and where it asks.
-use Rattle.std.specs.Prelude.{◌≡◌, ℕ, ◌<◌, List, [], length, Option}
+use Rattle.std.specs.Prelude.{◌≡◌, ℕ, ◌<◌, List, length, Option}
 use Rattle.cap_word.specs.Runs.{Goes, Asks, Stops, moves}
 use Rattle.flat_code.specs.declared.operations.Op.{Op}
 use Rattle.stack_certificate.specs.Certificates.{fact_at, need_of}

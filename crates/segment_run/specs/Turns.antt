@@ -1,5 +1,5 @@
 -- What the code tells of one instruction of a thread.
-use Rattle.std.specs.Prelude.{◌≡◌, ℕ, List, [], ◌∷◌, Bool, true, false, Option}
+use Rattle.std.specs.Prelude.{◌≡◌, ℕ, ◌+◌, ◌<◌, List, [], ◌∷◌, Bool, true, false, Option}
 use Rattle.cap_word.specs.Calls.{Call, Blocking, Immediate, call_of}
 use Rattle.cap_word.specs.Runs as runs
 use Rattle.cap_word.specs.Runs.{Stops}
@@ -7,8 +7,9 @@ use Rattle.chunk_pool.specs.Pool.{chunk_of, all_free, shape_of}
 use Rattle.machine_world.specs.Areas.{Areas}
 use Rattle.machine_world.specs.Held.{copies_in}
 use Rattle.machine_world.specs.WellFormed.{AreWellFormed}
-use Rattle.machine_world.specs.Local.{Local, Calls, Ended, Trapped, NoRoom, first_of, linked, local_step}
+use Rattle.machine_world.specs.Local.{Local, Calls, Ended, Trapped, NoRoom, first_of, linked, local_step, system_call}
 use Rattle.machine_world.specs.Places.{Checked}
+use Rattle.segment_laws.specs.Ways.{HasForm, Leads}
 use Rattle.segment_run.specs.Contexts.{chain_from}
 use Rattle.segment_run.specs.Segments.{IsAtModel, IsAtAsk}
 use Rattle.segment_run.specs.declared.running.Thread.{Thread}
@@ -50,3 +51,16 @@ pub record KeepsCounts (c : Checked) (before after : Local) : Type 0 where
   pub shape : shape_of after.areas.pool ≡ shape_of before.areas.pool
   pub copies : (chunk : ℕ) → copies_in chunk after ≡ copies_in chunk before
   pub others : (chunk : ℕ) → copies_in chunk before ≡ 0 → chunk_of after.areas.pool chunk ≡ chunk_of before.areas.pool chunk
+
+-- a thread under way: from its start so many good steps, each of which keeps its form and its chunks
+pub record IsUnderWay (c : Checked) (code : List ℕ) (start : Local) (left : ℕ) (now : Local) (left_now : ℕ) : Type 0 where
+  pub steps : ℕ
+  pub fuel : steps + left_now ≡ left
+  pub leads : Leads c code steps start now
+  pub form : HasForm c now
+  pub counts : KeepsCounts c start now
+
+-- fuel is left, and the step is the call of a number
+pub record IsAtEcall (code : List ℕ) (l : Local) (left : ℕ) (number : ℕ) : Type 0 where
+  pub fuel : 0 < left
+  pub calls : local_step code l ≡ system_call l number

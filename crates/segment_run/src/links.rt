@@ -38,7 +38,7 @@ pub(crate) fn link(areas: &mut Areas, thread: &mut Thread) -> bool
 fn link_chunk(areas: &mut Areas, thread: &mut Thread) -> bool
     requires owns { Owns (thread_of areas.old thread.old) }
     requires front { TpIsFront areas.old.pool (thread_of areas.old thread.old).core (thread_of areas.old thread.old).core.chain }
-    requires room { taken_for areas.old.pool (read thread.old.regs.x 6) ≡ None → areas.old.pool.free ≡ [] }
+    requires room { taken_for areas.old.pool (read thread.old.regs.x 6) ≡ None → all_free areas.old.pool ≡ [] }
     ensures { IsLink result (thread_of areas.old thread.old) (thread_of areas.new thread.new) }
 {
     let Some(chunk) = areas.pool.take() else {

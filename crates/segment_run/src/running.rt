@@ -1,18 +1,25 @@
-ghost use Rattle.std.specs.Prelude.{◌≡◌, ◌⊎◌, option_map};
+ghost use Rattle.std.specs.Prelude.{◌≡◌, ℕ, ◌⊎◌, List, Ok, IfSome, IsNone, map, option_map};
 ghost use Rattle.machine_world.specs.Local.{system_call, local_step, trapped, Trapped};
 ghost use Rattle.cap_word.specs.Runs.{Stops};
 ghost use Rattle.certificate_rules.specs.Validity.{IsValid};
+ghost use Rattle.flat_code.specs.WellFormed.{IsWellFormed};
+ghost use Rattle.rv_code.specs.Decoding.{decoding};
+ghost use Rattle.rv_machine.specs.Step.{instruction_at};
 ghost use Rattle.segment_laws.specs.Ways.{HasForm};
 ghost use Rattle.segment_run.specs.Contexts.{checked_of, code_of};
-ghost use Rattle.segment_run.specs.Safe.{IsSafe};
-ghost use Rattle.segment_run.specs.Turns.{thread_of, turn_of, call_with, IsTurn};
+ghost use Rattle.segment_run.specs.Safe.{IsSafe, StaysSafe};
+ghost use Rattle.segment_run.specs.Turns.{thread_of, turn_of, call_with, IsAtEcall, IsTurn, IsUnderWay};
 
 use crate::areas::Areas;
 use crate::links::{end, link, unlink};
 use crate::lookups::function_with_entry;
 use cap_word::{Ask, Block, TrapKind};
 use certificate_check::Accepted;
-use rv_machine::{Regs, StepResult, step_decoded};
+use rv_code::Instr;
+use rv_machine::{Regs, StepResult, step_of};
+
+// The first byte of the code.
+const CODE_START: u32 = 0x1000;
 
 // A thread that runs: its registers, the innermost of its chunks and how many it holds.
 #[derive(Clone, Copy)]
@@ -33,22 +40,68 @@ pub(crate) enum Turn {
     NoRoom,
 }
 
-// One instruction of a thread that never comes to a fault.
-pub(crate) fn do_instruction(accepted: &Accepted, areas: &mut Areas, thread: &mut Thread) -> Turn
-    requires valid { IsValid (checked_of accepted.now).flat accepted.now.image accepted.now.certificate }
-    requires form { HasForm (checked_of accepted.now) (thread_of areas.old thread.old) }
-    requires safe { IsSafe (checked_of accepted.now) (code_of accepted.now) (thread_of areas.old thread.old) }
-    ensures { IsTurn (checked_of accepted.now) (code_of accepted.now) (thread_of areas.old thread.old) result (thread_of areas.new thread.new) }
+// How far a thread came without a call: its registers, the fuel that is left, and the number of the call at whose ECALL it
+// stands; None where no fuel is left.
+#[derive(Clone, Copy)]
+pub(crate) struct Pause {
+    pub(crate) regs: Regs,
+    pub(crate) left: u64,
+    pub(crate) call: Option<u32>,
+}
+
+// Runs a thread that never comes to a fault up to its next ECALL, or until the fuel is used up. The registers and the fuel
+// are its own meanwhile, so that the compiler keeps pc and the fuel out of memory.
+pub(crate) fn run_to_call(
+    accepted: &Accepted,
+    areas: &mut Areas,
+    thread: Thread,
+    fuel: u64,
+) -> Pause
+    requires formed { IsWellFormed (checked_of accepted.now).flat }
+    requires form { HasForm (checked_of accepted.now) (thread_of areas.old thread) }
+    requires safe { StaysSafe (checked_of accepted.now) (code_of accepted.now) (thread_of areas.old thread) }
+    ensures way { IsUnderWay (checked_of accepted.now) (code_of accepted.now) (thread_of areas.old thread) fuel (thread_of areas.new (record thread { regs = result.regs })) result.left }
+    ensures calls { IfSome result.call (IsAtEcall (code_of accepted.now) (thread_of areas.new (record thread { regs = result.regs })) result.left) }
+    ensures spent { IsNone result.call → result.left ≡ 0 }
 {
-    match step_decoded(accepted.instrs(), areas, &mut thread.regs) {
-        StepResult::Went => Turn::Goes,
-        StepResult::Call { number } => call(accepted, areas, thread, number),
-        StepResult::Fault { .. } => unreachable!(),
+    let instrs = accepted.instrs();
+    let mut regs = thread.regs;
+    let mut left = fuel;
+    while left > 0 {
+        let instr = fetch(instrs, regs.pc);
+        match step_of(instr, areas, &mut regs) {
+            StepResult::Went => left -= 1,
+            StepResult::Call { number } => {
+                return Pause {
+                    regs,
+                    left,
+                    call: Some(number),
+                };
+            }
+            StepResult::Fault { .. } => unreachable!(),
+        }
+    }
+    Pause {
+        regs,
+        left,
+        call: None,
+    }
+}
+
+// The instruction that stands at pc, in code of which each word was decoded before.
+#[tactic(auto, unfolding(rv_machine::specs::Step::instruction_at))]
+fn fetch(instrs: &[Option<Instr>], pc: u32) -> Instr
+    requires there { (words : List ℕ) × (instr : Instr) × (instrs.now ≡ map decoding words) × (instruction_at words pc ≡ Ok instr) }
+    ensures { (words : List ℕ) → instrs.now ≡ map decoding words → instruction_at words pc ≡ Ok result }
+{
+    match instrs.get(((pc - CODE_START) / 4) as usize) {
+        Some(Some(instr)) => *instr,
+        _ => unreachable!(),
     }
 }
 
 // The call of a number, at an ECALL.
-fn call(accepted: &Accepted, areas: &mut Areas, thread: &mut Thread, number: u32) -> Turn
+pub(crate) fn call(accepted: &Accepted, areas: &mut Areas, thread: &mut Thread, number: u32) -> Turn
     requires valid { IsValid (checked_of accepted.now).flat accepted.now.image accepted.now.certificate }
     requires form { HasForm (checked_of accepted.now) (thread_of areas.old thread.old) }
     requires safe { IsSafe (checked_of accepted.now) (code_of accepted.now) (thread_of areas.old thread.old) }
@@ -120,6 +173,12 @@ fn package_call(number: u32, a: u32, b: u32) -> Option<Turn>
             block: Block::Take {
                 resource: a,
                 amount: b,
+            },
+        }),
+        21 => Some(Turn::Blocks {
+            block: Block::WaitFor {
+                channel: a,
+                ticks: b,
             },
         }),
         _ => None,

@@ -13,7 +13,7 @@ ghost use Rattle.segment_run.specs.Sources.{IsSourceAnswer};
 
 use crate::areas::Areas;
 use crate::contexts::{Context, Fuel, are_registers};
-use crate::running::{Thread, Turn, do_instruction};
+use crate::running::{Thread, Turn, call, run_to_call};
 use cap_word::{Ask, Block, TrapKind};
 use certificate_check::Accepted;
 use rv_code::Register;
@@ -120,7 +120,13 @@ fn run_turns(
     ensures counts { KeepsCounts (checked_of accepted.now) (thread_of areas.old thread.old) (thread_of areas.new thread.new) }
 {
     while fuel.left > 0 {
-        match do_instruction(accepted, areas, thread) {
+        let pause = run_to_call(accepted, areas, *thread, fuel.left);
+        thread.regs = pause.regs;
+        fuel.left = pause.left;
+        let Some(number) = pause.call else {
+            return Segment::OutOfFuel;
+        };
+        match call(accepted, areas, thread, number) {
             Turn::Goes => fuel.left -= 1,
             Turn::Ends => {
                 fuel.left -= 1;

@@ -55,7 +55,8 @@ modelled_small n k h =
     pick (nat_eq n 17) (Some 1) _ k h (λ e f. small 17 n 1 k (omega arith) (omega arith) e f) (λ h.
     pick (nat_eq n 18) (Some 1) _ k h (λ e f. small 18 n 1 k (omega arith) (omega arith) e f) (λ h.
     pick (nat_eq n 19) (Some 0) _ k h (λ e f. small 19 n 0 k (omega arith) (omega arith) e f) (λ h.
-    pick (nat_eq n 20) (Some 2) None k h (λ e f. small 20 n 2 k (omega arith) (omega arith) e f) (λ h. cc))))))))
+    pick (nat_eq n 20) (Some 2) _ k h (λ e f. small 20 n 2 k (omega arith) (omega arith) e f) (λ h.
+    pick (nat_eq n 21) (Some 2) None k h (λ e f. small 21 n 2 k (omega arith) (omega arith) e f) (λ h. cc)))))))))
 
 have_places : (c : Context) → ((g : ℕ) → (signature_at c.signatures g).params ≤ 6) → (op : Op) → IsOperation c op → HavePlaces (length c.sizes) op
 have_places c most (Op.Const d value) h = h.0.0

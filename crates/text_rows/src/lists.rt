@@ -1,6 +1,6 @@
 // Lists of words: those that are refused, and those with the command that they ask for, from the table of commands and
 // options.
-use command_words::{Command, Placement, Policy, WordsError, read_words};
+use command_words::{Command, Placement, Policy, Rule, Tickets, WordsError, read_words};
 use std::alloc::{AllocError, Global};
 
 // Lists that are no word list: one a line, with a blank between the words.
@@ -35,6 +35,20 @@ serve P --high 500
 serve P --low 900
 serve P --caps 8=1
 serve P --caps 1=1,
+serve P --rule other
+serve P --tickets 1=2
+serve P --rule graph --tickets 1=2
+serve P --rule stride --tickets 1=0
+serve P --rule stride --tickets 1=1025
+serve P --rule stride --tickets 1000001=1
+serve P --rule stride --tickets 2=1,1=1
+serve P --rule stride --tickets 1=1,1=1
+serve P --rule stride --tickets 1=1,
+serve P --rule stride --tickets 1
+serve P --rule stride --tickets 1=2=3
+serve P --rule stride --tickets 01=2
+serve P --knee 1000
+build P I C --knee 1
 serve P --chunk 65536 --chunks 1025
 run P I C --chunk 64
 build P I
@@ -52,6 +66,8 @@ const POLICY: Policy = Policy {
     caps: [0; 8],
     high: 900,
     low: 700,
+    rule: Rule::Graph,
+    knee: 0,
 };
 
 // The words of a line.
@@ -127,6 +143,8 @@ const RUN: Command<'static> = Command::Run {
         caps: [0, 3, 0, 0, 0, 0, 0, 1_000_000],
         high: 1,
         low: 0,
+        rule: Rule::Graph,
+        knee: 0,
     },
 };
 
@@ -155,6 +173,82 @@ const GRAPH: Command<'static> = Command::Graph {
 };
 
 const DEMO: Command<'static> = Command::Demo { number: 1000 };
+
+// The policy of `--rule stride --knee 500 --tickets 0=3,7=1024`.
+fn stride_policy() -> Policy {
+    let mut pairs = [(0, 0); 64];
+    pairs[0] = (0, 3);
+    pairs[1] = (7, 1024);
+    Policy {
+        rule: Rule::Stride {
+            tickets: Tickets { pairs, count: 2 },
+        },
+        knee: 500,
+        ..POLICY
+    }
+}
+
+// The policy of `--rule stride`, with one ticket for each of so many threads from 0 on.
+fn one_ticket_each(threads: usize) -> Policy {
+    let mut pairs = [(0, 0); 64];
+    for thread in 0..threads.min(64) {
+        pairs[thread] = (thread as u32, 1);
+    }
+    Policy {
+        rule: Rule::Stride {
+            tickets: Tickets {
+                pairs,
+                count: threads.min(64) as u32,
+            },
+        },
+        ..POLICY
+    }
+}
+
+// The command `serve P` under a policy.
+fn serve_under(policy: Policy) -> Command<'static> {
+    Command::Serve {
+        source: "P",
+        placement: PLACEMENT,
+        policy,
+    }
+}
+
+// The line `serve P --rule stride --tickets 0=1,1=1,..`, with a ticket for each of so many threads.
+fn line_of(alloc: Global, threads: u32) -> Result<String, AllocError> {
+    let mut line = String::from_str(alloc, "serve P --rule stride --tickets 0=1")?;
+    for thread in 1..threads {
+        line.push_str(&format!(in alloc; ",{thread}=1")?)?;
+    }
+    Ok(line)
+}
+
+#[test]
+fn tickets_are_given_to_64_threads_at_most(rt: HostRuntime) {
+    let alloc = rt.alloc();
+    let right = match (line_of(alloc, 64), line_of(alloc, 65)) {
+        (Ok(most), Ok(more)) => {
+            asks(alloc, &most, &serve_under(one_ticket_each(64))) & is_refused(alloc, &more)
+        }
+        _ => false,
+    };
+    assert!(rt; right);
+}
+
+#[test]
+fn the_rule_of_choices_and_the_knee_are_read(rt: HostRuntime) {
+    let alloc = rt.alloc();
+    let right = asks(
+        alloc,
+        "serve P --rule stride --knee 500 --tickets 0=3,7=1024",
+        &serve_under(stride_policy()),
+    ) & asks(
+        alloc,
+        "serve --rule stride P",
+        &serve_under(one_ticket_each(0)),
+    ) & asks(alloc, "serve P --rule graph --knee 0", &SERVE);
+    assert!(rt; right);
+}
 
 #[test]
 fn word_lists_ask_for_a_command(rt: HostRuntime) {

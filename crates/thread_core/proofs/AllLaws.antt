@@ -5,6 +5,7 @@ use Rattle.std.proofs.lemmas.List.{get_or_past, get_or-map, length-map}
 use Rattle.std.proofs.lemmas.List.Folds.{Any-from_list_any, list_any-from_Any}
 use Rattle.slab.specs.Slab.{get}
 use Rattle.certificate_check.specs.Acceptance.{Acceptance}
+use Rattle.machine_world.specs.Runs.{asleep_until}
 use Rattle.machine_world.specs.Threads.{Thread, first_with}
 use Rattle.thread_waits.specs.Waiting as waits
 use Rattle.thread_waits.specs.Waiting.{Waiting, wait_at}
@@ -158,48 +159,55 @@ module _ (accepted : Acceptance) (most : ℕ) (st : State) (kept : IsKept accept
 
   -- ---- sleepers
 
-  later_by : (place : ℕ) (r : Record) (wait : Option Wait) → wait_at st.waits place ≡ wait → ready.later_wake st.waits.clock (thread_of_record st.areas.pool st.waits place r).blocked ≡ waits.later_wake st.waits.clock wait
-  later_by place r None e = rw e refl
-  later_by place r (Some Wait.Fresh) e = rw e refl
-  later_by place r (Some (Wait.At block since)) e = rw e refl
+  -- until when a thread sleeps, and who waits
+  abbrev sleeps : Thread → Option ℕ
+  sleeps = λ thread. asleep_until (setting_of accepted most st) (machine_of most st) thread.blocked
 
-  later_at : (place : ℕ) (r : Record) → ready.later_wake st.waits.clock (thread_of_record st.areas.pool st.waits place r).blocked ≡ waits.later_wake st.waits.clock (wait_at st.waits place)
-  later_at place r = later_by place r (wait_at st.waits place) refl
+  abbrev sleeps_so : Option Wait → Option ℕ
+  sleeps_so = waits.sleeps_in st.exchange.caps st.exchange.exchange st.waits.clock
 
-  none_at : (place : ℕ) → All (λ wait. waits.later_wake st.waits.clock wait ≡ None) st.waits.places → (place < length st.waits.places) ⊎ (length st.waits.places ≤ place) → waits.later_wake st.waits.clock (wait_at st.waits place) ≡ None
+  asleep_by : (place : ℕ) (r : Record) (wait : Option Wait) → wait_at st.waits place ≡ wait → sleeps (thread_of_record st.areas.pool st.waits place r) ≡ sleeps_so wait
+  asleep_by place r None e = rw e refl
+  asleep_by place r (Some Wait.Fresh) e = rw e refl
+  asleep_by place r (Some (Wait.At block since)) e = rw e refl
+
+  asleep_at : (place : ℕ) (r : Record) → sleeps (thread_of_record st.areas.pool st.waits place r) ≡ sleeps_so (wait_at st.waits place)
+  asleep_at place r = asleep_by place r (wait_at st.waits place) refl
+
+  none_at : (place : ℕ) → All (λ wait. sleeps_so wait ≡ None) st.waits.places → (place < length st.waits.places) ⊎ (length st.waits.places ≤ place) → sleeps_so (wait_at st.waits place) ≡ None
   none_at place all (inl h) = all place None h
   none_at place all (inr h) = rw (get_or_past st.waits.places place None h) refl
 
-  time_place : (place time : ℕ) → waits.later_wake st.waits.clock (wait_at st.waits place) ≡ Some time → (place < length st.waits.places) ⊎ (length st.waits.places ≤ place) → place < length st.waits.places
+  time_place : (place time : ℕ) → sleeps_so (wait_at st.waits place) ≡ Some time → (place < length st.waits.places) ⊎ (length st.waits.places ≤ place) → place < length st.waits.places
   time_place place time e (inl h) = h
-  time_place place time e (inr h) = absurd (let n : waits.later_wake st.waits.clock (wait_at st.waits place) ≡ None = rw (get_or_past st.waits.places place None h) refl in let x : None ≡ Some time = sym n ∙ e in cc)
+  time_place place time e (inr h) = absurd (let n : sleeps_so (wait_at st.waits place) ≡ None = rw (get_or_past st.waits.places place None h) refl in let x : None ≡ Some time = sym n ∙ e in cc)
 
-  sleeper : (o : Option Wait) (time : ℕ) → waits.later_wake st.waits.clock o ≡ Some time → (wait : Wait) × (o ≡ Some wait)
+  sleeper : (o : Option Wait) (time : ℕ) → sleeps_so o ≡ Some time → (wait : Wait) × (o ≡ Some wait)
   sleeper None time e = absurd (let x : None ≡ Some time = e in cc)
   sleeper (Some wait) time e = (wait, refl)
 
   -- a time at which a thread wakes stands among the waits
-  time_there : (time : ℕ) → Contains (map (λ thread. ready.later_wake st.waits.clock thread.blocked) (threads_of st)) (Some time) → Contains (map (waits.later_wake st.waits.clock) st.waits.places) (Some time)
+  time_there : (time : ℕ) → Contains (map sleeps (threads_of st)) (Some time) → Contains (map sleeps_so st.waits.places) (Some time)
   time_there time c =
-      let p : (thread : Thread) × IsOfRecord number_of (thread_of_record st.areas.pool st.waits) st.records.slots thread × (ready.later_wake st.waits.clock thread.blocked ≡ Some time) =
-      contained_passing (IsOfRecord number_of (thread_of_record st.areas.pool st.waits) st.records.slots) (λ thread. ready.later_wake st.waits.clock thread.blocked) (threads_of st) (Some time) members c in
+      let p : (thread : Thread) × IsOfRecord number_of (thread_of_record st.areas.pool st.waits) st.records.slots thread × (sleeps thread ≡ Some time) =
+      contained_passing (IsOfRecord number_of (thread_of_record st.areas.pool st.waits) st.records.slots) sleeps (threads_of st) (Some time) members c in
       let place : ℕ = p.1.place in
-      let e : waits.later_wake st.waits.clock (wait_at st.waits place) ≡ Some time = sym (later_at place p.1.r) ∙ ap (λ (thread : Thread). ready.later_wake st.waits.clock thread.blocked) (sym p.1.is) ∙ p.2 in
+      let e : sleeps_so (wait_at st.waits place) ≡ Some time = sym (asleep_at place p.1.r) ∙ ap sleeps (sym p.1.is) ∙ p.2 in
       let h : place < length st.waits.places = time_place place time e (past_or_not (length st.waits.places) place) in
-      (place, rw length-map h, get_or-map (waits.later_wake st.waits.clock) st.waits.places place None (Some time) h ∙ e)
+      (place, rw length-map h, get_or-map sleeps_so st.waits.places place None (Some time) h ∙ e)
 
   -- and the other way round
-  time_back : (time : ℕ) → Contains (map (waits.later_wake st.waits.clock) st.waits.places) (Some time) → Contains (map (λ thread. ready.later_wake st.waits.clock thread.blocked) (threads_of st)) (Some time)
+  time_back : (time : ℕ) → Contains (map sleeps_so st.waits.places) (Some time) → Contains (map sleeps (threads_of st)) (Some time)
   time_back time c =
       let place : ℕ = c.0 in
       let h : place < length st.waits.places = rw length-map at c.1 in
-      let e : waits.later_wake st.waits.clock (wait_at st.waits place) ≡ Some time = sym (get_or-map (waits.later_wake st.waits.clock) st.waits.places place None (Some time) h) ∙ c.2 in
+      let e : sleeps_so (wait_at st.waits place) ≡ Some time = sym (get_or-map sleeps_so st.waits.places place None (Some time) h) ∙ c.2 in
       let s : (wait : Wait) × (wait_at st.waits place ≡ Some wait) = sleeper (wait_at st.waits place) time e in
       let r : (r : Record) × (get st.records place ≡ Some r) = record_there place s.0 s.1 (some_or_none (get st.records place)) in
-      subst (λ (o : Option ℕ). Contains (map (λ thread. ready.later_wake st.waits.clock thread.blocked) (threads_of st)) o) (later_at place r.0 ∙ e)
-      (found_contained (λ thread. ready.later_wake st.waits.clock thread.blocked) (threads_of st) r.0.number (thread_of_record st.areas.pool st.waits place r.0) (found_at accepted most st kept place r.0 r.1))
+      subst (λ (o : Option ℕ). Contains (map sleeps (threads_of st)) o) (asleep_at place r.0 ∙ e)
+      (found_contained sleeps (threads_of st) r.0.number (thread_of_record st.areas.pool st.waits place r.0) (found_at accepted most st kept place r.0 r.1))
 
-  pub wake_told : (result : Option ℕ) → waits.IsWake st.waits result → ready.IsWake (machine_of most st) result
-  wake_told None all = all_of (IsOfRecord number_of (thread_of_record st.areas.pool st.waits) st.records.slots) (λ thread. ready.later_wake st.waits.clock thread.blocked ≡ None) (threads_of st)
-      (λ thread of. ap (λ (t : Thread). ready.later_wake st.waits.clock t.blocked) of.is ∙ later_at of.place of.r ∙ none_at of.place all (past_or_not (length st.waits.places) of.place)) members
+  pub wake_told : (result : Option ℕ) → waits.IsWake st.exchange.caps st.exchange.exchange st.waits result → ready.IsWake (setting_of accepted most st) (machine_of most st) result
+  wake_told None all = all_of (IsOfRecord number_of (thread_of_record st.areas.pool st.waits) st.records.slots) (λ thread. sleeps thread ≡ None) (threads_of st)
+      (λ thread of. ap sleeps of.is ∙ asleep_at of.place of.r ∙ none_at of.place all (past_or_not (length st.waits.places) of.place)) members
   wake_told (Some time) w = (time_back time w.0, λ other c. w.1 other (time_there other c))

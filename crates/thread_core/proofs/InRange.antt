@@ -16,4 +16,5 @@ in_range x Block.Accept long t = tt
 in_range x (Block.Wait channel) long t = channel_below channel t
 in_range x (Block.Sleep ticks) long t = tt
 in_range x Block.Yield long t = tt
+in_range x (Block.WaitFor channel ticks) long t = channel_below channel t
 in_range x (Block.Take resource amount) long t = (some_resource x.caps resource amount (cap_of x.caps resource) t, given_below x.caps resource amount (cap_of x.caps resource) long t)

@@ -27,6 +27,7 @@ untrapped_block x y e (Block.Wait channel) since u = u
 untrapped_block x y e (Block.Sleep ticks) since u = u
 untrapped_block x y e Block.Yield since u = u
 untrapped_block x y e (Block.Take resource amount) since u = rw e u
+untrapped_block x y e (Block.WaitFor channel ticks) since u = u
 
 pub untrapped_same : (x y : Exchanging) → y.caps ≡ x.caps → (wait : Option Wait) → IsUntrapped x wait → IsUntrapped y wait
 untrapped_same x y e None u = tt

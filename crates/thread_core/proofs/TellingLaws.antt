@@ -3,6 +3,7 @@ use Rattle.std.proofs.Common.{◌≡◌, ◌≢◌, ℕ, ◌⊎◌, inl, inr, Bo
 use Rattle.std.proofs.lemmas.Bool.Decides.{nat_tests}
 use Rattle.std.proofs.Math.ListN as list
 use Rattle.slab.specs.Slab.{get}
+use Rattle.cap_word.specs.declared.calls.Block.{Block}
 use Rattle.cap_word.specs.declared.threads.ThreadId.{ThreadId}
 use Rattle.certificate_check.specs.Acceptance.{Acceptance}
 use Rattle.machine_world.specs.Threads.{Thread, Setting, first_with}
@@ -15,6 +16,12 @@ use Rattle.thread_core.specs.States.{number_of, thread_of_record, threads_of, ma
 use Rattle.thread_core.specs.Kept.{IsKept, RunsAt, IsRunningThere}
 use Rattle.thread_core.specs.Waiting.{wait_of, waits_for_in, IsUntrapped}
 use Rattle.thread_core.specs.Ready.{is_same_number, passes, is_ready_thread, runs_now, is_at_accept_thread}
+use Rattle.ready_tree.specs.declared.bounds.Bounds.{Bounds}
+use Rattle.ready_tree.specs.declared.needs.Need.{Need}
+use Rattle.ready_tree.specs.Needs.{is_met, is_arrival, is_same_need}
+use Rattle.ready_tree.proofs.NeedLaws.{same_need, need_self}
+use Rattle.thread_waits.specs.Needs.{need_for}
+use Rattle.thread_core.specs.Needs.{waits_for_need, waits_to_go}
 use Rattle.thread_core.specs.declared.records.Record.{Record}
 use Rattle.thread_core.specs.declared.state.State.{State}
 
@@ -161,3 +168,76 @@ module _ (accepted : Acceptance) (most : ℕ) (st : State) (kept : IsKept accept
 
   pub untrapped_for : (thread : ThreadId) → IsUntrapped st.exchange (waits_for_in st thread)
   untrapped_for thread = untrapped_of thread (get st.records thread.slot)
+
+  -- ---- needs
+
+  -- what is waited for has this need
+  abbrev has_need : Need → Option Wait → Bool
+  has_need need None = false
+  has_need need (Some wait) = is_same_need (need_for wait) need
+
+  abbrev is_wait : Option Wait → Bool
+  is_wait None = false
+  is_wait (Some wait) = true
+
+  need_by : (need : Need) (place : ℕ) (r : Record) (wait : Option Wait) → get st.records place ≡ Some r → wait_at st.waits place ≡ wait →
+      waits_for_need (machine_of most st) need (thread_of_record st.areas.pool st.waits place r) ≡ has_need need wait
+  need_by need place r None there e = rw (is_running place r there e) refl
+  need_by need place r (Some Wait.Fresh) there e = rw (not_running place r Wait.Fresh there e, e) refl
+  need_by need place r (Some (Wait.At block since)) there e = rw (not_running place r (Wait.At block since) there e, e) refl
+
+  waits_by : (place : ℕ) (r : Record) (wait : Option Wait) → get st.records place ≡ Some r → wait_at st.waits place ≡ wait →
+      waits_to_go (machine_of most st) (thread_of_record st.areas.pool st.waits place r) ≡ is_wait wait
+  waits_by place r None there e = rw (is_running place r there e) refl
+  waits_by place r (Some wait) there e = rw (not_running place r wait there e) refl
+
+  pub need_told : (need : Need) (thread : ThreadId) →
+      (if is_same_number (slice_index_or (numbers_of st) thread.slot None) thread.number then passes (waits_for_need (machine_of most st) need) (first_with thread.number (threads_of st)) else false)
+      ≡ has_need need (waits_for_in st thread)
+  need_told need thread = by_wait (waits_for_need (machine_of most st) need) (has_need need) refl (λ place r there. need_by need place r (wait_at st.waits place) there refl) thread (get st.records thread.slot) refl
+
+  pub waits_told : (thread : ThreadId) →
+      (if is_same_number (slice_index_or (numbers_of st) thread.slot None) thread.number then passes (waits_to_go (machine_of most st)) (first_with thread.number (threads_of st)) else false)
+      ≡ is_wait (waits_for_in st thread)
+  waits_told thread = by_wait (waits_to_go (machine_of most st)) is_wait refl (λ place r there. waits_by place r (wait_at st.waits place) there refl) thread (get st.records thread.slot) refl
+
+  -- who waits has a need
+  pub some_need : (wait : Option Wait) → is_wait wait ≡ true → option_map need_for wait ≡ None → ⊥
+  some_need None waits e = cc
+  some_need (Some wait) waits e = cc
+
+  pub has_own : (need : Need) (wait : Option Wait) → option_map need_for wait ≡ Some need → has_need need wait ≡ true
+  has_own need None e = absurd (cc)
+  has_own need (Some wait) e = let same : need_for wait ≡ need = cc in rw same (need_self need)
+
+  -- what a thread waits for stands at its place
+  at_place_by : (b : Bool) (o : Option Wait) (wait : Wait) → (if b then o else None) ≡ Some wait → o ≡ Some wait
+  at_place_by true o wait e = e
+  at_place_by false o wait e = absurd (cc)
+
+  at_place_of : (thread : ThreadId) (o : Option Record) (wait : Wait) → wait_of st thread o ≡ Some wait → wait_at st.waits thread.slot ≡ Some wait
+  at_place_of thread None wait e = absurd (cc)
+  at_place_of thread (Some r) wait e = at_place_by (nat_eq r.number thread.number) (wait_at st.waits thread.slot) wait e
+
+  pub at_place : (thread : ThreadId) (wait : Wait) → waits_for_in st thread ≡ Some wait → wait_at st.waits thread.slot ≡ Some wait
+  at_place thread wait e = at_place_of thread (get st.records thread.slot) wait e
+
+  -- a need is met where who waits so is ready, and is an arrival where it is at `accept`
+  pub met_for : (bounds : Bounds) (need : Need) (wait : Option Wait) →
+      ((w : Wait) → wait ≡ Some w → is_met bounds (need_for w) ≡ waits.is_ready_for st.exchange.caps st.exchange.exchange st.waits.clock w) → has_need need wait ≡ true →
+      waits.is_ready_in st.exchange.caps st.exchange.exchange st.waits.clock wait ≡ is_met bounds need
+  met_for bounds need None met has = absurd (cc)
+  met_for bounds need (Some wait) met has = sym (met wait refl) ∙ ap (λ (n : Need). is_met bounds n) (same_need (need_for wait) need has)
+
+  arrival_of : (wait : Wait) → waits.is_at_accept (Some wait) ≡ is_arrival (need_for wait)
+  arrival_of Wait.Fresh = refl
+  arrival_of (Wait.At Block.Accept since) = refl
+  arrival_of (Wait.At (Block.Wait channel) since) = refl
+  arrival_of (Wait.At (Block.Sleep ticks) since) = refl
+  arrival_of (Wait.At Block.Yield since) = refl
+  arrival_of (Wait.At (Block.WaitFor channel ticks) since) = refl
+  arrival_of (Wait.At (Block.Take resource amount) since) = refl
+
+  pub arrival_for : (need : Need) (wait : Option Wait) → has_need need wait ≡ true → waits.is_at_accept wait ≡ is_arrival need
+  arrival_for need None has = absurd (cc)
+  arrival_for need (Some wait) has = arrival_of wait ∙ ap (λ (n : Need). is_arrival n) (same_need (need_for wait) need has)

@@ -12,3 +12,4 @@ pub mod Steps
 pub mod Starts
 pub mod Sources
 pub mod Lengths
+pub mod Needs

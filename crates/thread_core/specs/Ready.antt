@@ -3,10 +3,9 @@
 use Rattle.std.specs.Prelude.{◌≡◌, ℕ, ◌≤◌, ◌&&◌, Bool, false, not, map, All, Contains, Option, Some, None, if◌then◌else◌, nat_eq, slice_index_or}
 use Rattle.std.specs.List.{list_any}
 use Rattle.cap_word.specs.declared.threads.ThreadId.{ThreadId}
-use Rattle.c_mean.specs.ModelledCalls.{wakes_at}
-use Rattle.machine_world.specs.Runs.{may_run}
+use Rattle.machine_world.specs.Runs.{may_run, asleep_until}
 use Rattle.machine_world.specs.Threads.{Blocked, Thread, World, Setting, thread_of}
-use Rattle.thread_waits.specs.Waiting.{is_at_accept_block, if_later}
+use Rattle.thread_waits.specs.Waiting.{is_at_accept_block}
 use Rattle.thread_core.specs.Worlds.{Held}
 
 -- the segment under way is that of this thread
@@ -53,14 +52,9 @@ any_ready_in held = list_any (is_ready_thread held.setting held.machine) held.ma
 abbrev pub any_elsewhere_in : Held → Bool
 any_elsewhere_in held = list_any (λ thread. is_ready_thread held.setting held.machine thread && not (is_at_accept_thread thread)) held.machine.threads
 
--- when a thread that sleeps wakes, if the time is still to come
-abbrev pub later_wake : ℕ → Option Blocked → Option ℕ
-later_wake clock None = None
-later_wake clock (Some blocked) = if_later clock (wakes_at blocked.since blocked.block)
-
--- the earliest time at which a sleeper wakes that isn't ready, if there is one
-abbrev pub IsWake : World → Option ℕ → Type 0
-IsWake w None = All (λ thread. later_wake w.clock thread.blocked ≡ None) w.threads
-IsWake w (Some time) =
-    Contains (map (λ thread. later_wake w.clock thread.blocked) w.threads) (Some time)
-    × ((other : ℕ) → Contains (map (λ thread. later_wake w.clock thread.blocked) w.threads) (Some other) → time ≤ other)
+-- the least time until which a thread sleeps; none exactly where none sleeps
+abbrev pub IsWake : Setting → World → Option ℕ → Type 0
+IsWake s w None = All (λ thread. asleep_until s w thread.blocked ≡ None) w.threads
+IsWake s w (Some time) =
+    Contains (map (λ thread. asleep_until s w thread.blocked) w.threads) (Some time)
+    × ((other : ℕ) → Contains (map (λ thread. asleep_until s w thread.blocked) w.threads) (Some other) → time ≤ other)

@@ -66,7 +66,7 @@ impl State {
     {
         let result = self.exchange.resume(block);
         match block {
-            Block::Accept | Block::Wait { .. } => {
+            Block::Accept | Block::Wait { .. } | Block::WaitFor { .. } => {
                 let mut context = self.context(thread);
                 reply(&mut context, result);
                 self.set_context(thread, context);

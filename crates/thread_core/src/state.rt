@@ -1,8 +1,9 @@
-ghost use Rattle.std.specs.Prelude.{◌≡◌};
+ghost use Rattle.std.specs.Prelude.{◌≡◌, option_map};
 
 use crate::records::Record;
 use crate::turns::Turn;
 use cap_word::{Block, ThreadId};
+use ready_tree::Need;
 use segment_run::{Areas, Fuel};
 use slab::Slab;
 use std::alloc::Global;
@@ -27,6 +28,7 @@ pub struct State {
 
 impl State {
     ghost use Rattle.thread_core.specs.Waiting.{waits_for_in, IsUntrapped};
+    ghost use Rattle.thread_waits.specs.Needs.{need_for};
     ghost use Rattle.thread_waits.specs.Waiting.{is_ready_in, is_at_accept};
 
     /// What a live thread waits for, where it isn't the one that runs.
@@ -38,6 +40,17 @@ impl State {
             return None;
         }
         self.waits.at(thread.slot as usize)
+    }
+
+    /// What must be so for a live thread that isn't the one that runs to be ready.
+    pub(crate) fn need_of(&self, thread: ThreadId) -> Option<Need>
+        ensures { result ≡ option_map need_for (waits_for_in self.now thread) }
+    {
+        let record = self.records.get(thread.slot as usize)?;
+        if thread.number != record.number {
+            return None;
+        }
+        self.waits.need_at(thread.slot as usize)
     }
 
     /// Whether a live thread is ready.
@@ -62,8 +75,11 @@ impl State {
             None | Some(Wait::Fresh) => false,
             Some(Wait::At { block, .. }) => match block {
                 Block::Accept => true,
-                Block::Wait { .. } | Block::Sleep { .. } | Block::Yield | Block::Take { .. } =>
-                    false,
+                Block::Wait { .. }
+                | Block::Sleep { .. }
+                | Block::Yield
+                | Block::Take { .. }
+                | Block::WaitFor { .. } => false,
             },
         }
     }

@@ -1,11 +1,13 @@
 ghost use Rattle.std.specs.Prelude.{◌≡◌, ℕ, ◌<◌, ◌≤◌, length};
 ghost use Rattle.chunk_pool.specs.Pool.{word_of, free_count, words_of};
+ghost use Rattle.thread_core.specs.Needs.{IsWaitingIn, Vouches};
 ghost use Rattle.thread_core.specs.Ready.{is_ready_in, is_at_accept_in, any_ready_in, any_elsewhere_in, IsWake};
 ghost use Rattle.thread_core.specs.Worlds.{used_in, cap_in};
 
 use crate::world::World;
 use cap_word::{Ready, ThreadId};
 use certificate_check::Accepted;
+use ready_tree::{Bounded, Bounds, Need};
 
 impl Ready for World {
     ghost is_ready = { is_ready_in };
@@ -27,7 +29,26 @@ impl Ready for World {
     }
 }
 
+impl Bounded for World {
+    ghost vouches = { Vouches };
+
+    fn bounds(&self) -> Bounds {
+        self.state.waits.bounds(&self.state.exchange)
+    }
+}
+
 impl World {
+    /// What must be so for a thread that waits to be ready.
+    pub fn need_of(&self, thread: ThreadId) -> Need
+        requires { IsWaitingIn self.now thread }
+        ensures { Vouches self.now thread result }
+    {
+        let Some(need) = self.state.need_of(thread) else {
+            unreachable!()
+        };
+        need
+    }
+
     /// Tells whether some thread is ready.
     pub fn any_ready(&self) -> bool
         ensures { result ≡ any_ready_in self.now }
@@ -42,11 +63,12 @@ impl World {
         self.state.waits.clock()
     }
 
-    /// The earliest time at which a sleeper wakes that isn't ready, or None where there is none.
+    /// The least time of a thread that sleeps, or None where none sleeps: one that is blocked at `sleep` or `waitfor` and isn't
+    /// ready.
     pub fn wake(&self) -> Option<u64>
-        ensures { IsWake self.now.machine result }
+        ensures { IsWake self.now.setting self.now.machine result }
     {
-        self.state.waits.wake()
+        self.state.waits.wake(&self.state.exchange)
     }
 
     /// How many threads live.

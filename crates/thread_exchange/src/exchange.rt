@@ -87,7 +87,7 @@ impl Exchange {
         let _ = &self.caps;
         match block {
             Block::Accept | Block::Sleep { .. } | Block::Yield => None,
-            Block::Wait { channel } => {
+            Block::Wait { channel } | Block::WaitFor { channel, .. } => {
                 if channel < Exchange::CHANNELS {
                     None
                 } else {
@@ -110,11 +110,14 @@ impl Exchange {
             Block::Sleep { ticks } => since + ticks_of(ticks) <= clock,
             Block::Yield => true,
             Block::Take { resource, amount } => self.fits(resource, amount),
+            Block::WaitFor { channel, ticks } => {
+                self.holds_message(channel) || clock >= since + ticks_of(ticks)
+            }
         }
     }
 
-    /// The effect of resuming from a call which was no trap, by a thread that is ready: takes from its queue, or raises a
-    /// use. Answers the call's result, or 0 where it has none.
+    /// The effect of resuming from a call which was no trap, by a thread that is ready: `accept` and `wait` take the oldest
+    /// of their queue, `take` raises a use, `waitfor` takes nothing. Answers the call's result, or 0 where it has none.
     pub fn resume(&mut self, block: Block) -> u32
         requires { MayResume self.old block }
         ensures result_is { result ≡ (row_of self.old block).result }
@@ -131,6 +134,7 @@ impl Exchange {
                 self.uses[resource as usize] += amount;
                 0
             }
+            Block::WaitFor { channel, .. } => u32::from(self.holds_message(channel)),
         }
     }
 

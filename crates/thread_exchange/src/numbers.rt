@@ -8,7 +8,7 @@ pub(crate) fn is_negative(word: u32) -> bool
     word >= 0x8000_0000
 }
 
-/// How many ticks `sleep` waits: none where the word reads as a negative number.
+/// How many ticks `sleep` and `waitfor` wait: none where the word reads as a negative number.
 pub fn ticks_of(word: u32) -> u64
     ensures ticks { result ≡ table.ticks_of word }
     ensures small { result < 2 ^ 31 }

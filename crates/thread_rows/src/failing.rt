@@ -30,21 +30,22 @@ fn serves(
 }
 
 // A run ends with the failure, and what was written is a beginning of the log; where there is no such read or write, the run is
-// as ever.
+// as ever. The log has 632 bytes, which are held to its end: where a read fails, none of them were written.
 #[test]
 fn each_read_and_each_write_fails(rt: HostRuntime) -> Result<(), Fail> {
     // The trace has 78 bytes, which are read one by one, and then its end once.
     for call in 1..=79u64 {
-        assert!(rt; serves(rt.alloc(), call, 0, 1, RunEnd::ReadFault, Share::Beginning)?);
+        assert!(rt; serves(rt.alloc(), call, 0, 1, RunEnd::ReadFault, Share::Nothing)?);
     }
     assert!(rt; serves(rt.alloc(), 80, 0, 1, RunEnd::Idle, Share::Whole)?);
     // In blocks of at most 64 bytes they are two, and then the end.
     for call in 1..=3u64 {
-        assert!(rt; serves(rt.alloc(), call, 0, 64, RunEnd::ReadFault, Share::Beginning)?);
+        assert!(rt; serves(rt.alloc(), call, 0, 64, RunEnd::ReadFault, Share::Nothing)?);
     }
     assert!(rt; serves(rt.alloc(), 4, 0, 64, RunEnd::Idle, Share::Whole)?);
-    // Each of the 39 lines is written by one call.
-    for call in 1..=39u64 {
+    // At the stop they are written in ten pieces of at most 64.
+    assert!(rt; serves(rt.alloc(), 0, 1, 64, RunEnd::WriteFault, Share::Nothing)?);
+    for call in 2..=10u64 {
         assert!(rt;
             serves(
                 rt.alloc(),
@@ -56,6 +57,15 @@ fn each_read_and_each_write_fails(rt: HostRuntime) -> Result<(), Fail> {
             )?
         );
     }
-    assert!(rt; serves(rt.alloc(), 0, 40, 64, RunEnd::Idle, Share::Whole)?);
+    assert!(rt; serves(rt.alloc(), 0, 11, 64, RunEnd::Idle, Share::Whole)?);
+    Ok(())
+}
+
+// The trace gives its bytes one by one, by two, by three and all at once, and the log is the same.
+#[test]
+fn pieces(rt: HostRuntime) -> Result<(), Fail> {
+    for bytes in [1, 2, 3, 100] {
+        assert!(rt; serves(rt.alloc(), 0, 0, bytes, RunEnd::Idle, Share::Whole)?);
+    }
     Ok(())
 }

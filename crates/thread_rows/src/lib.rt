@@ -4,7 +4,8 @@
 // building.rt makes a world of a source. sources.rt has the programs that are driven, turns.rt the calls that run a segment,
 // playing.rt does the steps of a row and compares what each answers, rows.rt and traps.rt are the tables; crowds.rt has as many
 // threads as may live, memory.rt the want of memory. run_sources.rt, logs.rt and run_rows.rt are the sources, logs and tables of
-// whole runs, which runs.rt runs; failing.rt has each read and each write fail in turn. No crate stands on this one: it is apart
+// whole runs, which runs.rt runs; failing.rt has each read and each write fail in turn, and
+// places.rt a stop in a thread whose slot isn't its number. No crate stands on this one: it is apart
 // from the libraries so that they are proved once.
 #![tactic(auto)]
 
@@ -19,6 +20,8 @@ mod logs;
 #[cfg(test)]
 mod memory;
 mod moments;
+#[cfg(test)]
+mod places;
 #[cfg(test)]
 mod playing;
 #[cfg(test)]

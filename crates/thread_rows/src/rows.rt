@@ -7,7 +7,10 @@ use crate::playing::Step::{
 };
 use crate::playing::Told::{Blocked, Ended, Ends, Out, Spawned, Waits};
 use crate::playing::{Step, plays};
-use crate::sources::{FOLLOWING, LISTENING, SERVER, SLEEPERS, SLEEPING, SLEEPING_BACK, TAKING};
+use crate::sources::{
+    FOLLOWING, LISTENING, PEERS, RIVALS, SERVER, SLEEPERS, SLEEPING, SLEEPING_BACK, TAKING,
+    WAITING, WAITING_BACK, WAITING_TWICE,
+};
 use std::alloc::Global;
 use std::test::Fail;
 
@@ -32,7 +35,7 @@ const THREE: Setup = Setup {
 };
 
 // A program, its setup, and the steps with their answers.
-const ROWS: [(&[u8], Setup, &[Step]); 9] = [
+const ROWS: [(&[u8], Setup, &[Step]); 14] = [
     (SERVER, USUAL, SECOND_FIRST),
     (SERVER, USUAL, TAKEN_ON_RESUMING),
     (SERVER, NARROW, FULL_QUEUES),
@@ -40,6 +43,11 @@ const ROWS: [(&[u8], Setup, &[Step]); 9] = [
     (SLEEPING, USUAL, JUST_IN_TIME),
     (SLEEPING_BACK, USUAL, NO_TIME),
     (SLEEPERS, USUAL, SOME_ASLEEP),
+    (WAITING, USUAL, NOBODY_SPOKE),
+    (WAITING_BACK, USUAL, NO_TIME_TO_SPEAK),
+    (WAITING_TWICE, USUAL, MESSAGE_STAYS),
+    (RIVALS, USUAL, TAKEN_BY_ANOTHER),
+    (PEERS, USUAL, SOME_SPOKE),
     (FOLLOWING, USUAL, NEW_NUMBERS),
     (LISTENING, USUAL, LAST_CHANNEL),
 ];
@@ -191,6 +199,115 @@ const SOME_ASLEEP: &[Step] = &[
     Proceed(Ends),
     NoneWakes,
     Live(2),
+];
+
+// Who waits for a message with a time is ready when the clock is its time, and is told that there is none.
+const NOBODY_SPOKE: &[Step] = &[
+    Begin(0, Blocked(0, 15)),
+    Free(1023),
+    Clock(15),
+    IsReady(0, false),
+    AtAccept(0, false),
+    Wakes(0, 50),
+    Send(1, 7, true),
+    IsReady(0, false),
+    Advance(0, 49),
+    IsReady(0, false),
+    AnyReady(false),
+    Wakes(0, 50),
+    Advance(0, 50),
+    Clock(65),
+    IsReady(0, true),
+    AnyReady(true),
+    AnyElsewhere(true),
+    NoneWakes,
+    Begin(0, Out(0)),
+    Proceed(Ended(15)),
+    Free(1024),
+    Live(0),
+];
+
+// A negative number of ticks is over at once.
+const NO_TIME_TO_SPEAK: &[Step] = &[
+    Begin(0, Waits(0)),
+    IsReady(0, true),
+    NoneWakes,
+    Begin(0, Out(0)),
+    Proceed(Ends),
+    Live(0),
+];
+
+// Who is told of a message finds it: nothing was taken.
+const MESSAGE_STAYS: &[Step] = &[
+    Begin(0, Waits(0)),
+    Send(0, 7, true),
+    IsReady(0, true),
+    AnyElsewhere(true),
+    NoneWakes,
+    Begin(0, Out(1)),
+    Proceed(Waits(2)),
+    IsReady(0, true),
+    Begin(0, Out(7)),
+    Proceed(Ends),
+];
+
+// Where another one takes the message first, who was ready by it is so no more, and sleeps until its time.
+const TAKEN_BY_ANOTHER: &[Step] = &[
+    Begin(0, Spawned(1)),
+    Proceed(Spawned(2)),
+    Proceed(Ends),
+    Begin(1, Waits(0)),
+    Begin(2, Waits(2)),
+    AnyReady(false),
+    Wakes(2, 50),
+    Send(0, 7, true),
+    IsReady(1, true),
+    IsReady(2, true),
+    NoneWakes,
+    Begin(1, Out(7)),
+    Proceed(Ends),
+    IsReady(2, false),
+    AnyReady(false),
+    Wakes(2, 50),
+    Advance(2, 49),
+    IsReady(2, false),
+    Advance(2, 50),
+    IsReady(2, true),
+    NoneWakes,
+    Begin(2, Out(0)),
+    Proceed(Ends),
+    Live(0),
+];
+
+// A message wakes all who wait on its channel with a time, and the earliest of the others counts.
+const SOME_SPOKE: &[Step] = &[
+    Begin(0, Spawned(1)),
+    Proceed(Spawned(2)),
+    Proceed(Spawned(3)),
+    Proceed(Ends),
+    Begin(1, Waits(0)),
+    Begin(2, Waits(0)),
+    Begin(3, Waits(0)),
+    Wakes(3, 100),
+    Send(2, 7, true),
+    IsReady(3, true),
+    IsReady(2, false),
+    Wakes(2, 200),
+    Send(1, 8, true),
+    IsReady(1, true),
+    IsReady(2, true),
+    NoneWakes,
+    Begin(1, Out(1)),
+    Proceed(Ends),
+    IsReady(2, true),
+    Begin(2, Out(1)),
+    Proceed(Ends),
+    Advance(3, 100),
+    IsReady(3, true),
+    NoneWakes,
+    Begin(3, Out(1)),
+    Proceed(Ends),
+    Live(0),
 ];
 
 // The number of a thread that has ended is not used again.

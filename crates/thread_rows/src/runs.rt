@@ -30,6 +30,8 @@ pub(crate) enum Share {
     Whole,
     /// A beginning, and not all.
     Beginning,
+    /// None of it.
+    Nothing,
     /// What isn't a beginning.
     Other,
 }
@@ -43,6 +45,8 @@ const LOW: u32 = 700;
 fn share_of(bytes: &[u8], log: &[u8]) -> Share {
     if bytes == log {
         Share::Whole
+    } else if bytes.is_empty() {
+        Share::Nothing
     } else if log.starts_with(bytes) {
         Share::Beginning
     } else {

@@ -17,7 +17,7 @@ const RESOURCE: Told = Stops(Stop::Trap(TrapKind::Resource));
 const CHANNEL: Told = Stops(Stop::Trap(TrapKind::Channel));
 
 // A program with the cap of resource 1, what its first turn tells, and how many of its 4 chunks are free after it.
-const ROWS: [(&[u8], u32, Told, u32); 15] = [
+const ROWS: [(&[u8], u32, Told, u32); 18] = [
     // more than the cap
     (
         b"int main() { take(1, 2); return 0; }",
@@ -54,6 +54,24 @@ const ROWS: [(&[u8], u32, Told, u32); 15] = [
     ),
     (
         b"int main() { int x; x = wait(0); return x; }",
+        1,
+        Waits(0),
+        3,
+    ),
+    (
+        b"int main() { int x; x = waitfor(64, 0); return x; }",
+        1,
+        Cut(Stop::Trap(TrapKind::Channel), 14),
+        3,
+    ),
+    (
+        b"int main() { int x; x = waitfor(0 - 1, 5); return x; }",
+        1,
+        CHANNEL,
+        3,
+    ),
+    (
+        b"int main() { int x; x = waitfor(63, 0 - 1); return x; }",
         1,
         Waits(0),
         3,

@@ -2,8 +2,8 @@
 use Rattle.std.proofs.Common.{◌≡◌, ℕ, ◌<◌, ◌≤◌, List, length, All, ◌∙◌, arith, count_by, slice_index, slice_index_or}
 use Rattle.std.proofs.lemmas.List.Elements.{All-get_or}
 use Rattle.thread_waits.specs.Least.{IsLeast}
-use Rattle.thread_waits.specs.Waiting.{later_wake, latest}
-use Rattle.thread_waits.specs.Counted.{IsCounted, IsTreeOf, is_ready_anyway, no_number}
+use Rattle.thread_waits.specs.Waiting.{latest}
+use Rattle.thread_waits.specs.Counted.{IsCounted, IsTreeOf, is_ready_anyway, no_number, later_wake}
 use Rattle.thread_waits.specs.declared.waits.Waits.TheInside.{Inside}
 use Rattle.thread_waits.proofs.WakeLaws.{any_default}
 

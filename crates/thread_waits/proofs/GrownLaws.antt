@@ -4,8 +4,8 @@ use Rattle.std.proofs.lemmas.List.{get_or_past}
 use Rattle.std.proofs.lemmas.List.Sums.{sum_by-cons}
 use Rattle.std.proofs.lemmas.List.Elements.{All-get_or, All-from_get_or}
 use Rattle.thread_waits.specs.declared.waits.Wait.{Wait}
-use Rattle.thread_waits.specs.Waiting.{IsWaitInRangeIf, is_at_accept, later_wake}
-use Rattle.thread_waits.specs.Counted.{IsCounted, IsTreeOf, IsGrown, no_number, is_ready_anyway, is_at_channel, amount_of}
+use Rattle.thread_waits.specs.Waiting.{IsWaitInRangeIf, is_at_accept}
+use Rattle.thread_waits.specs.Counted.{IsCounted, IsTreeOf, IsGrown, no_number, is_ready_anyway, is_at_channel, amount_of, later_wake}
 use Rattle.thread_waits.specs.declared.waits.Waits.TheInside.{Inside}
 
 -- each place has what it had

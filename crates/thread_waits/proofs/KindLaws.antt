@@ -2,7 +2,7 @@
 use Rattle.std.proofs.Common.{◌≡◌, ℕ, ◌&&◌, ◌||◌, not, Bool, true, false, List, Option, Some, None, refl, ◌∙◌}
 use Rattle.std.specs.List.{list_any}
 use Rattle.cap_word.specs.declared.calls.Block.{Block}
-use Rattle.c_mean.specs.ModelledCalls.{Exchange, holds_some}
+use Rattle.c_mean.specs.ModelledCalls.{Exchange, channel_of, holds_some}
 use Rattle.thread_waits.specs.declared.waits.Wait.{Wait}
 use Rattle.thread_waits.specs.Waiting.{Waiting, is_ready_in, is_at_accept, any_ready_in, any_elsewhere_in}
 use Rattle.thread_waits.specs.Counted.{is_ready_anyway}
@@ -25,6 +25,12 @@ and_true : (a : Bool) → (a && true) ≡ (a || false)
 and_true true = refl
 and_true false = refl
 
+either_way : (h p : Bool) → ((h || p) && true) ≡ (p || (h || false))
+either_way true true = refl
+either_way true false = refl
+either_way false true = refl
+either_way false false = refl
+
 block_elsewhere : (caps : List ℕ) (x : Exchange) (clock since : ℕ) (block : Block) →
     (is_ready_in caps x clock (Some (Wait.At block since)) && not (is_at_accept (Some (Wait.At block since))))
     ≡ (is_ready_anyway clock (Some (Wait.At block since)) || (is_at_message x (Some (Wait.At block since)) || is_taking caps x (Some (Wait.At block since))))
@@ -33,6 +39,7 @@ block_elsewhere caps x clock since (Block.Wait channel) = or_false _ ∙ false_o
 block_elsewhere caps x clock since (Block.Sleep ticks) = and_true _
 block_elsewhere caps x clock since Block.Yield = refl
 block_elsewhere caps x clock since (Block.Take resource amount) = or_false _
+block_elsewhere caps x clock since (Block.WaitFor channel ticks) = either_way (holds_some (channel_of x channel)) _
 
 elsewhere : (caps : List ℕ) (x : Exchange) (clock : ℕ) (wait : Option Wait) →
     (is_ready_in caps x clock wait && not (is_at_accept wait)) ≡ (is_ready_anyway clock wait || (is_at_message x wait || is_taking caps x wait))
@@ -64,6 +71,7 @@ block_ready caps x clock since (Block.Wait channel) = elsewhere_is _
 block_ready caps x clock since (Block.Sleep ticks) = elsewhere_is _
 block_ready caps x clock since Block.Yield = refl
 block_ready caps x clock since (Block.Take resource amount) = elsewhere_is _
+block_ready caps x clock since (Block.WaitFor channel ticks) = elsewhere_is _
 
 ready : (caps : List ℕ) (x : Exchange) (clock : ℕ) (wait : Option Wait) →
     is_ready_in caps x clock wait ≡ ((is_ready_in caps x clock wait && not (is_at_accept wait)) || (is_at_accept wait && holds_some x.arrivals))

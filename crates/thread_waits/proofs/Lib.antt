@@ -9,3 +9,5 @@ pub mod MovingLaws
 pub mod AdvanceLaws
 pub mod NoWakeLaws
 pub mod ReadyLaws
+pub mod SleepLaws
+pub mod NeedBounds

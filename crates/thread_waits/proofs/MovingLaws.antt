@@ -9,8 +9,8 @@ use Rattle.cap_word.specs.declared.calls.Block.{Block}
 use Rattle.c_mean.specs.ModelledCalls.{ticks_of}
 use Rattle.thread_waits.specs.declared.waits.Wait.{Wait}
 use Rattle.thread_waits.specs.Least.{IsLeast}
-use Rattle.thread_waits.specs.Waiting.{IsWaitInRangeIf, later_wake, if_later, latest}
-use Rattle.thread_waits.specs.Counted.{IsTreeOf, is_ready_anyway, no_number, number_or}
+use Rattle.thread_waits.specs.Waiting.{IsWaitInRangeIf, latest}
+use Rattle.thread_waits.specs.Counted.{IsTreeOf, is_ready_anyway, no_number, number_or, later_wake, if_later}
 use Rattle.thread_waits.specs.Moving.{moved, IsMoving, AreMoving}
 use Rattle.thread_waits.proofs.GrownLaws.{past_or_not, holds_at, one_if, count_cons}
 
@@ -120,12 +120,19 @@ asleep from to since ticks h early =
       ready = λ e. later_no to (since + ticks_of ticks) (le_true (since + ticks_of ticks) to e);
     }
 
+-- and of one who waits with a time
+waits_until : (from to since channel ticks : ℕ) → from ≤ to → since ≤ latest → Times from to (Some (Wait.At (Block.WaitFor channel ticks) since))
+waits_until from to since channel ticks h early =
+    let same : Times from to (Some (Wait.At (Block.Sleep ticks) since)) = asleep from to since ticks h early in
+    record { before = same.before; comes = same.comes; stays = same.stays; none = same.none; ready = same.ready }
+
 times_block : (from to since : ℕ) (block : Block) → from ≤ to → since ≤ latest → Times from to (Some (Wait.At block since))
 times_block from to since Block.Accept h e = awake from to (Some (Wait.At Block.Accept since)) false refl refl refl refl
 times_block from to since (Block.Wait channel) h e = awake from to (Some (Wait.At (Block.Wait channel) since)) false refl refl refl refl
 times_block from to since (Block.Sleep ticks) h e = asleep from to since ticks h e
 times_block from to since Block.Yield h e = awake from to (Some (Wait.At Block.Yield since)) true refl refl refl refl
 times_block from to since (Block.Take resource amount) h e = awake from to (Some (Wait.At (Block.Take resource amount) since)) false refl refl refl refl
+times_block from to since (Block.WaitFor channel ticks) h e = waits_until from to since channel ticks h e
 
 times : (from to : ℕ) (wait : Option Wait) → from ≤ to → IsWaitInRangeIf wait → Times from to wait
 times from to None h r = awake from to None false refl refl refl refl

@@ -11,11 +11,11 @@ use Rattle.thread_waits.specs.declared.waits.Wait.{Wait}
 use Rattle.thread_waits.specs.Least.{IsLeast}
 use Rattle.thread_waits.specs.Waiting.{IsWaitInRangeIf}
 use Rattle.thread_waits.specs.Counted.{IsTreeOf, is_at_channel, amount_of, no_number}
-use Rattle.thread_waits.specs.Telling.{is_at_message, is_taker, is_taking, is_unused}
+use Rattle.thread_waits.specs.Telling.{is_at_message, is_taker, is_taking, is_unused, HasPlace}
 use Rattle.thread_waits.proofs.AnyLaws.{any_from_count}
 use Rattle.thread_waits.proofs.GrownLaws.{one_if, holds_at}
 use Rattle.thread_waits.proofs.MovingLaws.{eq_same, le_yes, le_no}
-use Rattle.thread_waits.proofs.WakeLaws.{HasPlace, place_of, no_lesser}
+use Rattle.thread_waits.proofs.WakeLaws.{place_of, no_lesser}
 
 eq_true : (a b : ℕ) → nat_eq a b ≡ true → a ≡ b
 eq_true a b e = grind (arith, nat_tests)
@@ -32,6 +32,7 @@ block_at_message x channel h since (Block.Wait other) e = rw (eq_true other chan
 block_at_message x channel h since (Block.Sleep ticks) e = absurd (cc)
 block_at_message x channel h since Block.Yield e = absurd (cc)
 block_at_message x channel h since (Block.Take resource amount) e = absurd (cc)
+block_at_message x channel h since (Block.WaitFor other ticks) e = rw (eq_true other channel e) h
 
 at_message : (x : Exchange) (channel : ℕ) → holds_some (channel_of x channel) ≡ true → (wait : Option Wait) → is_at_channel channel wait ≡ true → is_at_message x wait ≡ true
 at_message x channel h None e = absurd (cc)
@@ -51,17 +52,19 @@ one_counted p places k h e c =
     let a : one_if (p (slice_index_or places k None)) ≤ count_by p places = get_or-le-sum_by (λ wait. cond (p wait) 1 0) places k None h in
     let b : one_if (p (slice_index_or places k None)) ≡ 1 = ap one_if e in omega arith
 
-idle_wait : (x : Exchange) (places : List (Option Wait)) (k channel since : ℕ) → k < length places → slice_index_or places k None ≡ Some (Wait.At (Block.Wait channel) since) → IsIdle x places channel → holds_some (channel_of x channel) ≡ false
-idle_wait x places k channel since h e (inl none) = absurd (one_counted (is_at_channel channel) places k h (rw e (eq_same channel)) none)
-idle_wait x places k channel since h e (inr idle) = idle
+idle_wait : (x : Exchange) (places : List (Option Wait)) (k channel : ℕ) (wait : Option Wait) → k < length places → slice_index_or places k None ≡ wait → is_at_channel channel wait ≡ true → IsIdle x places channel →
+    holds_some (channel_of x channel) ≡ false
+idle_wait x places k channel wait h e there (inl none) = absurd (one_counted (is_at_channel channel) places k h (rw e there) none)
+idle_wait x places k channel wait h e there (inr idle) = idle
 
 idle_block : (x : Exchange) (places : List (Option Wait)) → ((channel : ℕ) → channel < 64 → IsIdle x places channel) → (k since : ℕ) (block : Block) → k < length places →
     IsWaitInRangeIf (Some (Wait.At block since)) → slice_index_or places k None ≡ Some (Wait.At block since) → is_at_message x (Some (Wait.At block since)) ≡ false
 idle_block x places idle k since Block.Accept h r e = refl
-idle_block x places idle k since (Block.Wait channel) h r e = idle_wait x places k channel since h e (idle channel r.0)
+idle_block x places idle k since (Block.Wait channel) h r e = idle_wait x places k channel (Some (Wait.At (Block.Wait channel) since)) h e (eq_same channel) (idle channel r.0)
 idle_block x places idle k since (Block.Sleep ticks) h r e = refl
 idle_block x places idle k since Block.Yield h r e = refl
 idle_block x places idle k since (Block.Take resource amount) h r e = refl
+idle_block x places idle k since (Block.WaitFor channel ticks) h r e = idle_wait x places k channel (Some (Wait.At (Block.WaitFor channel ticks) since)) h e (eq_same channel) (idle channel r.0)
 
 idle_at : (x : Exchange) (places : List (Option Wait)) → ((channel : ℕ) → channel < 64 → IsIdle x places channel) → (k : ℕ) (wait : Option Wait) → k < length places →
     IsWaitInRangeIf wait → slice_index_or places k None ≡ wait → is_at_message x wait ≡ false
@@ -102,6 +105,7 @@ block_taking caps x r amount since (Block.Wait other) e h = absurd (cc)
 block_taking caps x r amount since (Block.Sleep ticks) e h = absurd (cc)
 block_taking caps x r amount since Block.Yield e h = absurd (cc)
 block_taking caps x r amount since (Block.Take resource taken) e h = taking_by caps x r amount since resource taken e h (eq_cases resource r)
+block_taking caps x r amount since (Block.WaitFor other ticks) e h = absurd (cc)
 
 taking : (caps : List ℕ) (x : Exchange) (r amount : ℕ) (wait : Option Wait) → amount_of r wait ≡ Some amount → nat_le (use_of x r + amount) (cap_of caps r) ≡ true → is_taking caps x wait ≡ true
 taking caps x r amount None e h = absurd (cc)
@@ -137,6 +141,7 @@ free_block caps x since (Block.Wait channel) r h = refl
 free_block caps x since (Block.Sleep ticks) r h = refl
 free_block caps x since Block.Yield r h = refl
 free_block caps x since (Block.Take resource amount) r h = rw (eq_same resource) at (h resource r.0.0 r.0.1)
+free_block caps x since (Block.WaitFor channel ticks) r h = refl
 
 free_wait : (caps : List ℕ) (x : Exchange) (wait : Option Wait) → IsWaitInRangeIf wait → ((r : ℕ) → 1 ≤ r → r < 8 → is_taker caps x r wait ≡ false) → is_taking caps x wait ≡ false
 free_wait caps x None r h = refl

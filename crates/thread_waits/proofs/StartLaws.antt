@@ -4,8 +4,8 @@ use Rattle.std.proofs.lemmas.List.{get_or-replicate}
 use Rattle.std.proofs.lemmas.List.Elements.{All-cons}
 use Rattle.thread_waits.specs.declared.waits.Wait.{Wait}
 use Rattle.thread_waits.specs.declared.waits.Waits.TheInside.{Inside}
-use Rattle.thread_waits.specs.Waiting.{IsWaitInRangeIf, later_wake}
-use Rattle.thread_waits.specs.Counted.{IsCounted, IsTreeOf, no_number, amount_of}
+use Rattle.thread_waits.specs.Waiting.{IsWaitInRangeIf}
+use Rattle.thread_waits.specs.Counted.{IsCounted, IsTreeOf, no_number, amount_of, later_wake}
 
 empty_place : (k : ℕ) → slice_index_or (no_number ∷ []) k no_number ≡ no_number
 empty_place zero = refl

@@ -1,10 +1,11 @@
--- The earliest sleeper has the least number of the tree.
-use Rattle.std.proofs.Common.{◌≡◌, ◌≢◌, ℕ, zero, suc, ◌<◌, ◌≤◌, ◌⊎◌, inl, inr, List, [], ◌∷◌, length, map, Contains, Option, Some, None, refl, sym, ◌∙◌, ap, subst, arith, slice_index_or}
-use Rattle.std.proofs.lemmas.List.{get_or-map, get_or_past, length-map}
+-- The least number of a tree is that of somebody who waits, and nobody waits for a lesser one.
+use Rattle.std.proofs.Common.{◌≡◌, ◌≢◌, ℕ, zero, suc, ◌<◌, ◌≤◌, ◌⊎◌, inl, inr, List, [], ◌∷◌, length, Option, Some, None, refl, sym, ◌∙◌, ap, subst, arith, slice_index_or}
+use Rattle.std.proofs.lemmas.List.{get_or_past}
 use Rattle.std.proofs.lemmas.List.Elements.{All-get_or}
 use Rattle.thread_waits.specs.declared.waits.Wait.{Wait}
 use Rattle.thread_waits.specs.Least.{IsLeast}
 use Rattle.thread_waits.specs.Counted.{IsTreeOf, no_number, number_or}
+use Rattle.thread_waits.specs.Telling.{HasPlace}
 use Rattle.thread_waits.proofs.GrownLaws.{past_or_not}
 
 -- what is read at a place doesn't depend on the default
@@ -13,19 +14,13 @@ any_default [] k d e h = absurd (omega arith)
 any_default (x ∷ xs) zero d e h = refl
 any_default (x ∷ xs) (suc k) d e h = any_default xs k d e (omega arith)
 
-number_is : (o : Option ℕ) (n : ℕ) → number_or o ≡ n → n ≢ no_number → o ≡ Some n
+pub number_is : (o : Option ℕ) (n : ℕ) → number_or o ≡ n → n ≢ no_number → o ≡ Some n
 number_is None n e d = absurd (d (sym e))
 number_is (Some m) n e d = rw e refl
 
 within : (f : Option Wait → Option ℕ) → f None ≡ None → (xs : List (Option Wait)) (k n : ℕ) → f (slice_index_or xs k None) ≡ Some n → (k < length xs) ⊎ (length xs ≤ k) → k < length xs
 within f none xs k n e (inl h) = h
 within f none xs k n e (inr h) = let a : f (slice_index_or xs k None) ≡ None = rw (get_or_past xs k None h) none in absurd (cc)
-
--- a number that is waited for at a place
-pub record HasPlace (f : Option Wait → Option ℕ) (places : List (Option Wait)) (value : ℕ) : Type 0 where
-  pub place : ℕ
-  pub there : place < length places
-  pub number : f (slice_index_or places place None) ≡ Some value
 
 module _ (f : Option Wait → Option ℕ) (none : f None ≡ None) (places : List (Option Wait)) (leaves : List ℕ) (t : IsTreeOf f places leaves) where
   -- the least number stands at a place
@@ -36,22 +31,9 @@ module _ (f : Option Wait → Option ℕ) (none : f None ≡ None) (places : Lis
       let is : f (slice_index_or places k None) ≡ Some least = number_is (f (slice_index_or places k None)) least (sym (t.leaf k) ∙ here) d in
       record { place = k; there = within f none places k least is (past_or_not (length places) k); number = is }
 
-  pub stands : (least : ℕ) → IsLeast leaves least → least ≢ no_number → Contains (map f places) (Some least)
-  stands least l d =
-      let p : HasPlace f places least = place_of least l d in
-      (p.place, rw length-map p.there, get_or-map f places p.place None (Some least) p.there ∙ p.number)
-
   -- who waits for a number waits for no lesser
   pub no_lesser : (least : ℕ) → IsLeast leaves least → (k : ℕ) → k < length places → (number : ℕ) → f (slice_index_or places k None) ≡ Some number → least ≤ number
   no_lesser least l k h number is =
       let fit : length places ≤ length leaves = t.places_fit in
       let leaf : slice_index_or leaves k no_number ≡ number = t.leaf k ∙ ap number_or is in
       subst (λ (x : ℕ). least ≤ x) leaf (All-get_or (λ number. least ≤ number) leaves k no_number (omega arith) l.lowest)
-
-  -- and no place has a lesser
-  pub lowest : (least : ℕ) → IsLeast leaves least → (other : ℕ) → Contains (map f places) (Some other) → least ≤ other
-  lowest least l other c =
-      let k : ℕ = c.0 in
-      let h : k < length places = rw length-map at c.1 in
-      let is : f (slice_index_or places k None) ≡ Some other = sym (get_or-map f places k None (Some other) h) ∙ c.2 in
-      no_lesser least l k h other is

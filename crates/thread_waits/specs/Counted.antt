@@ -1,8 +1,8 @@
 -- What is counted of those who wait.
-use Rattle.std.specs.Prelude.{◌≡◌, ℕ, ◌+◌, ◌-◌, ◌<◌, ◌≤◌, ◌^◌, Bool, true, false, List, [], length, All, Option, Some, None, if◌then◌else◌, nat_eq, nat_le, slice_index, slice_index_or, count_by}
+use Rattle.std.specs.Prelude.{◌≡◌, ℕ, ◌+◌, ◌-◌, ◌<◌, ◌≤◌, ◌^◌, Bool, true, false, List, [], length, All, Option, Some, None, if◌then◌else◌, nat_eq, nat_le, nat_lt, slice_index, slice_index_or, count_by}
 use Rattle.cap_word.specs.declared.calls.Block.{Block}
-use Rattle.c_mean.specs.ModelledCalls.{ticks_of}
-use Rattle.thread_waits.specs.Waiting.{Waiting, is_at_accept, later_wake, IsWaitInRangeIf, latest}
+use Rattle.c_mean.specs.ModelledCalls.{ticks_of, wakes_at}
+use Rattle.thread_waits.specs.Waiting.{Waiting, is_at_accept, IsWaitInRangeIf, latest}
 use Rattle.thread_waits.specs.declared.waits.Wait.{Wait}
 use Rattle.thread_waits.specs.declared.waits.Waits.TheInside.{Inside}
 
@@ -16,11 +16,25 @@ is_block_ready_anyway clock since (Block.Wait channel) = false
 is_block_ready_anyway clock since (Block.Sleep ticks) = nat_le (since + ticks_of ticks) clock
 is_block_ready_anyway clock since Block.Yield = true
 is_block_ready_anyway clock since (Block.Take resource amount) = false
+is_block_ready_anyway clock since (Block.WaitFor channel ticks) = nat_le (since + ticks_of ticks) clock
 
 abbrev pub is_ready_anyway : ℕ → Option Wait → Bool
 is_ready_anyway clock None = false
 is_ready_anyway clock (Some Wait.Fresh) = true
 is_ready_anyway clock (Some (Wait.At block since)) = is_block_ready_anyway clock since block
+
+-- the time after which who waits so is ready whatever they are, if it is still to come
+abbrev pub wake_for : Wait → Option ℕ
+wake_for Wait.Fresh = None
+wake_for (Wait.At block since) = wakes_at since block
+
+abbrev pub if_later : ℕ → Option ℕ → Option ℕ
+if_later clock None = None
+if_later clock (Some time) = if nat_lt clock time then Some time else None
+
+abbrev pub later_wake : ℕ → Option Wait → Option ℕ
+later_wake clock None = None
+later_wake clock (Some wait) = if_later clock (wake_for wait)
 
 abbrev pub is_block_at_channel : ℕ → Block → Bool
 is_block_at_channel channel Block.Accept = false
@@ -28,6 +42,7 @@ is_block_at_channel channel (Block.Wait other) = nat_eq other channel
 is_block_at_channel channel (Block.Sleep ticks) = false
 is_block_at_channel channel Block.Yield = false
 is_block_at_channel channel (Block.Take resource amount) = false
+is_block_at_channel channel (Block.WaitFor other ticks) = nat_eq other channel
 
 abbrev pub is_at_channel : ℕ → Option Wait → Bool
 is_at_channel channel None = false
@@ -49,6 +64,7 @@ block_amount r (Block.Wait other) = None
 block_amount r (Block.Sleep ticks) = None
 block_amount r Block.Yield = None
 block_amount r (Block.Take resource amount) = if nat_eq resource r then Some amount else None
+block_amount r (Block.WaitFor other ticks) = None
 
 abbrev pub amount_of : ℕ → Option Wait → Option ℕ
 amount_of r None = None

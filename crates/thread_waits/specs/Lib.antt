@@ -4,4 +4,5 @@ pub mod Trees
 pub mod Waiting
 pub mod Counted
 pub mod Moving
+pub mod Needs
 pub mod Telling

@@ -1,7 +1,6 @@
 -- What stays while the clock goes on to a time and sleepers whose time has come leave the tree.
 use Rattle.std.specs.Prelude.{◌≡◌, ℕ, ◌+◌, ◌≤◌, ◌&&◌, ◌⊎◌, true, List, [], ◌∷◌, length, cond, Option, None, nat_eq, slice_index_or}
-use Rattle.thread_waits.specs.Counted.{is_ready_anyway, no_number, number_or}
-use Rattle.thread_waits.specs.Waiting.{later_wake}
+use Rattle.thread_waits.specs.Counted.{is_ready_anyway, later_wake, no_number, number_or}
 use Rattle.thread_waits.specs.declared.waits.Wait.{Wait}
 
 -- how many are ready anyway at a time and have no number in the tree

@@ -1,9 +1,9 @@
--- The kinds of readiness, one by one.
-use Rattle.std.specs.Prelude.{ℕ, ◌+◌, Bool, false, List, Option, Some, None, nat_le}
+-- The kinds of readiness, one by one, and the least number of those who wait.
+use Rattle.std.specs.Prelude.{◌≡◌, ◌≢◌, ℕ, ◌+◌, ◌<◌, ◌≤◌, Bool, false, List, length, Option, Some, None, if◌then◌else◌, nat_le, slice_index_or}
 use Rattle.cap_word.specs.declared.calls.Block.{Block}
 use Rattle.c_mean.specs.ModelledCalls.{Exchange, cap_of, use_of, channel_of, holds_some}
 use Rattle.thread_waits.specs.declared.waits.Wait.{Wait}
-use Rattle.thread_waits.specs.Counted.{amount_of}
+use Rattle.thread_waits.specs.Counted.{amount_of, later_wake, no_number, number_or}
 
 -- who waits at a channel that holds a message
 abbrev pub is_block_at_message : Exchange → Block → Bool
@@ -12,6 +12,7 @@ is_block_at_message x (Block.Wait channel) = holds_some (channel_of x channel)
 is_block_at_message x (Block.Sleep ticks) = false
 is_block_at_message x Block.Yield = false
 is_block_at_message x (Block.Take resource amount) = false
+is_block_at_message x (Block.WaitFor channel ticks) = holds_some (channel_of x channel)
 
 abbrev pub is_at_message : Exchange → Option Wait → Bool
 is_at_message x None = false
@@ -33,8 +34,30 @@ is_block_taking caps x (Block.Wait channel) = false
 is_block_taking caps x (Block.Sleep ticks) = false
 is_block_taking caps x Block.Yield = false
 is_block_taking caps x (Block.Take resource amount) = is_unused caps x resource (Some amount)
+is_block_taking caps x (Block.WaitFor channel ticks) = false
 
 abbrev pub is_taking : List ℕ → Exchange → Option Wait → Bool
 is_taking caps x None = false
 is_taking caps x (Some Wait.Fresh) = false
 is_taking caps x (Some (Wait.At block since)) = is_block_taking caps x block
+
+-- ---- who sleeps
+
+-- the time that is still to come of who waits so, unless a message has come to his channel
+abbrev pub silent_wake : Exchange → ℕ → Option Wait → Option ℕ
+silent_wake x clock wait = if is_at_message x wait then None else later_wake clock wait
+
+-- a number that is waited for at a place
+pub record HasPlace (f : Option Wait → Option ℕ) (places : List (Option Wait)) (value : ℕ) : Type 0 where
+  pub place : ℕ
+  pub there : place < length places
+  pub number : f (slice_index_or places place None) ≡ Some value
+
+-- the least of the numbers that are waited for at the first so many places, or that of none, which is no such number
+pub record IsLeastOfFirst (f : Option Wait → Option ℕ) (places : List (Option Wait)) (count least : ℕ) : Type 0 where
+  pub numbers : (k : ℕ) → k < count → (n : ℕ) → f (slice_index_or places k None) ≡ Some n → n < no_number
+  pub lowest : (k : ℕ) → k < count → least ≤ number_or (f (slice_index_or places k None))
+  pub stands : least ≢ no_number → HasPlace f places least
+
+abbrev pub IsLeastNumber : (Option Wait → Option ℕ) → List (Option Wait) → ℕ → Type 0
+IsLeastNumber f places least = IsLeastOfFirst f places (length places) least

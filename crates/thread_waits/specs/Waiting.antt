@@ -1,8 +1,8 @@
 -- Who waits for what, by place, and which of those who wait are ready.
-use Rattle.std.specs.Prelude.{◌≡◌, ℕ, ◌+◌, ◌<◌, ◌≤◌, ◌^◌, ◌&&◌, Bool, true, false, not, List, map, All, Contains, Option, Some, None, if◌then◌else◌, nat_lt, slice_index_or}
+use Rattle.std.specs.Prelude.{◌≡◌, ℕ, ◌+◌, ◌<◌, ◌≤◌, ◌^◌, ◌&&◌, Bool, true, false, not, List, map, All, Contains, Option, Some, None, slice_index_or}
 use Rattle.std.specs.List.{list_any}
 use Rattle.cap_word.specs.declared.calls.Block.{Block}
-use Rattle.c_mean.specs.ModelledCalls.{Exchange, is_ready, wakes_at}
+use Rattle.c_mean.specs.ModelledCalls.{Exchange, is_ready, sleeps_until}
 use Rattle.thread_waits.specs.declared.waits.Wait.{Wait}
 
 -- what is waited for at each place, nothing at a place where nobody waits, and the clock
@@ -27,6 +27,7 @@ is_at_accept_block (Block.Wait channel) = false
 is_at_accept_block (Block.Sleep ticks) = false
 is_at_accept_block Block.Yield = false
 is_at_accept_block (Block.Take resource amount) = false
+is_at_accept_block (Block.WaitFor channel ticks) = false
 
 abbrev pub is_at_accept_for : Wait → Bool
 is_at_accept_for Wait.Fresh = false
@@ -50,26 +51,22 @@ any_elsewhere_in caps x w = list_any (λ wait. is_ready_in caps x w.clock wait &
 
 -- ---- sleepers
 
-abbrev pub wake_for : Wait → Option ℕ
-wake_for Wait.Fresh = None
-wake_for (Wait.At block since) = wakes_at since block
+-- the clock until which who waits so sleeps, where the caps, the queues and uses and the clock are these
+abbrev pub sleeps_for : List ℕ → Exchange → ℕ → Wait → Option ℕ
+sleeps_for caps x clock Wait.Fresh = None
+sleeps_for caps x clock (Wait.At block since) = sleeps_until caps x clock since block
 
--- the time, if it is still to come
-abbrev pub if_later : ℕ → Option ℕ → Option ℕ
-if_later clock None = None
-if_later clock (Some time) = if nat_lt clock time then Some time else None
+-- nobody sleeps where nobody waits
+abbrev pub sleeps_in : List ℕ → Exchange → ℕ → Option Wait → Option ℕ
+sleeps_in caps x clock None = None
+sleeps_in caps x clock (Some wait) = sleeps_for caps x clock wait
 
--- when who sleeps there wakes, if the time is still to come
-abbrev pub later_wake : ℕ → Option Wait → Option ℕ
-later_wake clock None = None
-later_wake clock (Some wait) = if_later clock (wake_for wait)
-
--- the earliest time at which somebody wakes that sleeps and isn't ready, if there is one
-abbrev pub IsWake : Waiting → Option ℕ → Type 0
-IsWake w None = All (λ wait. later_wake w.clock wait ≡ None) w.places
-IsWake w (Some time) =
-    Contains (map (later_wake w.clock) w.places) (Some time)
-    × ((other : ℕ) → Contains (map (later_wake w.clock) w.places) (Some other) → time ≤ other)
+-- the least time until which somebody sleeps; none exactly where nobody sleeps
+abbrev pub IsWake : List ℕ → Exchange → Waiting → Option ℕ → Type 0
+IsWake caps x w None = All (λ wait. sleeps_in caps x w.clock wait ≡ None) w.places
+IsWake caps x w (Some time) =
+    Contains (map (sleeps_in caps x w.clock) w.places) (Some time)
+    × ((other : ℕ) → Contains (map (sleeps_in caps x w.clock) w.places) (Some other) → time ≤ other)
 
 -- ---- who may wait
 
@@ -80,6 +77,7 @@ IsBlockInRange (Block.Wait channel) = channel < 64
 IsBlockInRange (Block.Sleep ticks) = Unit {0}
 IsBlockInRange Block.Yield = Unit {0}
 IsBlockInRange (Block.Take resource amount) = (1 ≤ resource) × (resource < 8)
+IsBlockInRange (Block.WaitFor channel ticks) = channel < 64
 
 abbrev pub latest : ℕ
 latest = 2 ^ 63 + 2 ^ 32

@@ -1,8 +1,9 @@
 ghost use Rattle.std.specs.Prelude.{◌≡◌};
 ghost use Rattle.std.specs.List.{list_any};
-ghost use Rattle.thread_waits.specs.Telling.{is_at_message, is_taking};
+ghost use Rattle.thread_waits.specs.Telling.{is_at_message, is_taking, silent_wake, IsLeastNumber};
 ghost use Rattle.thread_waits.specs.Waiting.{any_ready_in, any_elsewhere_in, IsWake};
 
+use crate::kinds::sleep_number;
 use crate::min_tree::MinTree;
 use crate::waits::Waits;
 use thread_exchange::Exchange;
@@ -34,16 +35,41 @@ impl Waits {
         self.any_at_resource(exchange)
     }
 
-    /// The earliest time at which somebody wakes who sleeps and isn't ready, or None where there is nobody.
-    pub fn wake(&self) -> Option<u64>
-        ensures { IsWake self.now result }
+    /// The least time until which somebody sleeps, or None where nobody sleeps. Who is ready doesn't sleep. Where no message
+    /// waits for anybody it takes a few steps, or else as many as there are places.
+    pub fn wake(&self, exchange: &Exchange) -> Option<u64>
+        ensures { IsWake exchange.now.caps exchange.now.exchange self.now result }
     {
-        let time = self.sleepers.least();
+        let time = self.least_time(exchange);
         if time < MinTree::NONE {
             Some(time)
         } else {
             None
         }
+    }
+
+    // The least time to come of those for whom no message waits, or no number.
+    fn least_time(&self, exchange: &Exchange) -> u64
+        ensures { IsLeastNumber (silent_wake exchange.now.exchange self.now.clock) self.now.places result }
+    {
+        let messages = self.any_at_channel(exchange);
+        if messages {
+            self.least_asleep(exchange)
+        } else {
+            self.sleepers.least()
+        }
+    }
+
+    // The same, looked for at each place: some whose times are in the tree are ready by a message.
+    fn least_asleep(&self, exchange: &Exchange) -> u64
+        ensures { IsLeastNumber (silent_wake exchange.now.exchange self.now.clock) self.now.places result }
+    {
+        let mut least = MinTree::NONE;
+        for place in 0..self.places.len() {
+            let wait = self.at(place);
+            least = least.min(sleep_number(exchange, self.clock, wait));
+        }
+        least
     }
 
     // Whether a message waits in a channel at which somebody waits.

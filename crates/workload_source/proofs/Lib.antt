@@ -1,10 +1,10 @@
-mod Items
+pub mod Items
 mod Lexed
 mod Marks
-mod Pieces
+pub mod Pieces
 pub mod Reading
-mod Resolved
-mod Scopes
+pub mod Resolved
+pub mod Scopes
 mod Spelling
 mod Trees
 mod Within

@@ -170,7 +170,7 @@ chain_length : (defs : List Binding) (m : ℕ) → length (chain_trees defs m) �
 chain_length defs zero = refl
 chain_length defs (suc m) = omega (arith, chain_length defs m, length-append (chain_trees defs m) (link_tree (suc m) (chain_site m) (function_of (find (chain_name m) defs)) ∷ []))
 
-main_length : (defs : List Binding) (n : ℕ) → length (main_trees defs n) ≡ n + 3
+pub main_length : (defs : List Binding) (n : ℕ) → length (main_trees defs n) ≡ n + 3
 main_length defs n =
     omega (
       arith,
@@ -196,3 +196,7 @@ program_resolved n high = record {
   limits = program_limits n high;
   tree = refl;
 }
+
+-- the functions of the program
+pub program_functions : (n : ℕ) → (program_of (program_items n)).functions ≡ main_trees (definitions (program_items n)) n
+program_functions n = ap (λ w. w.functions) (program_after (definitions (program_items n)) n)

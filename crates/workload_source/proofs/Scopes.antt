@@ -35,7 +35,7 @@ main_names defs n = defined defs (codes "main") true 0 ∷ worker_names defs n
 
 -- what the items so far make
 abbrev pub sofar : List Binding → ℕ → List FunctionTree → Sofar
-sofar names site functions = record { spot = record { names = names; outer = 9; sizes = []; site = site }; globals = []; tables = []; functions = functions }
+sofar names site functions = record { spot = record { names = names; outer = length modelled_names; sizes = []; site = site }; globals = []; tables = []; functions = functions }
 
 -- the functions that the lines are, where a call is at site k and calls function f
 abbrev pub first_tree : FunctionTree
@@ -151,7 +151,7 @@ pub record HasNames (defs names : List Binding) (n : ℕ) : Type 0 where
   pub accept : find (codes "accept") names ≡ Some (modelled_found 0 ModelledCall.Accept)
   pub wait : find (codes "wait") names ≡ Some (modelled_found 1 ModelledCall.Wait)
   pub put : find (codes "put") names ≡ Some (modelled_found 5 ModelledCall.Put)
-  pub spawn : find (codes "spawn") names ≡ Some (record { position = 8; meaning = Meaning.Spawn })
+  pub spawn : find (codes "spawn") names ≡ Some (record { position = 9; meaning = Meaning.Spawn })
   pub chain : find (chain_name n) names ≡ Some (chain_found defs n position)
 
 pub has_names : (defs : List Binding) (n : ℕ) → HasNames defs (chain_names defs n) n

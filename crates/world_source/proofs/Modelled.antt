@@ -12,6 +12,7 @@ block_gives (Block.Wait channel) = true
 block_gives (Block.Sleep ticks) = false
 block_gives Block.Yield = false
 block_gives (Block.Take resource amount) = false
+block_gives (Block.WaitFor channel ticks) = true
 
 abbrev pub ask_gives : Ask → Bool
 ask_gives (Ask.Put value) = false
@@ -35,7 +36,7 @@ by_number n k call other h rest = cond_both (nat_eq n k) (Some call) other (IsCa
 call_known : (n : ℕ) (words : List ℕ) → IsCallIf n (call_of n words)
 call_known n [] = by_number n 6 (Immediate Ask.SelfNumber) _ refl (λ a. by_number n 16 (Blocking Block.Accept) _ refl (λ b. by_number n 19 (Blocking Block.Yield) None refl (λ c. tt)))
 call_known n (a ∷ []) = by_number n 3 (Immediate (Ask.Put a)) _ refl (λ b. by_number n 17 (Blocking (Block.Wait a)) _ refl (λ c. by_number n 18 (Blocking (Block.Sleep a)) None refl (λ d. tt)))
-call_known n (a ∷ b ∷ []) = by_number n 5 (Immediate (Ask.Give a b)) _ refl (λ c. by_number n 20 (Blocking (Block.Take a b)) None refl (λ d. tt))
+call_known n (a ∷ b ∷ []) = by_number n 5 (Immediate (Ask.Give a b)) _ refl (λ c. by_number n 20 (Blocking (Block.Take a b)) _ refl (λ d. by_number n 21 (Blocking (Block.WaitFor a b)) None refl (λ e. tt)))
 call_known n (a ∷ b ∷ c ∷ rest) = tt
 
 pub call_is : (n : ℕ) (words : List ℕ) (call : Call) → call_of n words ≡ Some call → IsCallOf n call

@@ -106,6 +106,7 @@ block_result n result (Block.Wait channel) gives does = refl
 block_result n result (Block.Sleep ticks) gives does = absurd (let no : true ≡ false = sym does ∙ gives in cc)
 block_result n result Block.Yield gives does = absurd (let no : true ≡ false = sym does ∙ gives in cc)
 block_result n result (Block.Take resource amount) gives does = absurd (let no : true ≡ false = sym does ∙ gives in cc)
+block_result n result (Block.WaitFor channel ticks) gives does = refl
 
 start_may : (c : Checked) (program : ProgramTree) (pool : Pool) (core : Core) (rests : IsResting c pool core) (frame : Rattle.c_mean.specs.Frames.Frame) (below : List Rattle.c_mean.specs.Frames.WaitingFrame) → StandsFor c program pool core rests (Starts frame below) → MayRun c pool core rests
 start_may c program pool core (AtStart f frames in_place) frame below h = tt

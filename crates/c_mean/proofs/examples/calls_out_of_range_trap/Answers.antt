@@ -13,3 +13,7 @@ returns-clause-given c = (9, refl)
 pub returns-clause-waited : goal.returns-clause-waited
 unfolding signed word_of floor_div flag add sub mul div rem sll sra
 returns-clause-waited c = (9, refl)
+
+pub returns-clause-waited_for : goal.returns-clause-waited_for
+unfolding signed word_of floor_div flag add sub mul div rem sll sra
+returns-clause-waited_for c = (9, refl)

@@ -18,5 +18,5 @@ returns-in-Err g c =
     let texts = map (λ word. string_bytes word) c.args.words.now.items in
     record {
       answer = told-stop (IsDue texts) _ _ c.in-Err.stop c.put-in-Err.new.place _ _ _ _ _ (λ given h. exact texts _ _ given h) c.in-Err.ensures c.put-in-Err.ensures c.finish.ensures;
-      good = good-without _ _ c.put-in-Err.new.place _ c.put-in-Err.ensures;
+      good = good-without texts _ _ c.put-in-Err.new.place _ c.put-in-Err.ensures;
     }

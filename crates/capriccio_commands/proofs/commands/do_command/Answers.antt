@@ -1,4 +1,4 @@
-use Rattle.std.proofs.Common.{Err, refl, sym, subst}
+use Rattle.std.proofs.Common.{sym, subst}
 use Rattle.codegen_link.specs.declared.options.Options.{Options}
 use Rattle.command_words.specs.declared.commands.Command.{Command}
 use Rattle.command_words.specs.WordList.{request_of}
@@ -8,9 +8,6 @@ use Rattle.capriccio_commands.specs.Due.{Does, sizes_of}
 use Rattle.capriccio_commands.specs.Graphs.{Graphs}
 use Rattle.capriccio_commands.specs.Runs.{Serves}
 use Rattle.command_outcomes.specs.Steps.{EndsAs}
-use Rattle.command_outcomes.specs.declared.stops.Cause.TheVariants.{NotBuilt}
-use Rattle.command_outcomes.specs.declared.stops.Stop.TheVariants.{Refused}
-use Rattle.command_outcomes.proofs.Ending.{refused-at-once}
 use Rattle.capriccio_commands.proofs.Options.{build-sizes, serve-sizes, serve-policy, serve-pool, run-policy}
 use Rattle.capriccio_commands.proofs.commands.do_command.Goals as goal
 
@@ -85,9 +82,20 @@ returns-in-Build g c =
     let done : P (sizes_of c.in-Build.placement) = subst P c.options_of-in-Build.ensures (c.build.ensures before.left before.reads) in
     subst Q (sym c.in-Build.is) done
 
+pub demo-requires-clause-some : goal.demo-requires-clause-some
+demo-requires-clause-some g c =
+    let asked = rw c.in-Demo.is at c.requires.1 in
+    asked.2
+
+pub demo-requires-clause-few : goal.demo-requires-clause-few
+demo-requires-clause-few g c =
+    let asked = rw c.in-Demo.is at c.requires.1 in
+    asked.3
+
 pub returns-in-Demo : goal.returns-in-Demo
 returns-in-Demo g c =
     let F = g.F.Shelf in let S = g.S.Source in let K = g.K.Sink in let a = c.args in
     let before : Outside = record { files = F.files a.shelf.now; loads = F.load_faults a.shelf.now; stores = F.store_faults a.shelf.now; left = S.left a.trace.now; reads = S.faults a.trace.now; taken = K.taken a.out.now; writes = K.faults a.out.now } in
-    let Q : Command → Type 0 = λ x. EndsAs (Does (request_of x) before) before before (Err (Refused NotBuilt)) in
-    subst Q (sym c.in-Demo.is) (refused-at-once (Does (request_of (Command.Demo c.in-Demo.number)) before) before NotBuilt refl)
+    let after : Outside = record { files = F.files a.shelf.now; loads = F.load_faults a.shelf.now; stores = F.store_faults a.shelf.now; left = S.left a.trace.now; reads = S.faults a.trace.now; taken = K.taken c.demo.new.out; writes = K.faults c.demo.new.out } in
+    let Q : Command → Type 0 = λ x. EndsAs (Does (request_of x) before) before after c.demo.result in
+    subst Q (sym c.in-Demo.is) (c.demo.ensures before.files before.loads before.stores before.left before.reads)

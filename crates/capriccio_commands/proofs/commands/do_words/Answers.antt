@@ -1,8 +1,9 @@
-use Rattle.std.proofs.Common.{inl, inr, refl, ap, subst, map, Err}
+use Rattle.std.proofs.Common.{inl, inr, refl, ap, map, Err}
 use Rattle.std.specs.String.{string_bytes}
 use Rattle.command_words.specs.WordList.{request_of}
 use Rattle.command_words.specs.declared.commands.WordsError.{WordsError}
-use Rattle.capriccio_commands.specs.Due.{Does, IsDue, IsUnlisted}
+use Rattle.command_outcomes.specs.declared.stops.Cause.TheVariants.{Usage}
+use Rattle.capriccio_commands.specs.Due.{Does, IsDue}
 use Rattle.command_outcomes.specs.Done.{Outside}
 use Rattle.command_outcomes.proofs.Ending.{ends-follow, refused-at-once, memory-at-once}
 use Rattle.capriccio_commands.proofs.commands.do_words.Goals as goal
@@ -24,8 +25,7 @@ returns-in-Err-NotWords g c =
     let a = c.args in
     let before : Outside = record { files = F.files a.shelf.now; loads = F.load_faults a.shelf.now; stores = F.store_faults a.shelf.now; left = S.left a.trace.now; reads = S.faults a.trace.now; taken = K.taken a.out.now; writes = K.faults a.out.now } in
     let none = c.in-Err-NotWords.ensures.refused (ap (λ (e : WordsError). Err e) c.in-Err-NotWords.field-0-is) in
-    let why = subst (λ items. IsUnlisted (map (λ word. string_bytes word) items) c.unlisted.result) c.as_slice.ensures.value c.unlisted.ensures in
-    refused-at-once (IsDue (map (λ word. string_bytes word) a.words.now.items) before) before c.unlisted.result (inr (none, c.unlisted.result, why, refl))
+    refused-at-once (IsDue (map (λ word. string_bytes word) a.words.now.items) before) before Usage (inr (none, refl))
 
 pub returns-in-Err-Memory : goal.returns-in-Err-Memory
 returns-in-Err-Memory g c =

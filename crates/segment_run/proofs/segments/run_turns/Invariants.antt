@@ -1,6 +1,5 @@
 use Rattle.segment_run.specs.Contexts.{checked_of, code_of}
-use Rattle.segment_run.specs.Turns.{thread_of}
-use Rattle.segment_run.proofs.UnderWay.{IsUnderWay}
+use Rattle.segment_run.specs.Turns.{thread_of, IsUnderWay}
 use Rattle.segment_run.proofs.segments.run_turns.Given as goal
 
 abbrev pub invariant-loop-fuel : goal.invariant-loop-fuel

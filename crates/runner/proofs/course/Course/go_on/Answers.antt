@@ -2,6 +2,7 @@ use Rattle.std.proofs.Common.{◌≡◌, ◌∙◌, false, Option, sym, subst, a
 use Rattle.event_trace.specs.declared.events.Event.{Event}
 use Rattle.std.proofs.lemmas.Result.{err_from_is_err_and}
 use Rattle.choice_rules.specs.Clock.{is_due}
+use Rattle.runner.specs.Output.{output_of}
 use Rattle.runner.specs.Stands.{IsAtChoice, IsAtPoint}
 use Rattle.runner.specs.Steps.{StepEnds}
 use Rattle.runner.proofs.Pointed.{not_due_none, not_due_event, waited}
@@ -16,7 +17,7 @@ returns-in_err-choose-clause-ends g c = λ s state left at.
     ] in
     let choice : IsAtChoice s state c.args.self.now c.args.world.now left c.args.next = record { point = at; not_due = not_due; ready = sym c.any_ready.ensures ∙ c.if-any_ready.true } in
     let p = err_from_is_err_and c.from_residual-in_err-choose.result c.from_residual-in_err-choose.ensures.1 in
-    subst (λ r. StepEnds s state left c.choose.new.self c.choose.new.world left (g.K.Sink.taken c.args.out.now) (g.K.Sink.taken c.choose.new.out) r) (sym p.1) (c.in_err-choose.ensures.ends s state left c.args.next choice)
+    subst (λ r. StepEnds s state left c.choose.new.self c.choose.new.world left (output_of c.args.writer.now (g.K.Sink.taken c.args.out.now)) (output_of c.choose.new.writer (g.K.Sink.taken c.choose.new.out)) r) (sym p.1) (c.in_err-choose.ensures.ends s state left c.args.next choice)
 
 pub returns-then-any_ready-clause-ends : goal.returns-then-any_ready-clause-ends
 returns-then-any_ready-clause-ends g c = λ s state left at.
@@ -31,4 +32,4 @@ pub returns-clause-ends : goal.returns-clause-ends
 returns-clause-ends g c = λ s state left at.
     let same : c.match-next.next ≡ c.args.next = elim c.match-next.branch [ in-Some+else-event-clock w ↦ w.next-is ∙ sym w.in-Some.is | in_default w ↦ w.next-is ] in
     let here = subst (λ (o : Option Event). IsAtPoint s state c.args.self.now c.args.world.now left o) (sym same) at in
-    waited s state c.args.self.now c.args.world.now left c.match-next.next here c.wait.new.world c.wait.result (g.K.Sink.taken c.args.out.now) (c.wait.ensures.ends s state c.args.self.now left here)
+    waited s state c.args.self.now c.args.world.now left c.match-next.next here c.wait.new.world c.wait.result (output_of c.args.writer.now (g.K.Sink.taken c.args.out.now)) (c.wait.ensures.ends s state c.args.self.now left here)

@@ -2,6 +2,7 @@ use Rattle.std.proofs.Common.{◌≡◌, ◌∙◌, List, None, Option, Err, len
 use Rattle.std.proofs.lemmas.List.{nil_from_length}
 use Rattle.std.proofs.lemmas.Result.{err_from_is_err_and}
 use Rattle.machine_world.specs.Threads.{Thread}
+use Rattle.runner.specs.Output.{output_of}
 use Rattle.runner.specs.declared.ends.Failure.{Failure}
 use Rattle.runner.specs.declared.ends.Halt.{Halt}
 use Rattle.runner.specs.Counts.{CountsStep}
@@ -15,7 +16,7 @@ use Rattle.runner.proofs.course.Course.point.Goals as goal
 
 pub returns-then-live-eq0-clause-ends : goal.returns-then-live-eq0-clause-ends
 returns-then-live-eq0-clause-ends g c = λ s state left knows stands.
-    (left, knows, done_halts s state c.args.self.now c.args.world.now left stands (g.K.Sink.taken c.args.out.now) (nil_from_length c.args.world.now.machine.threads (sym c.live.ensures ∙ c.if-live-eq0.true)))
+    (left, knows, done_halts s state c.args.self.now c.args.world.now left stands (output_of c.args.writer.now (g.K.Sink.taken c.args.out.now)) (nil_from_length c.args.world.now.machine.threads (sym c.live.ensures ∙ c.if-live-eq0.true)))
 
 pub returns-then-live-eq0-clause-counts : goal.returns-then-live-eq0-clause-counts
 returns-then-live-eq0-clause-counts g c = (refl, refl)
@@ -29,7 +30,7 @@ look-requires g c = record { unrefused = unrefused c.args.self.now c.args.world.
 pub returns-in_err-line-clause-ends : goal.returns-in_err-line-clause-ends
 returns-in_err-line-clause-ends g c = λ s state left knows stands.
     let p = err_from_is_err_and c.from_residual.result c.from_residual.ensures.1 in
-    (None, tt, subst (λ r. StepEnds s state left c.look.new.self c.args.world.now None (g.K.Sink.taken c.args.out.now) (g.K.Sink.taken c.args.out.now) r) (sym p.1) (read_fails s state c.args.self.now c.args.world.now left stands (g.K.Sink.taken c.args.out.now)))
+    (None, tt, subst (λ r. StepEnds s state left c.look.new.self c.args.world.now None (output_of c.args.writer.now (g.K.Sink.taken c.args.out.now)) (output_of c.args.writer.now (g.K.Sink.taken c.args.out.now)) r) (sym p.1) (read_fails s state c.args.self.now c.args.world.now left stands (output_of c.args.writer.now (g.K.Sink.taken c.args.out.now)) (c.in_err-line.ensures.looks s state c.args.world.now left knows stands).1))
 
 pub returns-in_err-line-clause-counts : goal.returns-in_err-line-clause-counts
 returns-in_err-line-clause-counts g c =
@@ -47,8 +48,8 @@ returns-in_err-line-clause-falls g c =
 pub returns-in_err-line-clause-keeps : goal.returns-in_err-line-clause-keeps
 returns-in_err-line-clause-keeps g c = keeps_same c.args.world.now
 
-pub go_on-requires : goal.go_on-requires
-go_on-requires g c =
+pub go_on-requires-clause-stands : goal.go_on-requires-clause-stands
+go_on-requires-clause-stands g c =
     let p = c.requires.stands in
     let stands = forget p.0 p.1 c.args.self.now c.args.world.now p.2 (to_between p.0 p.1 c.args.self.now c.args.world.now p.2 c.requires.between p.3) in
     let sees = rw c.in-Comes.is at (c.in_ok-line.ensures.looks p.0 p.1 c.args.world.now None tt stands) in (
@@ -63,7 +64,7 @@ returns-in-Refused-clause-ends g c = λ s state left knows stands.
     let refuses = rw c.in-Refused.is at (c.in_ok-line.ensures.looks s state c.args.world.now left knows stands) in (
       None,
       tt,
-      refused_halts s state c.args.self.now c.args.world.now left stands c.look.new.self _ (g.K.Sink.taken c.args.out.now) (ap (λ (k : Kept). k.graph) c.look.ensures.rest)
+      refused_halts s state c.args.self.now c.args.world.now left stands c.look.new.self _ (output_of c.args.writer.now (g.K.Sink.taken c.args.out.now)) (ap (λ (k : Kept). k.graph) c.look.ensures.rest)
           (λ e. c.if-live-eq0.false (c.live.ensures ∙ ap (λ (l : List Thread). length l) e)) refuses,
     )
 
@@ -79,7 +80,7 @@ returns-in-Comes-clause-ends g c = λ s state left knows stands.
     let at = at_point s state left c.look.new.self c.args.world.now _ _ sees (ap (λ (k : Kept). k.under) c.look.ensures.rest ∙ c.requires.between) (λ e. c.if-live-eq0.false (c.live.ensures ∙ ap (λ (l : List Thread). length l) e)) in (
       sees.left,
       sees.knows,
-      from_before s state left sees.left c.go_on.new.self c.go_on.new.world sees.left (g.K.Sink.taken c.args.out.now) (g.K.Sink.taken c.go_on.new.out) c.go_on.result sees.still_told (c.go_on.ensures.ends s state sees.left at),
+      from_before s state left sees.left c.go_on.new.self c.go_on.new.world sees.left (output_of c.args.writer.now (g.K.Sink.taken c.args.out.now)) (output_of c.go_on.new.writer (g.K.Sink.taken c.go_on.new.out)) c.go_on.result sees.still_told (c.go_on.ensures.ends s state sees.left at),
     )
 
 pub returns-in-Comes-clause-counts : goal.returns-in-Comes-clause-counts

@@ -2,6 +2,7 @@ use Rattle.std.proofs.Common.{sym, subst}
 use Rattle.runner.specs.Kept.{Kept}
 use Rattle.runner.specs.Stands.{StandsInside}
 use Rattle.runner.proofs.Acting.{turn_acts}
+use Rattle.runner.proofs.Parts.{ticks_within}
 use Rattle.runner.specs.Ranks.{under_rank}
 use Rattle.runner.proofs.Proceeding.{proceeded, proceeded_falls}
 use Rattle.runner.proofs.course.Course.proceed.Goals as goal
@@ -10,6 +11,12 @@ pub returns-clause-goes_on : goal.returns-clause-goes_on
 returns-clause-goes_on g c = λ s state left inside.
     let is = subst (λ (k : Kept). StandsInside s state k c.args.world.now left c.args.under.choice c.args.under.before) (sym c.self.view_is) inside in
     proceeded s state _ c.args.world.now c.proceed-turn.new.self left c.args.under.choice c.args.under.before c.proceed-turn.result is c.proceed-turn.ensures.setting c.proceed-turn.ensures.places (c.proceed-turn.ensures.proceeds inside.going)
+
+pub returns-clause-ticks : goal.returns-clause-ticks
+returns-clause-ticks g c = λ s state left inside.
+    let is = subst (λ (k : Kept). StandsInside s state k c.args.world.now left c.args.under.choice c.args.under.before) (sym c.self.view_is) inside in
+    let within = proceeded s state _ c.args.world.now c.proceed-turn.new.self left c.args.under.choice c.args.under.before c.proceed-turn.result is c.proceed-turn.ensures.setting c.proceed-turn.ensures.places (c.proceed-turn.ensures.proceeds inside.going) in
+    ticks_within s state _ c.proceed-turn.new.self left _ within
 
 pub returns-clause-acts : goal.returns-clause-acts
 returns-clause-acts g c = λ going.

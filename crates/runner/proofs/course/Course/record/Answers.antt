@@ -23,7 +23,7 @@ note-requires-clause-range g c =
 pub returns-in_err-note-clause-err : goal.returns-in_err-note-clause-err
 returns-in_err-note-clause-err g c =
     let p = err_from_is_err_and c.from_residual.result c.from_residual.ensures.1 in
-    let with_graph : GraphState → Kept = λ graph. record { scheduler = c.self.inside.scheduler; graph = graph; monitor = c.self.inside.monitor; reader = c.self.inside.reader; next = c.self.inside.next; under = c.self.inside.under } in
+    let with_graph : GraphState → Kept = λ graph. record { rule = c.self.inside.rule; graph = graph; monitor = c.self.inside.monitor; reader = c.self.inside.reader; next = c.self.inside.next; under = c.self.inside.under } in
     subst (λ r. IfErr r (λ failure. (failure ≡ Failure.Memory) × (with_graph c.note.new.self ≡ c.args.self.now))) (sym p.1) (p.2, ap with_graph c.in_err-note.ensures.err ∙ c.self.view_is)
 
 pub returns-clause-ok : goal.returns-clause-ok
@@ -31,7 +31,7 @@ returns-clause-ok g c =
     let eight : length c.changes-change.result ≡ 8 = search rules in
     let before_eight : length c.args.under.before ≡ 8 = search rules in
     let after_eight : length c.uses_of-after.result ≡ 8 = search rules in
-    let with_graph : GraphState → Kept = λ graph. record { scheduler = c.self.inside.scheduler; graph = graph; monitor = c.self.inside.monitor; reader = c.self.inside.reader; next = c.self.inside.next; under = c.self.inside.under } in
+    let with_graph : GraphState → Kept = λ graph. record { rule = c.self.inside.rule; graph = graph; monitor = c.self.inside.monitor; reader = c.self.inside.reader; next = c.self.inside.next; under = c.self.inside.under } in
     let segment : List ℤ → SegmentRecord = λ change. record { from = c.args.under.choice.node; to = c.args.node; cost = c.args.cost; change = change } in
     let uses = uses_are c.args.world.now.machine c.uses_of-after.result after_eight c.requires.uses c.uses_of-after.ensures.uses in
     let same = changes_are c.args.under.before c.uses_of-after.result c.changes-change.result before_eight after_eight eight c.changes-change.ensures ∙ ap (λ (u : List ℕ). changes c.args.under.before u) uses in

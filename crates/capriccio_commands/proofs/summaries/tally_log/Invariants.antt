@@ -1,0 +1,5 @@
+use Rattle.capriccio_commands.proofs.Counting.{IsTallying}
+use Rattle.capriccio_commands.proofs.summaries.tally_log.Given as goal
+
+abbrev pub invariant-loop-line : goal.invariant-loop-line
+invariant-loop-line l = IsTallying l.log l.line-iterator l.tally

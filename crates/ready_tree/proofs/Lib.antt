@@ -1,0 +1,3 @@
+pub mod NeedLaws
+pub mod NodeLaws
+pub mod PlaceLaws

@@ -1,0 +1,188 @@
+-- Places, and the tree above their blocks.
+use Rattle.std.proofs.Common.{◌≡◌, ◌≢◌, ℕ, zero, suc, ◌+◌, ◌-◌, ◌*◌, ◌/◌, ◌<◌, ◌≤◌, ◌⊎◌, inl, inr, Bool, true, false, Option, Some, None, List, [], ◌∷◌, ◌++◌, length, take, nat_lt, cond, position, refl, ◌∙◌, sym, ap, arith, slice_set}
+use Rattle.std.proofs.lemmas.List.{get_or-set_same, get_or-set_other, length-set, length_push, get_or_append_left, take_more, append-nil, length-append}
+use Rattle.std.proofs.lemmas.Bool.Decides.{nat_tests}
+use Rattle.std.proofs.lemmas.List.Sums.{position_or_len_is}
+use Rattle.std.specs.List.{position_or_len}
+use Rattle.ready_tree.specs.declared.bounds.Bounds.{Bounds}
+use Rattle.ready_tree.specs.declared.entries.Entry.{Entry}
+use Rattle.ready_tree.specs.declared.needs.Needs.{Needs}
+use Rattle.ready_tree.specs.Needs.{is_some_met}
+use Rattle.ready_tree.specs.Nodes.{AreJoined, AreJoinedBut, node_at, no_needs}
+use Rattle.ready_tree.specs.Entries.{entries_of, place_at, may_go}
+use Rattle.ready_tree.specs.Trees.{Covers, HasPlaces, IsAbove, IsAboveBut, IsAboveIf, IsBlankIf}
+use Rattle.ready_tree.proofs.NodeLaws.{leaf_set}
+
+-- ---- what isn't met below a node that isn't
+
+unmet : (a b : Bool) → (a ≡ true → b ≡ true) → b ≡ false → a ≡ false
+unmet true b up none = let e : b ≡ true = up refl in absurd (cc)
+unmet false b up none = refl
+
+pub not_met : (bounds : Bounds) (needs : Needs) (place : Option Entry) → Covers needs place → is_some_met bounds needs ≡ false → may_go bounds place ≡ false
+not_met bounds needs place covers none = unmet (may_go bounds place) (is_some_met bounds needs) (covers.met bounds) none
+
+-- a place before the blocks that are skipped
+pub skipped_place : (bounds : Bounds) (nodes : List Needs) (places : List (Option Entry)) (leaf place : ℕ) → IsAbove nodes places →
+    ((other : ℕ) → length nodes / 2 ≤ other → other < leaf → is_some_met bounds (node_at nodes other) ≡ false) →
+    place / 16 < leaf - length nodes / 2 → place < length places → may_go bounds (place_at places place) ≡ false
+skipped_place bounds nodes places leaf place above before in_block there =
+    not_met bounds (node_at nodes (length nodes / 2 + place / 16)) (place_at places place) (above.covers place there) (before (length nodes / 2 + place / 16) (omega arith) (omega arith))
+
+-- ---- a change
+
+same_or_not : (i n : ℕ) → (i ≡ n) ⊎ (i ≢ n)
+same_or_not i n = grind arith
+
+-- one more at the end
+pub above_push : (nodes : List Needs) (places : List (Option Entry)) (entry : Option Entry) → IsAbove nodes places → length places < 16 * (length nodes / 2) →
+    IsAboveBut nodes (places ++ entry ∷ []) (length places / 16)
+above_push nodes places entry above room = record {
+  joined = above.joined;
+  fits = let long : length (places ++ entry ∷ []) ≡ length places + 1 = length_push places entry in omega arith;
+  covers = λ place there other.
+      let long : length (places ++ entry ∷ []) ≡ length places + 1 = length_push places entry in
+      let apart : place ≢ length places = λ e. other (ap (λ n. n / 16) e) in
+      let below : place < length places = omega arith in
+      rw (get_or_append_left places (entry ∷ []) None place below) (above.covers place below);
+}
+
+-- another at a place
+pub above_set : (nodes : List Needs) (places : List (Option Entry)) (place : ℕ) (entry : Option Entry) → IsAbove nodes places →
+    IsAboveBut nodes (slice_set places place entry) (place / 16)
+above_set nodes places place entry above = record {
+  joined = above.joined;
+  fits = rw (length-set places place entry) above.fits;
+  covers = λ other there apart.
+      let below : other < length places = rw (length-set places place entry) at there in
+      rw (get_or-set_other places place other entry None (λ e. apart (ap (λ n. n / 16) e))) (above.covers other below);
+}
+
+-- the leaf of the block is set
+pub leaf_but : (nodes : List Needs) (places : List (Option Entry)) (place : ℕ) (value : Needs) → IsAboveBut nodes places (place / 16) → place < length places →
+    AreJoinedBut (slice_set nodes (length nodes / 2 + place / 16) value) ((length nodes / 2 + place / 16) / 2)
+leaf_but nodes places place value but there =
+    let fits : length places ≤ 16 * (length nodes / 2) = but.fits in
+    let even : length nodes ≡ 2 * (length nodes / 2) = but.joined.whole.even in
+    leaf_set nodes (length nodes / 2 + place / 16) value but.joined (omega arith) (omega arith)
+
+covers_at : (nodes renewed : List Needs) (places : List (Option Entry)) (block other : ℕ) (value : Needs) → IsAboveBut nodes places block →
+    length nodes / 2 + block < length nodes →
+    node_at renewed (length nodes / 2 + other / 16) ≡ node_at (slice_set nodes (length nodes / 2 + block) value) (length nodes / 2 + other / 16) →
+    (other / 16 ≡ block → Covers value (place_at places other)) → other < length places → (other / 16 ≡ block) ⊎ (other / 16 ≢ block) →
+    Covers (node_at renewed (length nodes / 2 + other / 16)) (place_at places other)
+covers_at nodes renewed places block other value but inside same covers there (inl e) =
+    rw (same, e, get_or-set_same nodes (length nodes / 2 + block) value no_needs inside) (covers e)
+covers_at nodes renewed places block other value but inside same covers there (inr d) =
+    rw (same, get_or-set_other nodes (length nodes / 2 + block) (length nodes / 2 + other / 16) value no_needs (λ e. d (omega arith))) (but.covers other there d)
+
+-- and the nodes above it are renewed
+pub renewed_above : (nodes renewed : List Needs) (places : List (Option Entry)) (place : ℕ) (value : Needs) → IsAboveBut nodes places (place / 16) → place < length places →
+    length renewed ≡ length nodes → AreJoined renewed →
+    ((leaf : ℕ) → length nodes / 2 ≤ leaf → node_at renewed leaf ≡ node_at (slice_set nodes (length nodes / 2 + place / 16) value) leaf) →
+    ((other : ℕ) → other < length places → other / 16 ≡ place / 16 → Covers value (place_at places other)) → IsAbove renewed places
+renewed_above nodes renewed places place value but there long joined leaves covers =
+    let fits : length places ≤ 16 * (length nodes / 2) = but.fits in
+    let even : length nodes ≡ 2 * (length nodes / 2) = but.joined.whole.even in
+    record {
+      joined = joined;
+      fits = rw long but.fits;
+      covers = λ other below.
+          rw long (covers_at nodes renewed places (place / 16) other value but (omega arith) (leaves (length nodes / 2 + other / 16) (omega arith)) (covers other below) below (same_or_not (other / 16) (place / 16)));
+    }
+
+-- ---- threads at places
+
+pub entries-append : (places more : List (Option Entry)) → entries_of (places ++ more) ≡ entries_of places ++ entries_of more
+entries-append [] more = refl
+entries-append (None ∷ places) more = entries-append places more
+entries-append (Some entry ∷ places) more = ap (λ entries. entry ∷ entries) (entries-append places more)
+
+pub entries_push : (places : List (Option Entry)) (entry : Entry) → entries_of (places ++ Some entry ∷ []) ≡ entries_of places ++ entry ∷ []
+entries_push places entry = entries-append places (Some entry ∷ [])
+
+-- no more threads than places
+pub entries_most : (places : List (Option Entry)) → length (entries_of places) ≤ length places
+entries_most [] = omega arith
+entries_most (None ∷ places) = let h : length (entries_of places) ≤ length places = entries_most places in omega arith
+entries_most (Some entry ∷ places) = let h : length (entries_of places) ≤ length places = entries_most places in omega arith
+
+-- no more in a front than in all
+pub entries_take : (places : List (Option Entry)) (i : ℕ) → length (entries_of (take i places)) ≤ length (entries_of places)
+entries_take places zero = omega arith
+entries_take [] (suc i) = omega arith
+entries_take (None ∷ places) (suc i) = entries_take places i
+entries_take (Some entry ∷ places) (suc i) = let h : length (entries_of (take i places)) ≤ length (entries_of places) = entries_take places i in omega arith
+
+-- how many are left when a place is emptied
+pub emptied_none : (places : List (Option Entry)) (place : ℕ) → place_at places place ≡ None → length (entries_of (slice_set places place None)) ≡ length (entries_of places)
+emptied_none [] place none = refl
+emptied_none (None ∷ places) zero none = refl
+emptied_none (Some entry ∷ places) zero none = absurd (cc)
+emptied_none (None ∷ places) (suc place) none = emptied_none places place none
+emptied_none (Some entry ∷ places) (suc place) none = ap suc (emptied_none places place none)
+
+pub emptied_some : (places : List (Option Entry)) (place : ℕ) (entry : Entry) → place_at places place ≡ Some entry → suc (length (entries_of (slice_set places place None))) ≡ length (entries_of places)
+emptied_some [] place entry some = absurd (cc)
+emptied_some (None ∷ places) zero entry some = absurd (cc)
+emptied_some (Some other ∷ places) zero entry some = refl
+emptied_some (None ∷ places) (suc place) entry some = emptied_some places place entry some
+emptied_some (Some other ∷ places) (suc place) entry some = ap suc (emptied_some places place entry some)
+
+-- ---- gathering
+
+-- one more place was looked at
+pub entries_more_none : (places : List (Option Entry)) (i : ℕ) → i < length places → place_at places i ≡ None → entries_of (take (i + 1) places) ≡ entries_of (take i places)
+entries_more_none places i there none =
+    ap entries_of (take_more places i None there ∙ ap (λ place. take i places ++ place ∷ []) none) ∙ entries-append (take i places) (None ∷ []) ∙ append-nil (entries_of (take i places))
+
+pub entries_more_some : (places : List (Option Entry)) (i : ℕ) (entry : Entry) → i < length places → place_at places i ≡ Some entry →
+    entries_of (take (i + 1) places) ≡ entries_of (take i places) ++ entry ∷ []
+entries_more_some places i entry there some =
+    ap entries_of (take_more places i None there ∙ ap (λ place. take i places ++ place ∷ []) some) ∙ entries_push (take i places) entry
+
+-- ---- the first place at which a need is met
+
+some_is : (place len : ℕ) → place < len → cond (nat_lt place len) (Some place) None ≡ Some place
+some_is place len below = grind (arith, nat_tests)
+
+none_is : (place len : ℕ) → len ≤ place → cond (nat_lt place len) (Some place) None ≡ None
+none_is place len past = grind (arith, nat_tests)
+
+pub first_is : (test : Option Entry → Bool) (places : List (Option Entry)) (place : ℕ) → place < length places → ((k : ℕ) → k < place → k < length places → test (place_at places k) ≡ false) →
+    test (place_at places place) ≡ true → Some place ≡ position test places
+first_is test places place there before here =
+    let e : position_or_len test places ≡ place = position_or_len_is test places place None (omega arith) (λ k h. before k h (omega arith)) (λ h. here) in
+    sym (ap (λ (k : ℕ). cond (nat_lt k (length places)) (Some k) None) e ∙ some_is place (length places) there)
+
+pub first_none : (test : Option Entry → Bool) (places : List (Option Entry)) → ((k : ℕ) → k < length places → test (place_at places k) ≡ false) → None ≡ position test places
+first_none test places none =
+    let e : position_or_len test places ≡ length places = position_or_len_is test places (length places) None (omega arith) (λ k h. none k h) (λ h. absurd (omega arith)) in
+    sym (ap (λ (k : ℕ). cond (nat_lt k (length places)) (Some k) None) e ∙ none_is (length places) (length places) (omega arith))
+
+-- no place stands above no threads
+pub blank_above : (nodes : List Needs) (count : ℕ) → IsBlankIf nodes count → IsAboveIf nodes []
+blank_above nodes count blank = λ some. record { joined = (blank some).joined; fits = omega arith; covers = λ place there. absurd (omega arith) }
+
+pub blank_room : (nodes : List Needs) (count : ℕ) → IsBlankIf nodes count → HasPlaces nodes count
+blank_room nodes count blank = λ some. (blank some).enough
+
+-- ---- one thread more
+
+pub entries_more : (places : List (Option Entry)) (i : ℕ) → i < length places → entries_of (take (i + 1) places) ≡ entries_of (take i places) ++ entries_of (place_at places i ∷ [])
+entries_more places i there = ap entries_of (take_more places i None there) ∙ entries-append (take i places) (place_at places i ∷ [])
+
+pub pushed : (old mid new : List (Option Entry)) (entry : Entry) → entries_of mid ≡ entries_of old → new ≡ mid ++ Some entry ∷ [] → entries_of new ≡ entries_of old ++ entry ∷ []
+pushed old mid new entry same is = ap entries_of is ∙ entries_push mid entry ∙ ap (λ (l : List Entry). l ++ entry ∷ []) same
+
+pub counted : (old mid new : List (Option Entry)) (entry : Entry) (live : ℕ) → live ≡ length (entries_of old) → entries_of mid ≡ entries_of old → new ≡ mid ++ Some entry ∷ [] → live + 1 ≡ length (entries_of new)
+counted old mid new entry live count same is =
+    let e : length (entries_of new) ≡ length (entries_of old) + 1 = ap length (pushed old mid new entry same is) ∙ length_push (entries_of old) entry in
+    omega arith
+
+pub more_full : (places : List (Option Entry)) (i kept now : ℕ) → i < length places → kept ≡ length (entries_of (take i places)) → now ≡ kept + length (entries_of (place_at places i ∷ [])) →
+    now ≡ length (entries_of (take (i + 1) places))
+more_full places i kept now there full is =
+    let e : length (entries_of (take (i + 1) places)) ≡ length (entries_of (take i places)) + length (entries_of (place_at places i ∷ [])) =
+    ap length (entries_more places i there) ∙ length-append (entries_of (take i places)) (entries_of (place_at places i ∷ [])) in
+    omega arith

@@ -1,0 +1,6 @@
+use Rattle.std.proofs.Common.{◌≡◌}
+use Rattle.ready_tree.specs.Needs.{fits_first}
+use Rattle.ready_tree.proofs.amounts.fits_some.Given as goal
+
+abbrev pub invariant-loop-resource : goal.invariant-loop-resource
+invariant-loop-resource l = l.fits ≡ fits_first l.amounts l.unused l.resource

@@ -1,0 +1,12 @@
+use Rattle.std.proofs.Common.{◌≡◌, length, take}
+use Rattle.ready_tree.specs.Entries.{entries_of}
+use Rattle.ready_tree.specs.Trees.{IsAboveIf, HasPlaces}
+use Rattle.ready_tree.proofs.places.gathered.Given as goal
+
+abbrev pub invariant-loop-place : goal.invariant-loop-place
+invariant-loop-place l = record {
+  same : entries_of l.kept.items ≡ entries_of (take l.place-index l.places);
+  full : length l.kept.items ≡ length (entries_of (take l.place-index l.places));
+  above : IsAboveIf l.nodes.items l.kept.items;
+  room : HasPlaces l.nodes.items l.count;
+}

@@ -1,0 +1,5 @@
+pub mod Needs
+pub mod Nodes
+pub mod Entries
+pub mod Trees
+pub mod Kept

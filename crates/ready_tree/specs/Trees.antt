@@ -1,0 +1,48 @@
+-- The tree above the blocks of places.
+use Rattle.std.specs.Prelude.{ℕ, ◌≡◌, ◌≢◌, ◌+◌, ◌*◌, ◌/◌, ◌<◌, ◌≤◌, true, Option, List, length}
+use Rattle.ready_tree.specs.declared.bounds.Bounds.{Bounds}
+use Rattle.ready_tree.specs.declared.entries.Entry.{Entry}
+use Rattle.ready_tree.specs.declared.needs.Needs.{Needs}
+use Rattle.ready_tree.specs.Needs.{is_some_met}
+use Rattle.ready_tree.specs.Nodes.{AreJoined, node_at, IsBlank}
+use Rattle.ready_tree.specs.Entries.{entries_of, place_at, may_go}
+
+-- where the need of who is at the place is met, the need of some thread may be
+pub record Covers (needs : Needs) (place : Option Entry) : Type 0 where
+  pub met : (bounds : Bounds) → may_go bounds place ≡ true → is_some_met bounds needs ≡ true
+
+-- the tree stands above the blocks of these places
+pub record IsAbove (nodes : List Needs) (places : List (Option Entry)) : Type 0 where
+  pub joined : AreJoined nodes
+  pub fits : length places ≤ 16 * (length nodes / 2)
+  pub covers : (place : ℕ) → place < length places → Covers (node_at nodes (length nodes / 2 + place / 16)) (place_at places place)
+
+-- it does but for the leaf of one block
+pub record IsAboveBut (nodes : List Needs) (places : List (Option Entry)) (block : ℕ) : Type 0 where
+  pub joined : AreJoined nodes
+  pub fits : length places ≤ 16 * (length nodes / 2)
+  pub covers : (place : ℕ) → place < length places → place / 16 ≢ block → Covers (node_at nodes (length nodes / 2 + place / 16)) (place_at places place)
+
+-- so where there is a tree
+abbrev pub IsAboveIf : List Needs → List (Option Entry) → Type 0
+IsAboveIf nodes places = 1 ≤ length nodes → IsAbove nodes places
+
+abbrev pub IsAboveButIf : List Needs → List (Option Entry) → ℕ → Type 0
+IsAboveButIf nodes places block = 1 ≤ length nodes → IsAboveBut nodes places block
+
+abbrev pub IsBlankIf : List Needs → ℕ → Type 0
+IsBlankIf nodes places = 1 ≤ length nodes → IsBlank nodes places
+
+-- more than so many places have a block below the tree
+abbrev pub HasPlaces : List Needs → ℕ → Type 0
+HasPlaces nodes count = 1 ≤ length nodes → count < 16 * (length nodes / 2)
+
+-- one more place has
+abbrev pub HasRoom : List Needs → List (Option Entry) → Type 0
+HasRoom nodes places = HasPlaces nodes (length places)
+
+-- the same threads, with a tree above them and room for one more
+pub record IsGathered (old places : List (Option Entry)) (nodes : List Needs) : Type 0 where
+  pub same : entries_of places ≡ entries_of old
+  pub above : IsAboveIf nodes places
+  pub room : HasRoom nodes places

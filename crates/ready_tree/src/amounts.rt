@@ -1,0 +1,36 @@
+// Amounts of the eight resources.
+ghost use Rattle.std.specs.Prelude.{◌≡◌, ℕ, ◌<◌, min, slice_index};
+ghost use Rattle.ready_tree.specs.Needs.{fits_first};
+
+/// Whether of some resource the amount is unused.
+pub(crate) fn fits_some(amounts: &[u64; 8], unused: &[u32; 8]) -> bool
+    ensures { result ≡ fits_first amounts.now unused.now 8 }
+{
+    let mut fits = false;
+    for resource in 0..8 {
+        fits = fits || amounts[resource] <= u64::from(unused[resource]);
+    }
+    fits
+}
+
+/// For each resource the lesser of two amounts.
+pub(crate) fn lesser(amounts: &[u64; 8], others: &[u64; 8]) -> [u64; 8]
+    ensures { (r : ℕ) → r < 8 → slice_index result r ≡ min (slice_index amounts.now r) (slice_index others.now r) }
+{
+    let mut least = *amounts;
+    for resource in 0..8 {
+        least[resource] = least[resource].min(others[resource]);
+    }
+    least
+}
+
+/// An amount of one resource, and of no other.
+pub(crate) fn only(resource: u32, amount: u32) -> [u64; 8]
+    ensures { resource < 8 → slice_index result resource ≡ amount }
+{
+    let mut amounts = [u64::MAX; 8];
+    if resource < 8 {
+        amounts[resource as usize] = u64::from(amount);
+    }
+    amounts
+}

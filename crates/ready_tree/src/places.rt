@@ -1,0 +1,223 @@
+// The places of a queue with the tree above their blocks. Where there is one block there is no tree.
+ghost use Rattle.std.specs.Prelude.{◌≡◌, ℕ, ◌+◌, ◌*◌, ◌/◌, ◌<◌, ◌≤◌, ◌^◌, ◌++◌, ◌∷◌, [], None, Some, Option, false, length, position, slice_set, IfOk, OnOk, OnErr};
+ghost use Rattle.ready_tree.specs.declared.entries.Entry.{Entry};
+ghost use Rattle.ready_tree.specs.Entries.{entries_of, place_at, may_go, is_of};
+ghost use Rattle.ready_tree.specs.Trees.{Covers, IsAboveIf, IsAboveButIf, HasRoom, IsBlankIf, IsGathered};
+
+use crate::bounds::Bounds;
+use crate::entries::Entry;
+use crate::needs::Needs;
+use crate::nodes::{BLOCK, blank_nodes, first_leaf, renew_above};
+use cap_word::ThreadId;
+use std::alloc::{AllocError, Global};
+
+/// More threads than wait in a queue: a thread's place is a `u32`.
+const TOO_MANY: usize = 1 << 33;
+
+/// Whether the need of who is at a place is met.
+fn is_met_at(place: &Option<Entry>, bounds: &Bounds) -> bool
+    ensures { result ≡ may_go bounds.now place.now }
+{
+    match place {
+        None => false,
+        Some(entry) => bounds.meet(entry.need),
+    }
+}
+
+/// So many places from the first on have no need that is met.
+pub(crate) fn skipped(places: &[Option<Entry>], nodes: &[Needs], bounds: &Bounds) -> usize
+    requires { IsAboveIf nodes.now places.now }
+    ensures { (place : ℕ) → place < result → place < length places.now → may_go bounds.now (place_at places.now place) ≡ false }
+{
+    if nodes.is_empty() {
+        return 0;
+    }
+    let blocks = first_leaf(nodes, bounds) - nodes.len() / 2;
+    blocks.min(places.len() / BLOCK + 1) * BLOCK
+}
+
+/// The first place at which a need is met, where none of the first is.
+pub(crate) fn first_met(places: &[Option<Entry>], start: usize, bounds: &Bounds) -> Option<usize>
+    requires { (place : ℕ) → place < start → place < length places.now → may_go bounds.now (place_at places.now place) ≡ false }
+    ensures { result ≡ position (may_go bounds.now) places.now }
+{
+    for place in start..places.len() {
+        if is_met_at(&places[place], bounds) {
+            return Some(place);
+        }
+    }
+    None
+}
+
+/// Whether it is the thread's place.
+fn is_place_of(place: &Option<Entry>, thread: ThreadId) -> bool
+    ensures { result ≡ is_of thread place.now }
+{
+    match place {
+        None => false,
+        Some(entry) => entry.thread.slot == thread.slot && entry.thread.number == thread.number,
+    }
+}
+
+/// The first place of a thread.
+pub(crate) fn first_of(places: &[Option<Entry>], thread: ThreadId) -> Option<usize>
+    ensures { result ≡ position (is_of thread) places.now }
+{
+    places.iter().position(|place| is_place_of(place, thread))
+}
+
+/// The needs with those of who is at a place.
+fn with(needs: &Needs, place: &Option<Entry>) -> Needs
+    ensures covers { Covers result place.now }
+    ensures keeps { (other : Option Entry) → Covers needs.now other → Covers result other }
+{
+    match place {
+        None => *needs,
+        Some(entry) => needs.join(&Needs::of(entry.need)),
+    }
+}
+
+/// What those of the block of a place wait for.
+fn needs_of_block(places: &[Option<Entry>], place: usize) -> Needs
+    requires { place < length places.now }
+    ensures { (other : ℕ) → other < length places.now → other / 16 ≡ place / 16 → Covers result (place_at places.now other) }
+{
+    let start = place / BLOCK * BLOCK;
+    let end = places.len().min(start + BLOCK);
+    let mut needs = Needs::NONE;
+    for other in start..end {
+        needs = with(&needs, &places[other]);
+    }
+    needs
+}
+
+/// Brings the tree up to date after a change at a place.
+pub(crate) fn renew(places: &[Option<Entry>], nodes: &mut [Needs], place: usize)
+    requires there { place < length places.now }
+    requires above { IsAboveButIf nodes.old places.now (place / 16) }
+    ensures { IsAboveIf nodes.new places.now }
+{
+    if nodes.is_empty() {
+        return;
+    }
+    let leaf = nodes.len() / 2 + place / BLOCK;
+    nodes[leaf] = needs_of_block(places, place);
+    renew_above(nodes, leaf);
+}
+
+/// Puts a thread at the end, where there is room.
+pub(crate) fn append(
+    places: &mut Vec<Option<Entry>>,
+    nodes: &mut Vec<Needs>,
+    entry: Entry,
+) -> Result<(), AllocError>
+    requires above { IsAboveIf nodes.old.items places.old.items }
+    requires room { HasRoom nodes.old.items places.old.items }
+    ensures above { IsAboveIf nodes.new.items places.new.items }
+    ensures nodes { length nodes.new.items ≡ length nodes.old.items }
+    ensures ok { OnOk result (places.new.items ≡ places.old.items ++ Some entry ∷ []) }
+    ensures err { OnErr result (places.new.items ≡ places.old.items) }
+{
+    let place = places.len();
+    places.push(Some(entry))?;
+    renew(places, nodes, place);
+    Ok(())
+}
+
+/// Empties a place, and tells how many threads are left.
+pub(crate) fn empty(places: &mut [Option<Entry>], place: usize, live: usize) -> usize
+    requires there { place < length places.old }
+    requires live { live ≡ length (entries_of places.old) }
+    ensures places { places.new ≡ slice_set places.old place None }
+    ensures live { result ≡ length (entries_of places.new) }
+{
+    let left = match places[place] {
+        None => live,
+        Some(_) => live - 1,
+    };
+    places[place] = None;
+    left
+}
+
+/// The nodes of a tree for so many places, or none where they are one block.
+fn nodes_for(alloc: Global, count: usize) -> Result<Vec<Needs>, AllocError>
+    requires { count < 2 ^ 40 }
+    ensures { IfOk result (λ nodes. IsBlankIf nodes.items count) }
+{
+    if count < BLOCK {
+        return Ok(Vec::new(alloc));
+    }
+    blank_nodes(alloc, count)
+}
+
+/// Puts who is at a place at the end, where there is room.
+fn keep(
+    kept: &mut Vec<Option<Entry>>,
+    nodes: &mut Vec<Needs>,
+    place: &Option<Entry>,
+) -> Result<(), AllocError>
+    requires above { IsAboveIf nodes.old.items kept.old.items }
+    requires room { HasRoom nodes.old.items kept.old.items }
+    ensures above { IsAboveIf nodes.new.items kept.new.items }
+    ensures nodes { length nodes.new.items ≡ length nodes.old.items }
+    ensures same { OnOk result (entries_of kept.new.items ≡ entries_of kept.old.items ++ entries_of (place.now ∷ [])) }
+    ensures full { OnOk result (length kept.new.items ≡ length kept.old.items + length (entries_of (place.now ∷ []))) }
+{
+    match place {
+        None => Ok(()),
+        Some(entry) => append(kept, nodes, *entry),
+    }
+}
+
+/// The threads at places without a gap, with room for half as many more.
+fn gathered(
+    alloc: Global,
+    places: &[Option<Entry>],
+    live: usize,
+) -> Result<(Vec<Option<Entry>>, Vec<Needs>), AllocError>
+    requires { live ≡ length (entries_of places.now) }
+    ensures { IfOk result (λ made. IsGathered places.now made.0.items made.1.items) }
+{
+    if live >= TOO_MANY {
+        return Err(AllocError);
+    }
+    let count = live + live / 2;
+    let mut nodes = nodes_for(alloc, count)?;
+    let mut kept = Vec::with_capacity(alloc, count + 1)?;
+    for place in places {
+        keep(&mut kept, &mut nodes, place)?;
+    }
+    Ok((kept, nodes))
+}
+
+/// Whether there is no room for one more.
+fn is_full(places: &[Option<Entry>], nodes: &[Needs]) -> bool
+    ensures { result ≡ false → HasRoom nodes.now places.now }
+{
+    if nodes.is_empty() {
+        places.len() >= BLOCK
+    } else {
+        places.len() / BLOCK >= nodes.len() / 2
+    }
+}
+
+/// Makes room for one more. So many threads join before it is to be made again that each costs a few steps for it.
+pub(crate) fn make_room(
+    places: &mut Vec<Option<Entry>>,
+    nodes: &mut Vec<Needs>,
+    live: usize,
+) -> Result<(), AllocError>
+    requires above { IsAboveIf nodes.old.items places.old.items }
+    requires live { live ≡ length (entries_of places.old.items) }
+    ensures same { entries_of places.new.items ≡ entries_of places.old.items }
+    ensures above { IsAboveIf nodes.new.items places.new.items }
+    ensures room { OnOk result (HasRoom nodes.new.items places.new.items) }
+{
+    if is_full(places, nodes) {
+        let alloc = *places.allocator();
+        let (kept, tree) = gathered(alloc, places, live)?;
+        *places = kept;
+        *nodes = tree;
+    }
+    Ok(())
+}

@@ -1,0 +1,102 @@
+ghost use Rattle.std.specs.Prelude.{◌≡◌, ◌<◌, ◌++◌, ◌∷◌, [], None, length, position, slice_set, OnOk, OnErr};
+ghost use Rattle.ready_tree.specs.Entries.{entries_of, place_at, may_go, is_of};
+
+use crate::bounds::Bounds;
+use crate::entries::Entry;
+use crate::needs::Needs;
+use crate::places::{append, empty, first_met, first_of, make_room, renew, skipped};
+use cap_word::ThreadId;
+use std::alloc::{AllocError, Global};
+use std::marker::Model;
+
+/// Threads in order of joining, each with its need. What it means is the list of its places, of which those whose thread has
+/// gone are empty. A place stays that of its thread until the next `push`.
+#[derive(Drop)]
+pub struct ReadyTree {
+    places: Vec<Option<Entry>>,
+    nodes: Vec<Needs>,
+    live: usize,
+}
+
+impl Model for ReadyTree {
+    ghost use Rattle.std.specs.Prelude.{List, Option};
+    ghost use Rattle.ready_tree.specs.declared.entries.Entry.{Entry};
+
+    ghost Value = { List (Option Entry) };
+
+    ghost use Rattle.ready_tree.specs.Kept.{places_of, IsKept};
+
+    ghost view = { places_of };
+
+    ghost invariant = { IsKept };
+}
+
+impl ReadyTree {
+    /// A queue in which nobody waits. It takes no memory.
+    pub fn new(alloc: Global) -> ReadyTree
+        ensures { result ≡ [] }
+    {
+        ReadyTree {
+            places: Vec::new(alloc),
+            nodes: Vec::new(alloc),
+            live: 0,
+        }
+    }
+
+    /// How many places there are.
+    pub fn places(&self) -> usize
+        ensures { result ≡ length self.now }
+    {
+        self.places.len()
+    }
+
+    /// How many threads wait.
+    pub fn len(&self) -> usize
+        ensures { result ≡ length (entries_of self.now) }
+    {
+        self.live
+    }
+
+    /// The thread at a place with its need, or none where it has gone.
+    pub fn at(&self, place: usize) -> Option<Entry>
+        requires { place < length self.now }
+        ensures { result ≡ place_at self.now place }
+    {
+        self.places[place]
+    }
+
+    /// Puts a thread at the end. Where memory is refused the same threads wait in the same order.
+    pub fn push(&mut self, entry: Entry) -> Result<(), AllocError>
+        ensures ok { OnOk result (entries_of self.new ≡ entries_of self.old ++ entry ∷ []) }
+        ensures err { OnErr result (entries_of self.new ≡ entries_of self.old) }
+    {
+        make_room(&mut self.places, &mut self.nodes, self.live)?;
+        append(&mut self.places, &mut self.nodes, entry)?;
+        self.live += 1;
+        Ok(())
+    }
+
+    /// The first place at which a need is met. It takes as many steps as the tree is high, and those of one block.
+    pub fn first(&self, bounds: &Bounds) -> Option<usize>
+        ensures { result ≡ position (may_go bounds.now) self.now }
+    {
+        let start = skipped(&self.places, &self.nodes, bounds);
+        first_met(&self.places, start, bounds)
+    }
+
+    /// The first place of a thread. It looks at each place before that.
+    pub fn place_of(&self, thread: ThreadId) -> Option<usize>
+        ensures { result ≡ position (is_of thread) self.now }
+    {
+        first_of(&self.places, thread)
+    }
+
+    /// The thread at a place goes. It takes no memory.
+    pub fn remove(&mut self, place: usize)
+        requires { place < length self.old }
+        ensures { self.new ≡ slice_set self.old place None }
+    {
+        self.live = empty(&mut self.places, place, self.live);
+        renew(&self.places, &mut self.nodes, place);
+    }
+}

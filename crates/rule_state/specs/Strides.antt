@@ -1,0 +1,62 @@
+-- Threads that are chosen by strides, with the nodes at which they wait.
+use Rattle.std.specs.Prelude.{ℕ, ◌≡◌, ◌<◌, Bool, false, Option, Some, None, List, length, slice_index}
+use Rattle.std.specs.List.{AllByRecursion, list_all}
+use Rattle.cap_word.specs.declared.threads.ThreadId.{ThreadId}
+use Rattle.scheduler.specs.declared.choices.Choice.{Choice}
+use Rattle.stride_rule.specs.declared.choices.StrideChoice.{StrideChoice}
+use Rattle.stride_rule.specs.declared.clients.Client.{Client}
+use Rattle.stride_rule.specs.Choices.{IsFirstEligible}
+use Rattle.stride_rule.specs.State.{StrideState, waiting_of, with_client, after_choice, after_segment, after_leaving}
+use Rattle.rule_state.specs.Nodes.{IsPut}
+
+-- the stride rule, and the node of each thread, by the place of its record
+pub record StridesState : Type 0 where
+  pub rule : StrideState
+  pub nodes : List ℕ
+
+-- the node at which a thread waits
+abbrev pub node_of : StridesState → ThreadId → ℕ
+node_of strides thread = slice_index strides.nodes thread.slot
+
+-- each thread has a place for its node
+abbrev pub HaveNodes : List ℕ → List Client → Type 0
+HaveNodes nodes clients = AllByRecursion (λ client. client.thread.slot < length nodes) clients
+
+-- the choice of a thread by strides: it tells whether all that wait are eligible
+abbrev pub stride_choice : StrideState → (ThreadId → Bool) → ThreadId → StrideChoice
+stride_choice rule eligible thread = record { thread = thread; all = list_all (λ other. eligible other.thread) (waiting_of rule) }
+
+-- ---- the choice
+
+-- the thread is the lawful choice by strides, and the node is the one at which it waits
+pub record IsFirstAtNode (strides : StridesState) (eligible : ThreadId → Bool) (choice : Choice) : Type 0 where
+  pub first : IsFirstEligible (waiting_of strides.rule) eligible (stride_choice strides.rule eligible choice.thread)
+  pub node : choice.node ≡ node_of strides choice.thread
+
+-- and there is none exactly where no thread that waits is eligible
+abbrev pub IsChoiceByStrides : StridesState → (ThreadId → Bool) → Option Choice → Type 0
+IsChoiceByStrides strides eligible None = AllByRecursion (λ client. eligible client.thread ≡ false) (waiting_of strides.rule)
+IsChoiceByStrides strides eligible (Some choice) = IsFirstAtNode strides eligible choice
+
+-- ---- what the calls do
+
+-- a thread was started, at a node
+pub record IsStartedAt (old new : StridesState) (thread : ThreadId) (node : ℕ) : Type 0 where
+  pub rule : new.rule ≡ with_client old.rule thread
+  pub nodes : IsPut old.nodes new.nodes thread.slot node
+
+abbrev pub IsStarted : StridesState → StridesState → ThreadId → Type 0
+IsStarted old new thread = IsStartedAt old new thread 0
+
+-- a choice was noted
+abbrev pub IsNotedByStrides : StridesState → StridesState → (ThreadId → Bool) → Choice → Type 0
+IsNotedByStrides old new eligible choice = new ≡ record { rule = after_choice old.rule (stride_choice old.rule eligible choice.thread); nodes = old.nodes }
+
+-- the choice under way has ended, and its thread waits at a node
+pub record IsRejoined (old new : StridesState) (thread : ThreadId) (node : ℕ) : Type 0 where
+  pub rule : new.rule ≡ after_segment old.rule
+  pub nodes : IsPut old.nodes new.nodes thread.slot node
+
+-- the choice under way has ended, and its thread has left
+abbrev pub IsLeft : StridesState → StridesState → ThreadId → Type 0
+IsLeft old new thread = new ≡ record { rule = after_leaving old.rule thread.number; nodes = old.nodes }

@@ -1,0 +1,16 @@
+-- The needs that were told of the threads that wait are theirs.
+use Rattle.std.specs.Prelude.{ℕ, ◌≡◌, Some}
+use Rattle.std.specs.List.{AllByRecursion}
+use Rattle.machine_world.specs.Threads.{Thread, World, thread_of}
+use Rattle.ready_tree.specs.declared.entries.Entry.{Entry}
+use Rattle.scheduler.specs.State.{SchedulerState, entries_at}
+use Rattle.thread_core.specs.Needs.{need_of_blocked}
+
+-- the thread lives, and this is its need
+pub record IsNeeded (w : World) (entry : Entry) : Type 0 where
+  pub thread : Thread
+  pub live : thread_of w entry.thread.number ≡ Some thread
+  pub need : entry.need ≡ need_of_blocked thread.blocked
+
+pub record AreNeeded (w : World) (scheduler : SchedulerState) : Type 0 where
+  pub each : (node : ℕ) → AllByRecursion (IsNeeded w) (entries_at scheduler node)

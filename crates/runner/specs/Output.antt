@@ -1,0 +1,33 @@
+-- What a run has put out of its log, through a writer with a buffer.
+use Rattle.std.specs.Prelude.{ℕ, List, [], ◌++◌, Option, MatchResult, Result}
+use Rattle.std.specs.Io.KnownBytes.{Appends, append_known}
+use Rattle.schedule_log.specs.Writing.{WriterState, TakesPrefix}
+
+-- the bytes that the sink took, where it tells them, and those that the writer holds
+pub record Output : Type 0 where
+  pub taken : Option (List ℕ)
+  pub held : List ℕ
+
+abbrev pub output_of : WriterState → Option (List ℕ) → Output
+output_of writer taken = record { taken = taken; held = writer.held }
+
+-- at the start nothing is held
+abbrev pub unheld : Option (List ℕ) → Output
+unheld taken = record { taken = taken; held = [] }
+
+-- what was taken, and then what is held
+abbrev pub joined : Output → Option (List ℕ)
+joined now = append_known now.taken now.held
+
+-- the sink took a beginning of what was held and this text behind it
+abbrev pub TakesPart : Output → Output → List ℕ → Type 0
+TakesPart old new text = TakesPrefix old.taken new.taken (old.held ++ text)
+
+-- what was taken and then what is held grew by the text
+pub record Grows (old new : Output) (text : List ℕ) : Type 0 where
+  pub whole : Appends (joined old) (joined new) text
+  pub part : TakesPart old new text
+
+-- a text went through the writer, or the sink took a beginning of what was held and of it
+abbrev pub PutsText : {E : Type 0} → Output → Output → List ℕ → Result (Unit {0}) E → Type 0
+PutsText old new text result = MatchResult result (λ _. Grows old new text) (λ _. TakesPart old new text)

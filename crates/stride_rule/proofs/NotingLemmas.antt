@@ -1,0 +1,43 @@
+-- A choice that `choose` gave may be noted, where no choice is under way.
+use Rattle.std.proofs.Common.{◌≡◌, ℕ, ◌&&◌, Bool, true, false, IsTrue, Option, None, List, [], ◌∷◌, refl, sym, ap, ◌∙◌, subst}
+use Rattle.std.specs.Prelude.{IsSome, IfSome}
+use Rattle.std.specs.List.{AllByRecursion, list_all}
+use Rattle.cap_word.specs.declared.threads.ThreadId.{ThreadId}
+use Rattle.stride_rule.specs.declared.choices.StrideChoice.{StrideChoice}
+use Rattle.stride_rule.specs.declared.clients.Client.{Client}
+use Rattle.stride_rule.specs.Choices.{IsFirst, IsFirstEligible}
+use Rattle.stride_rule.specs.Clients.{client_of, is_before}
+use Rattle.stride_rule.specs.State.{StrideState, waiting_in, waiting_of}
+
+-- all clients wait
+pub waiting-none : (cs : List Client) → waiting_in None cs ≡ cs
+waiting-none [] = refl
+waiting-none (c ∷ cs) = ap (λ (v : List Client). c ∷ v) (waiting-none cs)
+
+both_of : (a b : Bool) → (a && b) ≡ true → (a ≡ true) × (b ≡ true)
+both_of true b e = (refl, e)
+both_of false b e = absurd (let no : false ≡ true = e in cc)
+
+first-of_all : (eligible : ThreadId → Bool) (first : Client) (cs : List Client) → list_all (λ c. eligible c.thread) cs ≡ true →
+    AllByRecursion (λ c. IsTrue (eligible c.thread) → is_before c first ≡ false) cs → IsFirst cs first
+first-of_all eligible first [] e all = tt
+first-of_all eligible first (c ∷ cs) e all =
+    let parts = both_of (eligible c.thread) (list_all (λ c. eligible c.thread) cs) e in
+    (all.0 parts.0, first-of_all eligible first cs parts.1 all.1)
+
+pub record MayBeNoted (rule : StrideState) (choice : StrideChoice) : Type 0 where
+  pub waits : IsSome (client_of choice.thread.number rule.clients)
+  pub first : IsTrue choice.all → IfSome (client_of choice.thread.number rule.clients) (IsFirst rule.clients)
+
+noted_by : (rule : StrideState) (eligible : ThreadId → Bool) (choice : StrideChoice) → IsFirstEligible rule.clients eligible choice → MayBeNoted rule choice
+noted_by rule eligible choice is = record {
+  waits = subst (λ (o : Option Client). IsSome o) (sym is.waits) refl;
+  first = λ all. subst (λ (o : Option Client). IfSome o (IsFirst rule.clients)) (sym is.waits)
+      (first-of_all eligible is.client rule.clients (sym is.all_is ∙ all) is.first);
+}
+
+pub may_be_noted : (rule : StrideState) (eligible : ThreadId → Bool) (choice : StrideChoice) → rule.running ≡ None →
+    IsFirstEligible (waiting_of rule) eligible choice → MayBeNoted rule choice
+may_be_noted rule eligible choice none is =
+    let all : waiting_of rule ≡ rule.clients = ap (λ (r : Option ℕ). waiting_in r rule.clients) none ∙ waiting-none rule.clients in
+    noted_by rule eligible choice (subst (λ (cs : List Client). IsFirstEligible cs eligible choice) all is)

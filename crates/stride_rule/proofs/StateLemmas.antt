@@ -1,0 +1,199 @@
+-- What a rule keeps through its calls.
+use Rattle.std.proofs.Common.{◌≡◌, ℕ, ◌+◌, ◌*◌, ◌^◌, ◌≤◌, ◌<◌, ◌||◌, max, not, Bool, true, false, IsTrue, Option, Some, None, List, [], ◌∷◌, refl, sym, ap, ◌∙◌, subst, arith}
+use Rattle.std.specs.Prelude.{All, IsSome, IfSome, ◌==◌}
+use Rattle.std.specs.List.{AllByRecursion}
+use Rattle.std.proofs.Math.Nat.{div-le_self}
+use Rattle.cap_word.specs.declared.threads.ThreadId.{ThreadId}
+use Rattle.stride_rule.specs.declared.choices.StrideChoice.{StrideChoice}
+use Rattle.stride_rule.specs.declared.clients.Client.{Client}
+use Rattle.stride_rule.specs.Choices.{IsFirst}
+use Rattle.stride_rule.specs.Clients.{IsAbsent, client_of, pass_in, with_growth, grown}
+use Rattle.stride_rule.specs.Tickets.{AreTickets, stride_of, tickets_of}
+use Rattle.stride_rule.specs.State.{StrideState, IsClient, IsNear, IsKept, new_rule, with_client, after_choice, after_segment, after_leaving}
+use Rattle.stride_rule.proofs.ClientLemmas.{by_test, all_of, all_to, all_append, pass-of_client, all-client, all-without, once-grown, once-without, once-append}
+use Rattle.stride_rule.proofs.OrderLemmas.{not_before-le}
+
+pub stride-le : (tickets : List (ℕ × ℕ)) (thread : ℕ) → stride_of tickets thread ≤ 1048576
+stride-le tickets thread = div-le_self 1048576 (tickets_of tickets thread)
+
+-- ---- at first
+
+kept_empty : (tickets : List (ℕ × ℕ)) → AreTickets tickets → IsKept (new_rule tickets)
+kept_empty tickets are = record {
+  tickets = are;
+  counted = omega arith;
+  latest = omega arith;
+  greatest = omega arith;
+  clients = tt;
+  once = tt;
+  near = λ e. tt;
+}
+
+pub kept_new : (tickets : List (ℕ × ℕ)) (clients : List Client) → clients ≡ [] → AreTickets tickets → IsKept (record (new_rule tickets) { clients = clients })
+kept_new tickets clients none are = subst (λ (cs : List Client). IsKept (record (new_rule tickets) { clients = cs })) (sym none) (kept_empty tickets are)
+
+-- ---- a thread is started
+
+module _ (rule : StrideState) (thread : ThreadId) (kept : IsKept rule) where
+  abbrev stride : ℕ
+  stride = stride_of rule.tickets thread.number
+
+  client_stays : (c : Client) → IsClient rule c → IsClient (with_client rule thread) c
+  client_stays c is = record { stride_is = is.stride_is; greatest = let h : c.stride ≤ rule.greatest = is.greatest in omega arith; bound = is.bound }
+
+  near_stays : (c : Client) → IsNear rule.latest rule.greatest c → IsNear rule.latest (max rule.greatest stride) c
+  near_stays c is = record { least = is.least; most = let h : c.pass ≤ rule.latest + rule.greatest = is.most in omega arith }
+
+  pub kept_with_client : IsAbsent thread.number rule.clients → IsKept (with_client rule thread)
+  kept_with_client none = record {
+    tickets = kept.tickets;
+    counted = kept.counted;
+    latest = kept.latest;
+    greatest = let h : stride ≤ 1048576 = stride-le rule.tickets thread.number in let k : rule.greatest ≤ 1048576 = kept.greatest in omega arith;
+    clients = all_append (IsClient (with_client rule thread)) rule.clients _ (all_to (IsClient rule) (IsClient (with_client rule thread)) client_stays rule.clients kept.clients)
+        (record { stride_is = refl; greatest = omega arith; bound = kept.latest });
+    once = once-append thread.number rule.clients _ refl kept.once none;
+    near = λ e. all_append (IsNear rule.latest (max rule.greatest stride)) rule.clients _
+        (all_to (IsNear rule.latest rule.greatest) (IsNear rule.latest (max rule.greatest stride)) near_stays rule.clients (kept.near e))
+        (record { least = omega arith; most = omega arith });
+  }
+
+pub kept_started : (rule : StrideState) (thread : ThreadId) (clients : List Client) (greatest : ℕ) → IsKept rule → IsAbsent thread.number rule.clients →
+    clients ≡ (with_client rule thread).clients → greatest ≡ (with_client rule thread).greatest → IsKept (record rule { clients = clients; greatest = greatest })
+kept_started rule thread clients greatest kept none e f =
+    subst (λ (cs : List Client). IsKept (record rule { clients = cs; greatest = greatest })) (sym e)
+    (subst (λ (g : ℕ). IsKept (record rule { clients = (with_client rule thread).clients; greatest = g })) (sym f) (kept_with_client rule thread kept none))
+
+-- ---- a choice is noted
+
+-- its thread is the one whose pass was the least: the others are then near it, and so is its own pass after it has grown
+near-grown : (number latest greatest : ℕ) (cs : List Client) → AllByRecursion (IsNear latest greatest) cs → AllByRecursion (λ c. c.stride ≤ greatest) cs →
+    pass_in number cs ≡ latest → AllByRecursion (IsNear latest greatest) (grown number cs)
+near-grown number latest greatest [] near small e = tt
+near-grown number latest greatest (c ∷ cs) near small e =
+    by_test (c.thread.number == number) _
+    (λ same.
+    let it : c.pass ≡ latest = rw same at e in
+    let h : c.stride ≤ greatest = small.0 in
+    rw same (record { least = omega arith; most = omega arith }, near.1))
+    (λ other.
+    let rest : pass_in number cs ≡ latest = rw other at e in
+    rw other (near.0, near-grown number latest greatest cs near.1 small.1 rest))
+
+near-first : (latest greatest : ℕ) (first : Client) (cs : List Client) → latest ≤ first.pass → AllByRecursion (IsNear latest greatest) cs → IsFirst cs first →
+    AllByRecursion (IsNear first.pass greatest) cs
+near-first latest greatest first [] h near is = tt
+near-first latest greatest first (c ∷ cs) h near is = (
+  record {
+    least = not_before-le c.pass c.thread.number first.pass first.thread.number is.0;
+    most = let k : c.pass ≤ latest + greatest = near.0.most in omega arith;
+  },
+  near-first latest greatest first cs h near.1 is.1,
+)
+
+not_held : (held all : Bool) → (held || not all) ≡ false → (held ≡ false) × (all ≡ true)
+not_held false true e = (refl, refl)
+not_held false false e = absurd (let no : true ≡ false = e in cc)
+not_held true all e = absurd (let no : true ≡ false = e in cc)
+
+is-some : (o : Option Client) → IsSome o → (c : Client) × (o ≡ Some c)
+is-some None some = absurd (let no : false ≡ true = some in cc)
+is-some (Some c) some = (c, refl)
+
+module _ (rule : StrideState) (choice : StrideChoice) (kept : IsKept rule) where
+  abbrev number : ℕ
+  number = choice.thread.number
+
+  client_goes_on : (c : Client) → IsClient rule c → IsClient (after_choice rule choice) c
+  client_goes_on c is = record { stride_is = is.stride_is; greatest = is.greatest; bound = let h : c.pass ≤ 1048576 * rule.noted = is.bound in omega arith }
+
+  -- after the choice each pass may be by one whole stride greater
+  client_bound : (c : Client) → IsClient rule c → IsClient (after_choice rule choice) (with_growth c)
+  client_bound c is = record {
+    stride_is = is.stride_is;
+    greatest = is.greatest;
+    bound =
+        let h : c.pass ≤ 1048576 * rule.noted = is.bound in
+        let k : c.stride ≤ rule.greatest = is.greatest in
+        let m : rule.greatest ≤ 1048576 = kept.greatest in
+        omega arith;
+  }
+
+  clients_grown : (cs : List Client) → AllByRecursion (IsClient rule) cs → AllByRecursion (IsClient (after_choice rule choice)) (grown number cs)
+  clients_grown [] all = tt
+  clients_grown (c ∷ cs) all =
+      by_test (c.thread.number == number) _
+      (λ same. rw same (client_bound c all.0, all_to (IsClient rule) (IsClient (after_choice rule choice)) client_goes_on cs all.1))
+      (λ other. rw other (client_goes_on c all.0, clients_grown cs all.1))
+
+  pub small_passes : All (λ c. c.pass + c.stride ≤ 2 ^ 61) rule.clients
+  small_passes = all_of (λ c. c.pass + c.stride ≤ 2 ^ 61) rule.clients (all_to (IsClient rule) (λ c. c.pass + c.stride ≤ 2 ^ 61) (λ c is.
+      let h : c.pass ≤ 1048576 * rule.noted = is.bound in
+      let k : c.stride ≤ rule.greatest = is.greatest in
+      let m : rule.greatest ≤ 1048576 = kept.greatest in
+      let n : rule.noted ≤ 2 ^ 40 = kept.counted in
+      omega arith) rule.clients kept.clients)
+
+  near_after : (chosen : Client) → client_of number rule.clients ≡ Some chosen → IsFirst rule.clients chosen → rule.held_back ≡ false →
+      AllByRecursion (IsNear (pass_in number rule.clients) rule.greatest) (grown number rule.clients)
+  near_after chosen found first calm =
+      let pass : pass_in number rule.clients ≡ chosen.pass = pass-of_client number rule.clients chosen found in
+      let near = all-client number (IsNear rule.latest rule.greatest) rule.clients chosen (kept.near calm) found in
+      near-grown number (pass_in number rule.clients) rule.greatest rule.clients
+      (subst (λ (p : ℕ). AllByRecursion (IsNear p rule.greatest) rule.clients) (sym pass)
+      (near-first rule.latest rule.greatest chosen rule.clients near.least (kept.near calm) first))
+      (all_to (IsClient rule) _ (λ c is. is.greatest) rule.clients kept.clients)
+      refl
+
+  first_of : (chosen : Client) → client_of number rule.clients ≡ Some chosen → IfSome (client_of number rule.clients) (IsFirst rule.clients) → IsFirst rule.clients chosen
+  first_of chosen found first = let is : IfSome (Some chosen) (IsFirst rule.clients) = rw found at first in is
+
+  pub kept_after_choice : IsSome (client_of number rule.clients) → (IsTrue choice.all → IfSome (client_of number rule.clients) (IsFirst rule.clients)) →
+      rule.noted < 2 ^ 40 → IsKept (after_choice rule choice)
+  kept_after_choice some first room =
+      let chosen = is-some (client_of number rule.clients) some in
+      let pass : pass_in number rule.clients ≡ chosen.0.pass = pass-of_client number rule.clients chosen.0 chosen.1 in
+      let at = all-client number (IsClient rule) rule.clients chosen.0 kept.clients chosen.1 in
+      let bound : chosen.0.pass ≤ 1048576 * rule.noted = at.bound in
+      record {
+        tickets = kept.tickets;
+        counted = omega arith;
+        latest = omega arith;
+        greatest = kept.greatest;
+        clients = clients_grown rule.clients kept.clients;
+        once = once-grown number rule.clients kept.once;
+        near = λ e. let calm = not_held rule.held_back choice.all e in near_after chosen.0 chosen.1 (first_of chosen.0 chosen.1 (first calm.1)) calm.0;
+      }
+
+-- ---- the choice under way ends
+
+client_same : (rule other : StrideState) → other.tickets ≡ rule.tickets → other.greatest ≡ rule.greatest → other.noted ≡ rule.noted →
+    (c : Client) → IsClient rule c → IsClient other c
+client_same rule other e f g c is = record {
+  stride_is = is.stride_is ∙ ap (λ (t : List (ℕ × ℕ)). stride_of t c.thread.number) (sym e);
+  greatest = let h : c.stride ≤ rule.greatest = is.greatest in omega arith;
+  bound = let h : c.pass ≤ 1048576 * rule.noted = is.bound in omega arith;
+}
+
+pub kept_after_segment : (rule : StrideState) → IsKept rule → IsKept (after_segment rule)
+kept_after_segment rule kept = record {
+  tickets = kept.tickets;
+  counted = kept.counted;
+  latest = kept.latest;
+  greatest = kept.greatest;
+  clients = all_to (IsClient rule) (IsClient (after_segment rule)) (client_same rule (after_segment rule) refl refl refl) rule.clients kept.clients;
+  once = kept.once;
+  near = kept.near;
+}
+
+pub kept_after_leaving : (rule : StrideState) (number : ℕ) → IsKept rule → IsKept (after_leaving rule number)
+kept_after_leaving rule number kept = record {
+  tickets = kept.tickets;
+  counted = kept.counted;
+  latest = kept.latest;
+  greatest = kept.greatest;
+  clients = all-without number (IsClient (after_leaving rule number)) rule.clients
+      (all_to (IsClient rule) (IsClient (after_leaving rule number)) (client_same rule (after_leaving rule number) refl refl refl) rule.clients kept.clients);
+  once = once-without number rule.clients kept.once;
+  near = λ e. all-without number (IsNear rule.latest rule.greatest) rule.clients (kept.near e);
+}

@@ -1,0 +1,26 @@
+-- What a choice by strides is.
+use Rattle.std.specs.Prelude.{◌≡◌, false, Bool, IsTrue, Option, Some, None, List}
+use Rattle.std.specs.List.{AllByRecursion, list_all}
+use Rattle.cap_word.specs.declared.threads.ThreadId.{ThreadId}
+use Rattle.stride_rule.specs.declared.choices.StrideChoice.{StrideChoice}
+use Rattle.stride_rule.specs.declared.clients.Client.{Client}
+use Rattle.stride_rule.specs.Clients.{client_of, is_before}
+
+-- no client goes before this one
+abbrev pub IsFirst : List Client → Client → Type 0
+IsFirst clients first = AllByRecursion (λ client. is_before client first ≡ false) clients
+
+-- the choice is of a client that waits and is eligible; no eligible client that waits goes before it; and it tells whether all that
+-- wait are eligible
+pub record IsFirstEligible (waiting : List Client) (eligible : ThreadId → Bool) (choice : StrideChoice) : Type 0 where
+  pub client : Client
+  pub waits : client_of choice.thread.number waiting ≡ Some client
+  pub thread_is : client.thread ≡ choice.thread
+  pub passes : IsTrue (eligible choice.thread)
+  pub first : AllByRecursion (λ other. IsTrue (eligible other.thread) → is_before other client ≡ false) waiting
+  pub all_is : choice.all ≡ list_all (λ other. eligible other.thread) waiting
+
+-- the lawful choice, and none exactly where no client that waits is eligible
+abbrev pub IsLawfulStrideChoice : List Client → (ThreadId → Bool) → Option StrideChoice → Type 0
+IsLawfulStrideChoice waiting eligible None = AllByRecursion (λ client. eligible client.thread ≡ false) waiting
+IsLawfulStrideChoice waiting eligible (Some choice) = IsFirstEligible waiting eligible choice

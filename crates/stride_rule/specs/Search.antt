@@ -1,0 +1,26 @@
+-- A search through the clients, one after another.
+use Rattle.std.specs.Prelude.{ℕ, Bool, true, false, if◌then◌else◌, Option, Some, None, List, [], ◌∷◌}
+use Rattle.cap_word.specs.declared.threads.ThreadId.{ThreadId}
+use Rattle.stride_rule.specs.declared.clients.Client.{Client}
+use Rattle.stride_rule.specs.declared.searching.Found.{Found}
+use Rattle.stride_rule.specs.Clients.{is_before, is_running}
+
+-- the first of the best so far and one more client
+abbrev pub better : Option Client → Client → Option Client
+better None client = Some client
+better (Some best) client = if is_before client best then Some client else Some best
+
+-- what is found with one more client
+abbrev pub found_with : (ThreadId → Bool) → Option ℕ → Found → Client → Found
+found_with eligible running found client =
+    if is_running running client then found
+    else if eligible client.thread then record { best = better found.best client; all = found.all }
+    else record { best = found.best; all = false }
+
+-- what is found with all these clients
+abbrev pub found_from : (ThreadId → Bool) → Option ℕ → Found → List Client → Found
+found_from eligible running found [] = found
+found_from eligible running found (client ∷ clients) = found_from eligible running (found_with eligible running found client) clients
+
+abbrev pub found_in : (ThreadId → Bool) → Option ℕ → List Client → Found
+found_in eligible running clients = found_from eligible running (record { best = None; all = true }) clients

@@ -1,0 +1,22 @@
+-- How far apart the passes of threads are.
+use Rattle.std.specs.Prelude.{ℕ, ◌-◌, min, max, if◌then◌else◌, Option, Some, None, List, [], ◌∷◌}
+use Rattle.stride_rule.specs.declared.clients.Client.{Client}
+use Rattle.stride_rule.specs.State.{StrideState}
+
+-- the greatest and the least of a pass and those of the clients
+abbrev pub most_from : ℕ → List Client → ℕ
+most_from pass [] = pass
+most_from pass (client ∷ clients) = most_from (max pass client.pass) clients
+
+abbrev pub least_from : ℕ → List Client → ℕ
+least_from pass [] = pass
+least_from pass (client ∷ clients) = least_from (min pass client.pass) clients
+
+-- the greatest pass less the least, or 0 without clients
+abbrev pub apart_in : List Client → ℕ
+apart_in [] = 0
+apart_in (client ∷ clients) = most_from client.pass clients - least_from client.pass clients
+
+-- the same of the threads that haven't left, unless a thread that waited at some choice wasn't eligible
+abbrev pub spread_of : StrideState → Option ℕ
+spread_of rule = if rule.held_back then None else Some (apart_in rule.clients)

@@ -1,0 +1,84 @@
+-- What a stride rule means, and what its calls do to that.
+use Rattle.std.specs.Prelude.{ℕ, ◌≡◌, ⊤, ◌+◌, ◌*◌, ◌^◌, ◌≤◌, max, Bool, false, not, ◌||◌, Option, Some, None, List, [], ◌∷◌, ◌++◌, filter}
+use Rattle.std.specs.List.{AllByRecursion}
+use Rattle.cap_word.specs.declared.threads.ThreadId.{ThreadId}
+use Rattle.stride_rule.specs.declared.choices.StrideChoice.{StrideChoice}
+use Rattle.stride_rule.specs.declared.clients.Client.{Client}
+use Rattle.stride_rule.specs.Clients.{IsAbsent, is_running, pass_in, grown, without}
+use Rattle.stride_rule.specs.Tickets.{AreTickets, stride_of}
+
+-- the tickets that are given; the threads that haven't left, with their strides and passes; the number of the thread whose choice is
+-- under way; the pass, before its growth, of the thread chosen last, or 0 at first; the number of choices noted; whether at one of
+-- them not all that waited were eligible; and the greatest stride of the threads started so far, or 0 before the first
+pub record StrideState : Type 0 where
+  pub tickets : List (ℕ × ℕ)
+  pub clients : List Client
+  pub running : Option ℕ
+  pub latest : ℕ
+  pub noted : ℕ
+  pub held_back : Bool
+  pub greatest : ℕ
+
+-- the threads that wait
+abbrev pub waiting_in : Option ℕ → List Client → List Client
+waiting_in running clients = filter (λ client. not (is_running running client)) clients
+
+abbrev pub waiting_of : StrideState → List Client
+waiting_of rule = waiting_in rule.running rule.clients
+
+-- no thread was started
+abbrev pub new_rule : List (ℕ × ℕ) → StrideState
+new_rule tickets = record { tickets = tickets; clients = []; running = None; latest = 0; noted = 0; held_back = false; greatest = 0 }
+
+-- a thread was started, at the pass of the thread chosen last
+abbrev pub with_client : StrideState → ThreadId → StrideState
+with_client rule thread = record rule {
+  clients = rule.clients ++ record { thread = thread; stride = stride_of rule.tickets thread.number; pass = rule.latest } ∷ [];
+  greatest = max rule.greatest (stride_of rule.tickets thread.number);
+}
+
+-- a choice was noted: it is under way, and its thread's pass has grown by its stride
+abbrev pub after_choice : StrideState → StrideChoice → StrideState
+after_choice rule choice = record rule {
+  clients = grown choice.thread.number rule.clients;
+  running = Some choice.thread.number;
+  latest = pass_in choice.thread.number rule.clients;
+  noted = rule.noted + 1;
+  held_back = rule.held_back || not choice.all;
+}
+
+-- the choice under way has ended, and its thread waits again
+abbrev pub after_segment : StrideState → StrideState
+after_segment rule = record rule { running = None }
+
+-- the choice under way has ended, and its thread has left
+abbrev pub after_leaving : StrideState → ℕ → StrideState
+after_leaving rule number = record rule { clients = without number rule.clients; running = None }
+
+-- ---- what a rule keeps
+
+-- of each client its stride, by its tickets; that the stride is at most the greatest so far; and that its pass is at most so many
+-- whole strides as there were choices
+pub record IsClient (rule : StrideState) (client : Client) : Type 0 where
+  pub stride_is : client.stride ≡ stride_of rule.tickets client.thread.number
+  pub greatest : client.stride ≤ rule.greatest
+  pub bound : client.pass ≤ 1048576 * rule.noted
+
+-- each thread is there once
+abbrev pub AreOnce : List Client → Type 0
+AreOnce [] = ⊤
+AreOnce (client ∷ clients) = IsAbsent client.thread.number clients × AreOnce clients
+
+-- a pass is at least that of the thread chosen last, and by at most the greatest stride above it
+pub record IsNear (latest greatest : ℕ) (client : Client) : Type 0 where
+  pub least : latest ≤ client.pass
+  pub most : client.pass ≤ latest + greatest
+
+pub record IsKept (rule : StrideState) : Type 0 where
+  pub tickets : AreTickets rule.tickets
+  pub counted : rule.noted ≤ 2 ^ 40
+  pub latest : rule.latest ≤ 1048576 * rule.noted
+  pub greatest : rule.greatest ≤ 1048576
+  pub clients : AllByRecursion (IsClient rule) rule.clients
+  pub once : AreOnce rule.clients
+  pub near : rule.held_back ≡ false → AllByRecursion (IsNear rule.latest rule.greatest) rule.clients

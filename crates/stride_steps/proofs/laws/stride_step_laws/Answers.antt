@@ -1,0 +1,17 @@
+use Rattle.stride_steps.proofs.Choosing as choosing
+use Rattle.stride_steps.proofs.Going as going
+use Rattle.stride_steps.proofs.Passing as passing
+use Rattle.stride_steps.proofs.laws.stride_step_laws.Goals as goal
+
+pub returns : goal.returns
+returns c = record {
+  choice = choosing.stride_choice_told;
+  clients_taken = going.clients_taken;
+  clients_started = going.clients_started;
+  clients_rejoined = going.clients_rejoined;
+  clients_left = going.clients_left;
+  passes_taken = passing.passes_taken;
+  passes_started = passing.passes_started;
+  passes_rejoined = passing.passes_rejoined;
+  passes_left = passing.passes_left;
+}

@@ -1,0 +1,29 @@
+-- What the threads of a world wait for, as needs.
+use Rattle.std.specs.Prelude.{◌≡◌, Bool, true, false, not, Option, Some, None, if◌then◌else◌}
+use Rattle.cap_word.specs.declared.threads.ThreadId.{ThreadId}
+use Rattle.machine_world.specs.Threads.{Blocked, Thread, World}
+use Rattle.ready_tree.specs.declared.needs.Need.{Need}
+use Rattle.ready_tree.specs.Needs.{is_same_need}
+use Rattle.thread_core.specs.Ready.{runs_now, passes_at}
+use Rattle.thread_core.specs.Worlds.{Held}
+use Rattle.thread_waits.specs.Needs.{need_of_block}
+
+-- a thread that hasn't run yet waits for nothing
+abbrev pub need_of_blocked : Option Blocked → Need
+need_of_blocked None = Need.Nothing
+need_of_blocked (Some blocked) = need_of_block blocked.since blocked.block
+
+-- the thread waits to be chosen
+abbrev pub waits_to_go : World → Thread → Bool
+waits_to_go w thread = not (runs_now w.running thread.number)
+
+-- it waits, and this is its need
+abbrev pub waits_for_need : World → Need → Thread → Bool
+waits_for_need w need thread = if runs_now w.running thread.number then false else is_same_need (need_of_blocked thread.blocked) need
+
+abbrev pub IsWaitingIn : Held → ThreadId → Type 0
+IsWaitingIn held thread = passes_at (waits_to_go held.machine) held thread ≡ true
+
+-- the thread of that name lives and waits, and this is its need
+abbrev pub Vouches : Held → ThreadId → Need → Type 0
+Vouches held thread need = passes_at (waits_for_need held.machine need) held thread ≡ true

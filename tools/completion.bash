@@ -1,0 +1,27 @@
+# Completion of the words of ./capriccio for bash: `source tools/completion.bash`, or put that line with the folder's path into ~/.bashrc.
+_capriccio() {
+    local word=${COMP_WORDS[COMP_CWORD]} before=${COMP_WORDS[COMP_CWORD - 1]} command=${COMP_WORDS[1]}
+    local placement="--chunk --max-path" policy="--chunks --fuel --backlog --caps --high --low --rule --tickets --knee" options=""
+    if [ "$COMP_CWORD" -eq 1 ]; then
+        mapfile -t COMPREPLY < <(compgen -W "serve run build check graph demo" -- "$word")
+        return
+    fi
+    case $before in
+        --chunk) options="64 128 256 512 1024 2048 4096 8192 16384 32768 65536" ;;
+        --rule) options="graph stride" ;;
+        --*) return ;; # a value that only the caller knows
+    esac
+    case $command:$word in
+        *:[0-9]* | *:graph | *:stride) ;;
+        serve:-*) options="$placement $policy" ;;
+        run:-*) options="$policy" ;;
+        build:-* | graph:-*) options="$placement" ;;
+    esac
+    if [ -n "$options" ]; then
+        mapfile -t COMPREPLY < <(compgen -W "$options" -- "$word")
+    elif [ "$command" != demo ]; then
+        compopt -o filenames 2>/dev/null
+        mapfile -t COMPREPLY < <(compgen -f -- "$word")
+    fi
+}
+complete -F _capriccio capriccio ./capriccio

@@ -1,0 +1,134 @@
+"""What the refusals of names mean: `Unknown`, `Twice`, `Arity` and `Kind`, told by what the source declares."""
+from .tokens import MODELLED, arguments_between, bodies_of, closing, declarations_of, tokens_of
+
+OF_C = {"printf", "puts", "malloc", "free", "memcpy", "exit", "rand", "time"}
+A_OR_AN = {"array": "an array", "scalar": "a variable", "parameter": "a parameter", "function": "a function", "prototype": "a function", "table": "a table"}
+
+
+class Place:
+    """A place in a source: the token there, those beside it, and what is declared."""
+
+    def __init__(self, source, at):
+        self.source, self.tokens = source, tokens_of(source)
+        self.index = next(i for i, it in enumerate(self.tokens) if it.at == at)
+        self.token = self.tokens[self.index]
+        self.declared = declarations_of(self.tokens)
+        # (the parameters stand before the body, and belong to it)
+        self.inside = next(((name, last) for name, first, last in bodies_of(self.tokens) if first <= at < last), None)
+        self.inside = self.inside or next((it.inside for it in self.declared if it.what == "parameter" and it.at == at), None)
+
+    def text(self, steps):
+        index = self.index + steps
+        return self.tokens[index].text if 0 <= index < len(self.tokens) else ""
+
+    def line(self, at):
+        return self.source.count(b"\n", 0, at) + 1
+
+    def before(self):
+        """The last declaration of this name that can be meant here, or None."""
+        alike = [it for it in self.declared if it.name == self.token.text and it.at < self.token.at and it.inside in (None, self.inside)]
+        return alike[-1] if alike else None
+
+    def arguments(self):
+        """How many arguments the call here has, behind an index if there is one."""
+        start = self.index + 1
+        if self.text(1) == "[":
+            start = closing(self.tokens, start) + 1
+        return arguments_between(self.tokens, start, closing(self.tokens, start))
+
+
+def some(number, what):
+    return f"{number} {what}{'' if number == 1 else 's'}"
+
+
+def meant(kind, source, at):
+    """What the refusal means at that place, a line each."""
+    place = Place(source, at)
+    return {"Unknown": unknown, "Twice": twice, "Arity": arity, "Kind": kind_of}[kind](place)
+
+
+def unknown(place):
+    name = place.token.text
+    alike = [it for it in place.declared if it.name == name]
+    here = next((it for it in alike if it.at == place.token.at), None)
+    if here:
+        return [f"this prototype of `{name}` has no definition: no function `{name}` with a body follows in the source"]
+    later = next((it for it in alike if it.at > place.token.at and it.inside in (None, place.inside)), None)
+    if later:
+        how = f"; write it above, or a prototype `{'int' if later.gives else 'void'} {name}({', '.join(['int'] * later.count)});`" if later.what == "function" else ""
+        return [f"`{name}` is declared in line {place.line(later.at)}, and a name is known from its declaration on{how}"]
+    own = next((it for it in alike if it.at < place.token.at and not any(token.text in ",;" for token in place.tokens if it.at < token.at < place.token.at)), None)
+    if own:
+        return [f"`{name}` is known only behind its own initialiser"]
+    if alike:
+        return [f"`{name}` is declared in line {place.line(alike[-1].at)}, in a scope that has ended here"]
+    if name in OF_C:
+        return [f"CapC has no library, so no `{name}`: the calls are {', '.join(MODELLED)}"]
+    return [f"`{name}` is declared nowhere"]
+
+
+def twice(place):
+    alike = [it for it in place.declared if it.name == place.token.text and it.at < place.token.at and it.inside == place.inside]
+    where = f", in line {place.line(alike[0].at)} as {A_OR_AN[alike[0].what]}" if len(alike) == 1 else ""
+    return [f"`{place.token.text}` is declared already in the same scope{where}"]
+
+
+def arity(place):
+    name, first = place.token.text, place.before()
+    here = next((it for it in place.declared if it.at == place.token.at), None)
+    if here and here.what == "table":
+        return [f"the size of the table `{name}` is the number of its members, {here.count}, and at least 1"]
+    if here:
+        of = f" in line {place.line(first.at)}" if first else ""
+        return [f"`{name}` differs from what is declared{of} in its result or in how many parameters it has"]
+    if name in MODELLED:
+        return [f"`{name}` takes {some(MODELLED[name], 'argument')}, and here {'is' if place.arguments() == 1 else 'are'} {place.arguments()}"
+                + (": the function, and the value that it is called with" if name == "spawn" else "")]
+    takes = 1 if first and first.what == "table" else first.count if first else None
+    through = "a call through a table" if first and first.what == "table" else f"`{name}`"
+    return [f"{through} takes {some(takes, 'argument')}, and here {'is' if place.arguments() == 1 else 'are'} {place.arguments()}"] if takes is not None else []
+
+
+def kind_of(place):
+    name = place.token.text
+    if name == "return":
+        return ["a function that is `int` returns a value, and one that is `void` returns none: " + ("here a value is missing" if place.text(1) == ";" else "here is one too many")]
+    if name in ("break", "continue"):
+        return [f"`{name}` stands in a loop, and here is none around it"]
+    here = next((it for it in place.declared if it.at == place.token.at), None)
+    if here:
+        return declared_so(place, here)
+    if name == "spawn":
+        return ["the first argument of `spawn` is the name of a function, alone"]
+    return used_so(place, name, place.before())
+
+
+def declared_so(place, here):
+    """Of a name where it is declared."""
+    if here.name in MODELLED:
+        return [f"`{here.name}` is the name of a call of the language and can't be declared"]
+    if here.name == "main":
+        return ["`main` has no parameters"]
+    return [f"an array has from 1 to 65,536 words, and `{here.name}` has {here.count:,}"] if here.what == "array" else []
+
+
+def used_so(place, name, first):
+    """Of a name where it is used."""
+    if place.text(-1) == "(" and place.text(-2) == "spawn":
+        return [f"`spawn` takes a function with one parameter, and `{name}` " + (f"has {first.count}" if first and first.what in ("function", "prototype") else "is none")]
+    if name in MODELLED and place.text(1) != "(":
+        return [f"`{name}` is a call of the language: it stands with its arguments, as `{name}(..)`"]
+    if name in MODELLED or first and first.what in ("function", "prototype") and place.text(1) == "(":
+        return [f"`{name}` gives no result, so nothing can use one"]
+    if not first:
+        return []
+    said = f"`{name}` is {A_OR_AN[first.what]} (line {place.line(first.at)})"
+    if place.inside is None:
+        return [f"{said}; a member of a table is an `int` function with one parameter"]
+    if place.text(1) == "(":
+        return [f"{said}" + ("; a table is called with an index, as `t[i](x)`" if first.what == "table" else ", and only a function can be called")]
+    if place.text(1) == "[":
+        return [f"{said}, and only an array or a table has an index"]
+    if first.what == "array":
+        return [f"{said}; it is used by its elements, as `{name}[i]`"]
+    return [f"{said}, and no value; " + ("call it" if first.what != "table" else "a table is called, as `t[i](x)`")]
