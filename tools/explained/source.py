@@ -1,5 +1,5 @@
 """Where in its file a refused source breaks the rule that the program names, what that means there, and what could stand there."""
-import os, subprocess, tempfile
+import subprocess, tempfile
 
 from . import scope, words
 from .tokens import KEYWORDS, declarations_of, tokens_of
