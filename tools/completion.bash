@@ -1,13 +1,14 @@
 # Completion of the words of ./capriccio for bash: `source tools/completion.bash`, or put that line with the folder's path into ~/.bashrc.
 _capriccio() {
     local word=${COMP_WORDS[COMP_CWORD]} before=${COMP_WORDS[COMP_CWORD - 1]} command=${COMP_WORDS[1]}
-    local placement="--chunk --max-path" policy="--chunks --fuel --backlog --caps --high --low --rule --tickets --knee" options=""
+    local placement="--chunk --max-path" policy="--chunks --extra --extra-size --fuel --backlog --caps --high --low --rule --tickets --knee" options=""
     if [ "$COMP_CWORD" -eq 1 ]; then
-        mapfile -t COMPREPLY < <(compgen -W "serve run build check graph demo" -- "$word")
+        mapfile -t COMPREPLY < <(compgen -W "serve run build check graph demo budget" -- "$word")
         return
     fi
     case $before in
         --chunk) options="64 128 256 512 1024 2048 4096 8192 16384 32768 65536" ;;
+        --extra-size) options="32 48 64 80 96 112 128 192 256 512 1024" ;;
         --rule) options="graph stride" ;;
         --*) return ;; # a value that only the caller knows
     esac

@@ -68,7 +68,7 @@ def limited(parts, options):
                 "note: a large array can be a global; otherwise more functions with fewer names each" if path >= MOST_FRAME else "note: a larger `--max-path`, and `--chunk` with it, or fewer local names"]
     if parts[1] == "code":
         return ["note: the most is 200,000 words"]
-    return [f"note: the chunks of the certificate times `--chunks` are at most {words.MOST_POOL:,} bytes"] if parts[1] == "pool" else []
+    return [f"note: `--chunks` times the bytes of the certificate's chunk, and `--extra` times `--extra-size`, are together at most {words.MOST_POOL:,} bytes"] if parts[1] == "pool" else []
 
 
 def place_of(source, at):
@@ -104,7 +104,7 @@ def meant(program, kind, source, at):
         return ["here is the 65th construct that is open at once, and the most is 64: `(`, `[`, `{`, `if`, `while`, `for`, unary operators and `?` count"]
     if kind == "NestedCall":
         name = next(it.text for it in tokens_of(source) if it.at == at)
-        return [f"a call stands alone, or is the whole right side of `=`, or the whole value of `return`: put it into a variable first, as in `r = {name}(..);`"]
+        return [f"in the parentheses of a `for` a call stands alone, or is the whole right side of `=`: put it into a variable before the `for`, as in `r = {name}(..);`, or write a `while`"]
     return scope.meant(kind, source, at)
 
 

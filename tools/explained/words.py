@@ -9,6 +9,7 @@ COMMANDS = {
     "check": ("SRC", "IMG", "CRT"),
     "graph": ("SRC",),
     "demo": ("N",),
+    "budget": ("SRC", "IMG", "CRT"),
 }
 PLACEMENT, POLICY = ("serve", "build", "graph"), ("serve", "run")
 
@@ -24,6 +25,8 @@ OPTIONS = {
     "--chunk": Option(PLACEMENT, 4096, 64, 65_536, 16),
     "--max-path": Option(PLACEMENT, None, 16, None),
     "--chunks": Option(POLICY, 1024, 1, 65_536),
+    "--extra": Option(POLICY, 0, 0, 65_536),
+    "--extra-size": Option(POLICY, 64, 32, 65_536, 16),
     "--fuel": Option(POLICY, 10_000_000, 0, 1_000_000_000),
     "--backlog": Option(POLICY, 64, 1, 4096),
     "--caps": Option(POLICY, None, None, None),
@@ -134,10 +137,15 @@ def wrong_values(command, options):
             return fault
     if command in POLICY and "--low" not in options and high <= 700:
         return f"`--low` is 700 where it isn't given, and must be below `--high`, {high}: give it too"
-    chunks = number_of(options.get("--chunks", "1024")) or 1024
-    if command == "serve" and chunk * chunks > MOST_POOL:
-        return f"{chunks:,} chunks of {chunk:,} bytes are {chunk * chunks:,} bytes, and the most is {MOST_POOL:,}"
-    return None
+    return wrong_pool(chunk, options) if command == "serve" else None
+
+
+def wrong_pool(chunk, options):
+    """Why all chunks together are too large, if they are."""
+    chunks, extra, size = (number_of(options.get(name, str(OPTIONS[name].default))) for name in ("--chunks", "--extra", "--extra-size"))
+    added = f" and {extra:,} of {size:,}" if extra else ""
+    pool = chunk * chunks + size * extra
+    return f"{chunks:,} chunks of {chunk:,} bytes{added} are {pool:,} bytes, and the most is {MOST_POOL:,}" if pool > MOST_POOL else None
 
 
 def wrong_value(name, text, options, chunk, high):

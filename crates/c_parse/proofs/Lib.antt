@@ -1,3 +1,4 @@
 pub mod NestedWhole
+pub mod ForWhole
 pub mod CallChains
 pub mod ParseRules

@@ -4,15 +4,15 @@ use Rattle.c_tree.specs.RawTrees.{RawExprTree, RawExprTrees, RawNumber, RawName,
 use Rattle.c_tree.specs.WholeCalls.{HasNoCall, HaveNoCall, IsValueWhole, IsSimpleWhole, AreSimplesWhole, IsConditionWhole, IsStepWhole, IsReturnWhole, IsStmtWhole, AreStmtsWhole, IsItemWhole, AreCallsWhole}
 use Rattle.c_parse.specs.NestedCalls.{earlier, first_call, first_call_of, nested_in_value, nested_in_simple, nested_in_simples, nested_in_condition, nested_in_step, nested_in_return, nested_in_stmt, nested_in_stmts, nested_in_item, nested_in_items}
 
-neither_left : (a b : Option ℕ) → earlier a b ≡ None → a ≡ None
+pub neither_left : (a b : Option ℕ) → earlier a b ≡ None → a ≡ None
 neither_left None b e = refl
 neither_left (Some at) b e = e
 
-neither_right : (a b : Option ℕ) → earlier a b ≡ None → b ≡ None
+pub neither_right : (a b : Option ℕ) → earlier a b ≡ None → b ≡ None
 neither_right None b e = e
 neither_right (Some at) b e = cc
 
-neither : {a b : Option ℕ} → a ≡ None → b ≡ None → earlier a b ≡ None
+pub neither : {a b : Option ℕ} → a ≡ None → b ≡ None → earlier a b ≡ None
 neither {a = x} {b = y} e f = ap (λ o. earlier o y) e ∙ f
 
 no_call_whole : (e : RawExprTree) → first_call e ≡ None → HasNoCall e
@@ -93,27 +93,27 @@ simple_none (RawSetElement n i v) h = neither (no_call_none i h.0) (value_none v
 simple_none (RawCalling n es) h = no_calls_none es h
 simple_none (RawTableCalling n i e) h = neither (no_call_none i h.0) (no_call_none e h.1)
 
-simples_whole : (ss : List RawSimpleTree) → nested_in_simples ss ≡ None → AreSimplesWhole ss
+pub simples_whole : (ss : List RawSimpleTree) → nested_in_simples ss ≡ None → AreSimplesWhole ss
 simples_whole [] h = tt
 simples_whole (s ∷ ss) h = (simple_whole s (neither_left (nested_in_simple s) (nested_in_simples ss) h), simples_whole ss (neither_right (nested_in_simple s) (nested_in_simples ss) h))
 
-simples_none : (ss : List RawSimpleTree) → AreSimplesWhole ss → nested_in_simples ss ≡ None
+pub simples_none : (ss : List RawSimpleTree) → AreSimplesWhole ss → nested_in_simples ss ≡ None
 simples_none [] h = refl
 simples_none (s ∷ ss) h = neither (simple_none s h.0) (simples_none ss h.1)
 
-condition_whole : (c : Option RawExprTree) → nested_in_condition c ≡ None → IsConditionWhole c
+pub condition_whole : (c : Option RawExprTree) → nested_in_condition c ≡ None → IsConditionWhole c
 condition_whole None h = tt
 condition_whole (Some e) h = no_call_whole e h
 
-condition_none : (c : Option RawExprTree) → IsConditionWhole c → nested_in_condition c ≡ None
+pub condition_none : (c : Option RawExprTree) → IsConditionWhole c → nested_in_condition c ≡ None
 condition_none None h = refl
 condition_none (Some e) h = no_call_none e h
 
-step_whole : (s : Option RawSimpleTree) → nested_in_step s ≡ None → IsStepWhole s
+pub step_whole : (s : Option RawSimpleTree) → nested_in_step s ≡ None → IsStepWhole s
 step_whole None h = tt
 step_whole (Some s) h = simple_whole s h
 
-step_none : (s : Option RawSimpleTree) → IsStepWhole s → nested_in_step s ≡ None
+pub step_none : (s : Option RawSimpleTree) → IsStepWhole s → nested_in_step s ≡ None
 step_none None h = refl
 step_none (Some s) h = simple_none s h
 

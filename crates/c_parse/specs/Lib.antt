@@ -1,2 +1,3 @@
 pub mod NestedCalls
+pub mod ForParts
 pub mod Parsed

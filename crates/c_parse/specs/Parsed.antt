@@ -1,5 +1,5 @@
 -- The tokens of a source are this tree, and what they are refused for.
-use Rattle.std.specs.Prelude.{ℕ, ◌≡◌, List, Some, length}
+use Rattle.std.specs.Prelude.{ℕ, ◌≡◌, List, Option, Some, length}
 use Rattle.c_lex.specs.declared.tokens.Token.{Token}
 use Rattle.c_tree.specs.RawTrees.{RawItemTree}
 use Rattle.c_tree.specs.WholeCalls.{AreCallsWhole}
@@ -8,23 +8,41 @@ use Rattle.c_grammar.specs.declared.errors.ParseError.TheVariants.{Unexpected, T
 use Rattle.c_grammar.specs.Refusals.{IsWithin, IsUnexpected, IsTooDeep}
 use Rattle.c_grammar.specs.Grammar.{IsProgram}
 use Rattle.c_parse.specs.NestedCalls.{nested_in_items}
+use Rattle.c_parse.specs.ForParts.{AreForPartsWhole, nested_in_fors}
 
--- the tokens are a program in which nothing is too deep and every call is whole, and this is its tree
-pub record IsParsed (source : List ℕ) (tokens : List Token) (items : List RawItemTree) : Type 0 where
+-- ---- over which calls have to be whole
+
+-- the tokens are a program in which nothing is too deep and the calls that have to be whole are, and this is its tree
+pub record IsParsedWhere (Whole : List RawItemTree → Type 0) (source : List ℕ) (tokens : List Token) (items : List RawItemTree) : Type 0 where
   pub within : IsWithin tokens
   pub tree : IsProgram source tokens items
-  pub whole : AreCallsWhole items
+  pub whole : Whole items
 
--- the tokens are a program in which nothing is too deep, and the first of its calls that is not whole is of the name there
-pub record IsNestedCall (source : List ℕ) (tokens : List Token) (at : ℕ) : Type 0 where
+-- the tokens are a program in which nothing is too deep, and the first of its calls that had to be whole and isn't is of the name there
+pub record IsNestedWhere (first_nested : List RawItemTree → Option ℕ) (source : List ℕ) (tokens : List Token) (at : ℕ) : Type 0 where
   pub items : List RawItemTree
   pub within : IsWithin tokens
   pub tree : IsProgram source tokens items
-  pub first : nested_in_items items ≡ Some at
+  pub first : first_nested items ≡ Some at
 
--- what the tokens are refused for
+abbrev pub IsRefusedWhere : (List RawItemTree → Option ℕ) → List ℕ → List Token → ParseError → Type 0
+IsRefusedWhere first_nested source tokens (Unexpected at) = IsUnexpected (length source) tokens at
+IsRefusedWhere first_nested source tokens (TooDeep at) = IsTooDeep tokens at
+IsRefusedWhere first_nested source tokens (NestedCall at) = IsNestedWhere first_nested source tokens at
+IsRefusedWhere first_nested source tokens Memory = ⊥
+
+-- ---- every call has to be whole
+
+abbrev pub IsParsed : List ℕ → List Token → List RawItemTree → Type 0
+IsParsed source tokens items = IsParsedWhere AreCallsWhole source tokens items
+
 abbrev pub IsParseErrorOf : List ℕ → List Token → ParseError → Type 0
-IsParseErrorOf source tokens (Unexpected at) = IsUnexpected (length source) tokens at
-IsParseErrorOf source tokens (TooDeep at) = IsTooDeep tokens at
-IsParseErrorOf source tokens (NestedCall at) = IsNestedCall source tokens at
-IsParseErrorOf source tokens Memory = ⊥
+IsParseErrorOf source tokens error = IsRefusedWhere nested_in_items source tokens error
+
+-- ---- the calls in the parentheses of a `for` have to be
+
+abbrev pub IsParsedNested : List ℕ → List Token → List RawItemTree → Type 0
+IsParsedNested source tokens items = IsParsedWhere AreForPartsWhole source tokens items
+
+abbrev pub IsNestedErrorOf : List ℕ → List Token → ParseError → Type 0
+IsNestedErrorOf source tokens error = IsRefusedWhere nested_in_fors source tokens error

@@ -77,8 +77,8 @@ fn nested_in_stmt(stmt: &RawStmt) -> Option<u32>
     }
 }
 
-// The first that is there.
-fn first(one: Option<u32>, other: Option<u32>) -> Option<u32>
+/// The first that is there.
+pub(crate) fn first(one: Option<u32>, other: Option<u32>) -> Option<u32>
     ensures { result ≡ earlier one other }
 {
     match one {
@@ -87,7 +87,7 @@ fn first(one: Option<u32>, other: Option<u32>) -> Option<u32>
     }
 }
 
-fn nested_in_condition(condition: &Option<RawExpr>) -> Option<u32>
+pub(crate) fn nested_in_condition(condition: &Option<RawExpr>) -> Option<u32>
     ensures { result ≡ nested_in_condition (option_map raw_expr_tree condition.now) }
 {
     match condition {
@@ -105,7 +105,7 @@ fn nested_in_return(value: &Option<RawExpr>) -> Option<u32>
     }
 }
 
-fn nested_in_step(step: &Option<RawSimple>) -> Option<u32>
+pub(crate) fn nested_in_step(step: &Option<RawSimple>) -> Option<u32>
     ensures { result ≡ nested_in_step (option_map raw_simple_tree step.now) }
 {
     match step {
@@ -114,7 +114,7 @@ fn nested_in_step(step: &Option<RawSimple>) -> Option<u32>
     }
 }
 
-fn nested_in_simples(simples: &[RawSimple]) -> Option<u32>
+pub(crate) fn nested_in_simples(simples: &[RawSimple]) -> Option<u32>
     ensures { result ≡ nested_in_simples (map raw_simple_tree simples.now) }
 {
     let mut found = None;

@@ -1,1 +1,2 @@
 pub mod SourceTexts
+pub mod EveryWhole

@@ -1,60 +1,73 @@
 -- What a source text is: the one definition of which program its bytes are, and of what they are refused for.
-use Rattle.std.specs.Prelude.{ℕ, List}
+use Rattle.std.specs.Prelude.{ℕ, List, Option}
 use Rattle.c_lex.specs.declared.tokens.Token.{Token}
 use Rattle.c_lex.specs.declared.tokens.LexError.{LexError}
 use Rattle.c_lex.specs.Tokens.{AreTokensOf, IsLexErrorOf}
 use Rattle.c_tree.specs.RawTrees.{RawItemTree}
 use Rattle.c_tree.specs.Trees.{ProgramTree}
 use Rattle.c_grammar.specs.declared.errors.ParseError.{ParseError}
-use Rattle.c_parse.specs.Parsed.{IsParsed, IsParseErrorOf}
+use Rattle.c_tree.specs.WholeCalls.{AreCallsWhole}
+use Rattle.c_parse.specs.NestedCalls.{nested_in_items}
+use Rattle.c_parse.specs.Parsed.{IsParsedWhere, IsRefusedWhere}
 use Rattle.scope_rules.specs.declared.errors.ScopeError.{ScopeError}
 use Rattle.c_scope.specs.declared.source_errors.SourceError.{SourceError}
 use Rattle.c_scope.specs.declared.source_errors.SourceError.TheVariants as refusals
 use Rattle.scope_rules.specs.Outcomes.{IsResolved, IsRefused}
 
--- The source reads as this program: its bytes split into these tokens, by maximal munch, with white space and comments
--- between them; the tokens are this tree of the grammar, in which nothing is too deep and every call is whole; and the tree
--- breaks no rule of scope, defines `main`, exceeds no limit, and with numbers in the place of its names it is the program.
-pub record ReadsAs (source : List ℕ) (program : ProgramTree) : Type 0 where
+-- ---- over which calls have to be whole, the first that isn't, and what a tree is resolved to and refused for
+
+-- The bytes of the source split into these tokens, by maximal munch, with white space and comments between them; the tokens are this
+-- tree of the grammar, in which nothing is too deep and the calls that have to be whole are; and the tree is resolved to the program.
+pub record ReadsWhere (Whole : List RawItemTree → Type 0) (Resolved : List RawItemTree → ProgramTree → Type 0) (source : List ℕ) (program : ProgramTree) : Type 0 where
   pub tokens : List Token
   pub tree : List RawItemTree
   pub lexed : AreTokensOf source tokens
-  pub parsed : IsParsed source tokens tree
-  pub resolved : IsResolved tree program
+  pub parsed : IsParsedWhere Whole source tokens tree
+  pub resolved : Resolved tree program
 
 -- the bytes do not split into tokens
 abbrev pub IsNoTokens : List ℕ → LexError → Type 0
 IsNoTokens source error = IsLexErrorOf source error
 
 -- the bytes split into tokens, which are refused as a tree
-pub record IsNoTree (source : List ℕ) (error : ParseError) : Type 0 where
+pub record IsNoTreeWhere (first_nested : List RawItemTree → Option ℕ) (source : List ℕ) (error : ParseError) : Type 0 where
   pub tokens : List Token
   pub lexed : AreTokensOf source tokens
-  pub refused : IsParseErrorOf source tokens error
+  pub refused : IsRefusedWhere first_nested source tokens error
 
--- the bytes split into tokens, which are a tree that breaks a rule of scope or a limit
-pub record IsNoProgram (source : List ℕ) (error : ScopeError) : Type 0 where
+-- the bytes split into tokens, which are a tree that is refused
+pub record IsNoProgramWhere (Whole : List RawItemTree → Type 0) (Refused : List RawItemTree → ScopeError → Type 0) (source : List ℕ) (error : ScopeError) : Type 0 where
   pub tokens : List Token
   pub tree : List RawItemTree
   pub lexed : AreTokensOf source tokens
-  pub parsed : IsParsed source tokens tree
-  pub refused : IsRefused tree error
+  pub parsed : IsParsedWhere Whole source tokens tree
+  pub refused : Refused tree error
 
 -- What the source is refused for: the refusal of the first of the three readings that has one.
+abbrev pub IsSourceErrorWhere : (List RawItemTree → Type 0) → (List RawItemTree → Option ℕ) → (List RawItemTree → ScopeError → Type 0) → List ℕ → SourceError → Type 0
+IsSourceErrorWhere Whole first_nested Refused source (refusals.BadByte at) = IsNoTokens source (LexError.BadByte at)
+IsSourceErrorWhere Whole first_nested Refused source (refusals.OpenComment at) = IsNoTokens source (LexError.OpenComment at)
+IsSourceErrorWhere Whole first_nested Refused source (refusals.BadNumber at) = IsNoTokens source (LexError.BadNumber at)
+IsSourceErrorWhere Whole first_nested Refused source (refusals.Unexpected at) = IsNoTreeWhere first_nested source (ParseError.Unexpected at)
+IsSourceErrorWhere Whole first_nested Refused source (refusals.TooDeep at) = IsNoTreeWhere first_nested source (ParseError.TooDeep at)
+IsSourceErrorWhere Whole first_nested Refused source (refusals.NestedCall at) = IsNoTreeWhere first_nested source (ParseError.NestedCall at)
+IsSourceErrorWhere Whole first_nested Refused source (refusals.Unknown at) = IsNoProgramWhere Whole Refused source (ScopeError.Unknown at)
+IsSourceErrorWhere Whole first_nested Refused source (refusals.Twice at) = IsNoProgramWhere Whole Refused source (ScopeError.Twice at)
+IsSourceErrorWhere Whole first_nested Refused source (refusals.Arity at) = IsNoProgramWhere Whole Refused source (ScopeError.Arity at)
+IsSourceErrorWhere Whole first_nested Refused source (refusals.Kind at) = IsNoProgramWhere Whole Refused source (ScopeError.Kind at)
+IsSourceErrorWhere Whole first_nested Refused source refusals.NoMain = IsNoProgramWhere Whole Refused source ScopeError.NoMain
+IsSourceErrorWhere Whole first_nested Refused source (refusals.Limit which) = IsNoProgramWhere Whole Refused source (ScopeError.Limit which)
+IsSourceErrorWhere Whole first_nested Refused source refusals.Memory = ⊥
+
+-- ---- every call has to be whole
+
+-- The source reads as this program: each call of its tree is whole, and the tree breaks no rule of scope, defines `main`, exceeds no
+-- limit, and with numbers in the place of its names it is the program.
+abbrev pub ReadsAs : List ℕ → ProgramTree → Type 0
+ReadsAs source program = ReadsWhere AreCallsWhole IsResolved source program
+
 abbrev pub IsSourceErrorOf : List ℕ → SourceError → Type 0
-IsSourceErrorOf source (refusals.BadByte at) = IsNoTokens source (LexError.BadByte at)
-IsSourceErrorOf source (refusals.OpenComment at) = IsNoTokens source (LexError.OpenComment at)
-IsSourceErrorOf source (refusals.BadNumber at) = IsNoTokens source (LexError.BadNumber at)
-IsSourceErrorOf source (refusals.Unexpected at) = IsNoTree source (ParseError.Unexpected at)
-IsSourceErrorOf source (refusals.TooDeep at) = IsNoTree source (ParseError.TooDeep at)
-IsSourceErrorOf source (refusals.NestedCall at) = IsNoTree source (ParseError.NestedCall at)
-IsSourceErrorOf source (refusals.Unknown at) = IsNoProgram source (ScopeError.Unknown at)
-IsSourceErrorOf source (refusals.Twice at) = IsNoProgram source (ScopeError.Twice at)
-IsSourceErrorOf source (refusals.Arity at) = IsNoProgram source (ScopeError.Arity at)
-IsSourceErrorOf source (refusals.Kind at) = IsNoProgram source (ScopeError.Kind at)
-IsSourceErrorOf source refusals.NoMain = IsNoProgram source ScopeError.NoMain
-IsSourceErrorOf source (refusals.Limit which) = IsNoProgram source (ScopeError.Limit which)
-IsSourceErrorOf source refusals.Memory = ⊥
+IsSourceErrorOf source error = IsSourceErrorWhere AreCallsWhole nested_in_items IsRefused source error
 
 -- each reader's refusal among those of a source
 abbrev pub by_lex : LexError → SourceError

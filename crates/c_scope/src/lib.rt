@@ -8,5 +8,5 @@
 mod source_errors;
 mod source_text;
 
-pub use source_errors::SourceError;
+pub use source_errors::{SourceError, of_lex, of_parse, of_scope};
 pub use source_text::read_program;

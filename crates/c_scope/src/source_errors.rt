@@ -87,7 +87,7 @@ pub enum SourceError {
 }
 
 /// The refusal of the reading into tokens as one of the source.
-pub(crate) fn of_lex(error: LexError) -> SourceError
+pub fn of_lex(error: LexError) -> SourceError
     ensures { result ≡ by_lex error }
 {
     match error {
@@ -99,7 +99,7 @@ pub(crate) fn of_lex(error: LexError) -> SourceError
 }
 
 /// The refusal of the reading into a tree as one of the source.
-pub(crate) fn of_parse(error: ParseError) -> SourceError
+pub fn of_parse(error: ParseError) -> SourceError
     ensures { result ≡ by_parse error }
 {
     match error {
@@ -111,7 +111,7 @@ pub(crate) fn of_parse(error: ParseError) -> SourceError
 }
 
 /// The refusal of the reading into a program as one of the source.
-pub(crate) fn of_scope(error: ScopeError) -> SourceError
+pub fn of_scope(error: ScopeError) -> SourceError
     ensures { result ≡ by_scope error }
 {
     match error {

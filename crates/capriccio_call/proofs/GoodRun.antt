@@ -4,7 +4,7 @@ use Rattle.std.specs.Io.KnownBytes.{Appends}
 use Rattle.cap_io.specs.Files.{Files}
 use Rattle.c_tree.specs.Trees.{ProgramTree}
 use Rattle.codegen_link.specs.declared.options.Options.{Options}
-use Rattle.command_words.specs.WordList.{IsWordList, Request, Serve, Run, Build, Check, Graph, Demo}
+use Rattle.command_words.specs.WordList.{IsWordList, Request, Serve, Run, Build, Check, Graph, Demo, Budget}
 use Rattle.command_words.specs.declared.options.Policy.{Policy as RunOptions}
 use Rattle.lawful_log.specs.Setup.{Setup}
 use Rattle.stack_certificate.specs.declared.certificates.Certificate.{Certificate}
@@ -15,9 +15,10 @@ use Rattle.command_outcomes.specs.declared.documents.Document.TheVariants as doc
 use Rattle.command_outcomes.specs.Outcome.{Outcome, Ran}
 use Rattle.command_outcomes.specs.Loads.{IsSourceText, OfFile, AfterLoad, AfterThree, AfterSource, AfterImage, AfterCertificate}
 use Rattle.capriccio_commands.specs.Graphs.{GraphsProgram}
+use Rattle.capriccio_commands.specs.Budgets.{BudgetsBytes, BudgetsPair}
 use Rattle.capriccio_commands.specs.Checks.{ChecksBytes, ChecksPair}
 use Rattle.capriccio_commands.specs.BuildsFiles.{BuildsProgram, IsUnbuilt}
-use Rattle.capriccio_commands.specs.Runs.{IsRun, RunsOn, ServesProgram, RunsBytes, RunsPair, run_outcome, setup_of}
+use Rattle.capriccio_commands.specs.Runs.{IsRun, IsRunOfSome, RunsOn, ServesProgram, RunsBytes, RunsPair, run_outcome, setup_of}
 use Rattle.capriccio_commands.specs.Demos.{ShowsRun, demo_policy, shown_outcome}
 use Rattle.capriccio_commands.specs.Due.{Does, IsDue, sizes_of}
 use Rattle.workload.specs.Traces.{trace_text}
@@ -97,6 +98,16 @@ of-check-bytes trace source image certificate o h =
     (λ program x. of-image trace image (λ i. AfterCertificate certificate (λ c. ChecksPair program i c)) o
     (λ i y. of-certificate trace certificate (λ c. ChecksPair program i c) o (λ c z. quiet trace o _ z.2 refl) y) x) h
 
+of-budget-pair : (trace : Option (List ℕ)) (program : ProgramTree) (i : Image) (c : Certificate) (o : Outcome) → BudgetsPair program i c o → IsOfRun trace o
+of-budget-pair trace program i c o h =
+    ⊎_elim (λ x. quiet trace o _ x.4 refl) (λ x. ⊎_elim (λ y. quiet trace o _ y.is refl) (λ y. quiet trace o _ y.is refl) x.1) h
+
+of-budget-bytes : (trace : Option (List ℕ)) (source image certificate : List ℕ) (o : Outcome) → BudgetsBytes source image certificate o → IsOfRun trace o
+of-budget-bytes trace source image certificate o h =
+    of-source trace source (λ program. AfterImage image (λ i. AfterCertificate certificate (λ c. BudgetsPair program i c))) o
+    (λ program x. of-image trace image (λ i. AfterCertificate certificate (λ c. BudgetsPair program i c)) o
+    (λ i y. of-certificate trace certificate (λ c. BudgetsPair program i c) o (λ c z. of-budget-pair trace program i c o z) y) x) h
+
 of-graph : (trace : Option (List ℕ)) (path : ℕ) (program : ProgramTree) (o : Outcome) → GraphsProgram path program o → IsOfRun trace o
 of-graph trace path program o h = ⊎_elim (λ x. quiet trace o _ x.is refl) (λ x. quiet trace o _ x.1.2 refl) h
 
@@ -111,6 +122,8 @@ of-request (Build source image certificate placement) before o h =
     (λ bytes x. of-source before.left bytes (BuildsProgram (sizes_of placement) image certificate) o (λ program y. of-built before.left (sizes_of placement) image certificate program o y) x) h
 of-request (Check source image certificate) before o h =
     of-three before.left before.files source image certificate ChecksBytes o (λ s i c x. of-check-bytes before.left s i c o x) h
+of-request (Budget source image certificate) before o h =
+    of-three before.left before.files source image certificate BudgetsBytes o (λ s i c x. of-budget-bytes before.left s i c o x) h
 of-request (Graph source placement) before o h =
     of-load before.left document.Source before.files source (λ bytes. AfterSource bytes (GraphsProgram placement.max_path)) o
     (λ bytes x. of-source before.left bytes (GraphsProgram placement.max_path) o (λ program y. of-graph before.left placement.max_path program o y) x) h
@@ -131,7 +144,7 @@ no-world o world none h = absurd (subst (λ (ran : Option Ran). IsLast ran (Some
 status-told : (status : ℕ) (line : List ℕ) (old new : Option (List ℕ)) (faults faults' answer : ℕ) → line ≡ [] → IsTold status line old new faults faults' answer → answer ≡ status
 status-told status line old new faults faults' answer none h = ⊎_elim (λ x. x.0) (λ x. absurd (x.0 none)) h
 
-ran-well : (words : List (List ℕ)) (request : Request) (asked : IsWordList words request) (before after : Outside) (o : Outcome) (world : Held) (status : ℕ) (setup : Setup) (h : RunsOn before.left setup o) → Appends before.taken after.taken o.out → IsLast o.last (Some world) → (o.line ≡ [] → status ≡ o.status) → (IfSome before.left (λ trace. IsRun setup trace h.1 h.2 h.3) × Appends before.taken after.taken (log_text h.1) → IsLogFor request setup before after h.1 h.2 h.3) → RanWell words before after world status
+ran-well : (words : List (List ℕ)) (request : Request) (asked : IsWordList words request) (before after : Outside) (o : Outcome) (world : Held) (status : ℕ) (setup : Setup) (h : RunsOn before.left setup o) → Appends before.taken after.taken o.out → IsLast o.last (Some world) → (o.line ≡ [] → status ≡ o.status) → (IfSome before.left (λ trace. IsRun setup trace h.1 h.2 h.3) × Appends before.taken after.taken (log_text h.1) × IsRunOfSome setup before.left h.1 h.2 h.3 → IsLogFor request setup before after h.1 h.2 h.3) → RanWell words before after world status
 ran-well words request asked before after o world status setup h printed last told logs =
     let ran : o ≡ run_outcome setup h.1 h.2 h.3 = h.5 in
     record {
@@ -142,7 +155,7 @@ ran-well words request asked before after o world status setup h printed last to
       stop = h.2;
       end = h.3;
       accepted = h.0;
-      log = logs (h.4, subst (λ (x : Outcome). Appends before.taken after.taken x.out) ran printed);
+      log = logs (h.4, subst (λ (x : Outcome). Appends before.taken after.taken x.out) ran printed, h.6);
       stopped = told (ap (λ (x : Outcome). x.line) ran) ∙ ap (λ (x : Outcome). x.status) ran;
       handed_out = subst (λ (x : Outcome). IsLast x.last (Some world)) ran last;
     }
@@ -169,6 +182,7 @@ well words (Run source image certificate policy) asked before after o world stat
 well words (Build source image certificate placement) asked before after o world status setup h printed last told = ran-well words (Build source image certificate placement) asked before after o world status setup h printed last told (λ log. log)
 well words (Check source image certificate) asked before after o world status setup h printed last told = ran-well words (Check source image certificate) asked before after o world status setup h printed last told (λ log. log)
 well words (Graph source placement) asked before after o world status setup h printed last told = ran-well words (Graph source placement) asked before after o world status setup h printed last told (λ log. log)
+well words (Budget source image certificate) asked before after o world status setup h printed last told = ran-well words (Budget source image certificate) asked before after o world status setup h printed last told (λ log. log)
 well words (Demo number) asked before after o world status setup h printed last told = shown-well words number asked before after o world status setup h.0 h.1 printed last told
 
 pub was-good : (words : List (List ℕ)) (before after : Outside) (err err' : Option (List ℕ)) (faults faults' : ℕ) (last : Option Held) (status : ℕ) → IsAnswer words before after err err' faults faults' last status → WasGood words before after last status

@@ -1,3 +1,4 @@
+pub mod OneBudget
 pub mod Told
 pub mod OnePair
 pub mod OneRun

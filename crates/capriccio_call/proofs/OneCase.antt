@@ -1,5 +1,5 @@
 -- One outcome is due at most: two that are due for the same words, files and trace are one.
-use Rattle.std.proofs.Common.{◌≡◌, ◌⊎◌, ℕ, ◌<◌, ◌≤◌, ◌*◌, List, [], ◌∷◌, ◌++◌, Option, Some, None, Result, Ok, Err, refl, sym, ap, subst, ◌∙◌, arith, inl, inr, ⊎_elim}
+use Rattle.std.proofs.Common.{◌≡◌, ◌⊎◌, ℕ, ◌+◌, ◌<◌, ◌≤◌, ◌*◌, List, [], ◌∷◌, ◌++◌, Option, Some, None, Result, Ok, Err, refl, sym, ap, subst, ◌∙◌, arith, inl, inr, ⊎_elim}
 use Rattle.std.proofs.lemmas.Bool.{cases_order}
 use Rattle.cap_io.specs.Faults.{Stayed}
 use Rattle.cap_io.specs.Files.{Files}
@@ -19,7 +19,7 @@ use Rattle.certificate_text.specs.FirstRefused.{IsFirstRefused}
 use Rattle.certificate_text.proofs.Spellings.{spelling_unique, first_refused_unique, spelling_unrefused}
 use Rattle.stack_build.specs.Builds.{frame_refusal, IsLaidOut, IsTooLarge}
 use Rattle.stack_build.specs.declared.refusals.BuildError.TheVariants.{FrameTooLarge, CodeTooLarge}
-use Rattle.command_words.specs.WordList.{IsWordList, Request, Serve, Run, Build, Check, Graph, Demo}
+use Rattle.command_words.specs.WordList.{IsWordList, Request, Serve, Run, Build, Check, Graph, Demo, Budget}
 use Rattle.command_words.proofs.OneRequest.{one_request}
 use Rattle.analysis_lines.specs.Lines.{name_at}
 use Rattle.command_outcomes.specs.declared.documents.Document.{Document}
@@ -30,24 +30,28 @@ use Rattle.command_outcomes.specs.declared.faults.Fault.TheVariants.{Read, Write
 use Rattle.capriccio_commands.specs.declared.check_command.Verdict.{Verdict}
 use Rattle.capriccio_commands.specs.declared.check_command.Verdict.TheVariants.{Accepted, Rejected}
 use Rattle.command_outcomes.specs.Outcome.{Outcome, refused, printed}
-use Rattle.command_outcomes.specs.CauseLines.{refusal, frame_words}
+use Rattle.command_outcomes.specs.CauseLines.{refusal, frame_words, cycle_words}
 use Rattle.command_outcomes.specs.Loads.{OfFile, AfterLoad, AfterThree, AfterSource, AfterImage, AfterCertificate, IsImageText, IsCertificateText}
 use Rattle.capriccio_commands.specs.Graphs.{Graphs, GraphsProgram, HasFittingFrames, IsFrameRefused, names_of}
 use Rattle.capriccio_commands.specs.Checks.{Checks, ChecksBytes, ChecksPair, IsVerdict, verdict_outcome}
+use Rattle.call_cycles.specs.Cycles.{IsOnCycle}
+use Rattle.chunk_budget.specs.declared.budgets.Budget as budgets
+use Rattle.capriccio_commands.specs.Budgets.{Budgets, BudgetsBytes, BudgetsPair, IsCycleRefused, IsBudgetPrinted, budget_text}
 use Rattle.codegen_link.specs.declared.options.Options.{Options}
 use Rattle.command_words.specs.declared.options.Policy.{Policy as RunOptions}
 use Rattle.capriccio_commands.specs.BuildsFiles.{Builds, BuildsProgram, HasFittingCode, IsUnbuilt, built}
-use Rattle.capriccio_commands.specs.Runs.{RunsOn, Serves, ServesProgram, Runs, RunsBytes, RunsPair, setup_of}
+use Rattle.capriccio_commands.specs.Runs.{RunsOn, Serves, ServesProgram, Runs, RunsBytes, RunsPair, pool_bytes, setup_of}
 use Rattle.capriccio_commands.specs.RunSteps.{IsRunPolicy}
 use Rattle.capriccio_commands.specs.Demos.{Demos, ShowsProgram, ShowsRun, demo_sizes, demo_policy}
 use Rattle.capriccio_commands.specs.Due.{Does, IsDue, sizes_of}
 use Rattle.workload_source.specs.Programs.{program_text}
 use Rattle.workload.specs.Traces.{trace_text}
 use Rattle.command_outcomes.specs.Done.{Outside, IsRisen, IsDone, IsExact}
-use Rattle.c_scope.proofs.SourceTexts.{one_program, one_source_error, never}
+use Rattle.c_hoist.proofs.EveryNested.{one_program, one_source_error, never}
 use Rattle.capriccio_commands.proofs.OneBuild.{plans-are-one, words-are-one, texts-are-one}
+use Rattle.capriccio_call.proofs.OneBudget.{one-budget, one-least}
 use Rattle.capriccio_call.proofs.OnePair.{pairs-are-one}
-use Rattle.capriccio_call.proofs.OneRun.{one-outcome, one-shown}
+use Rattle.capriccio_call.proofs.OneRun.{IsInRange, one-outcome, one-shown}
 use Rattle.capriccio_commands.proofs.Options.{serve-policy, serve-pool, run-policy}
 use Rattle.capriccio_commands.proofs.Workloads.{demo-run-policy, demo-pool}
 
@@ -174,6 +178,36 @@ bytes-case source image certificate a b h k =
     (λ p scoped x y. image-case image (λ i. AfterCertificate certificate (λ c. ChecksPair p i c)) a b
     (λ i z w. certificate-case certificate (λ c. ChecksPair p i c) a b (λ c u v. pair-case p i c a b u v) z w) x y) h k
 
+-- Budgets.
+
+budget-case : (p : ProgramTree) (i : Image) (c : Certificate) (a b : Outcome) → BudgetsPair p i c a → BudgetsPair p i c b → a ≡ b
+budget-case p i c a b h k =
+    ⊎_elim
+    (λ x. ⊎_elim
+    (λ y.
+    let same = same-failure (lowered p) i c x.0 x.1 x.2 y.0 y.1 y.2 x.3 y.3 in
+    alike a b (refusal (cause.Rejected y.0 y.1 y.2)) (x.4 ∙ (λ k. refusal (cause.Rejected (same.0 k) (same.1 k) (same.2 k)))) y.4)
+    (λ y. absurd (x.3.fails (y.0.holds x.0 x.1 x.2))) k)
+    (λ x. ⊎_elim
+    (λ y. absurd (y.3.fails (x.0.holds y.0 y.1 y.2)))
+    (λ y. made-case p c a b x.1 y.1) k)
+    h
+  where
+    made-case : (p : ProgramTree) (c : Certificate) (a b : Outcome) → IsCycleRefused p a ⊎ IsBudgetPrinted p c a → IsCycleRefused p b ⊎ IsBudgetPrinted p c b → a ≡ b
+    made-case p c a b (inl x) (inl y) =
+        let same = one-least (IsOnCycle (lowered p)) x.function y.function x.least y.least in
+        alike a b (refused 17 (cycle_words (name_at (names_of p) y.function) ++ 10 ∷ [])) (x.is ∙ ap (λ (f : ℕ). refused 17 (cycle_words (name_at (names_of p) f) ++ 10 ∷ [])) same) y.is
+    made-case p c a b (inl x) (inr y) = absurd (y.acyclic x.function x.least.holds)
+    made-case p c a b (inr x) (inl y) = absurd (x.acyclic y.function y.least.holds)
+    made-case p c a b (inr x) (inr y) =
+        alike a b (printed 0 (budget_text y.budget)) (x.is ∙ ap (λ (budget : budgets.Budget). printed 0 (budget_text budget)) (one-budget (lowered p) c x.budget y.budget x.least y.least)) y.is
+
+budget-bytes-case : (source image certificate : List ℕ) (a b : Outcome) → BudgetsBytes source image certificate a → BudgetsBytes source image certificate b → a ≡ b
+budget-bytes-case source image certificate a b h k =
+    source-case source (λ p. AfterImage image (λ i. AfterCertificate certificate (λ c. BudgetsPair p i c))) a b
+    (λ p scoped x y. image-case image (λ i. AfterCertificate certificate (λ c. BudgetsPair p i c)) a b
+    (λ i z w. certificate-case certificate (λ c. BudgetsPair p i c) a b (λ c u v. budget-case p i c a b u v) z w) x y) h k
+
 -- Builds.
 
 same-words : (p : ProgramTree) (sizes : Options) (a b : Outcome) (m n : ℕ) → IsWellScoped p → IsTooLarge (lowered p) sizes (CodeTooLarge m) → IsTooLarge (lowered p) sizes (CodeTooLarge n) → a ≡ refusal (cause.Code m) → b ≡ refusal (cause.Code n) → a ≡ b
@@ -207,11 +241,23 @@ built-case options n m p a b scoped h k =
 
 -- the pool of the options is within its limit with these chunks
 abbrev IsWithinPool : RunOptions → ℕ → Type 0
-IsWithinPool policy chunk = policy.chunks * chunk ≤ 67108864
+IsWithinPool policy chunk = policy.chunks * chunk + policy.extra * policy.extra_bytes ≤ 67108864
+
+in-range : (policy : RunOptions) (p : ProgramTree) (i : Image) (c : Certificate) → IsRunPolicy policy → IsWithinPool policy c.chunk → IsInRange (setup_of p i c policy)
+in-range policy p i c ranges fits = record {
+  some_chunks = ranges.some_chunks;
+  chunks = ranges.chunks;
+  extra = ranges.extra;
+  extra_least = ranges.extra_least;
+  extra_most = ranges.extra_most;
+  extra_whole = ranges.extra_whole;
+  fuel = ranges.fuel;
+  pool = fits;
+}
 
 runs-case : (trace : List ℕ) (policy : RunOptions) (p : ProgramTree) (i : Image) (c : Certificate) (a b : Outcome) → IsRunPolicy policy → IsWithinPool policy c.chunk →
     RunsOn (Some trace) (setup_of p i c policy) a → RunsOn (Some trace) (setup_of p i c policy) b → a ≡ b
-runs-case trace policy p i c a b ranges fits h k = one-outcome (setup_of p i c policy) trace a b ranges.some_chunks ranges.chunks ranges.fuel fits h k
+runs-case trace policy p i c a b ranges fits h k = one-outcome (setup_of p i c policy) trace a b (in-range policy p i c ranges fits) h k
 
 served-case : (trace : List ℕ) (sizes : Options) (policy : RunOptions) (p : ProgramTree) (a b : Outcome) → IsRunPolicy policy → IsWithinPool policy sizes.chunk → IsWellScoped p →
     ServesProgram (Some trace) sizes policy p a → ServesProgram (Some trace) sizes policy p b → a ≡ b
@@ -243,11 +289,11 @@ run-case trace policy p i c a b ranges h k =
     h
   where
     pool-case : (trace : List ℕ) (policy : RunOptions) (p : ProgramTree) (i : Image) (c : Certificate) (a b : Outcome) → IsRunPolicy policy →
-        ((67108864 < policy.chunks * c.chunk) × (a ≡ refusal (cause.Pool (policy.chunks * c.chunk)))) ⊎ (IsWithinPool policy c.chunk × RunsOn (Some trace) (setup_of p i c policy) a) →
-        ((67108864 < policy.chunks * c.chunk) × (b ≡ refusal (cause.Pool (policy.chunks * c.chunk)))) ⊎ (IsWithinPool policy c.chunk × RunsOn (Some trace) (setup_of p i c policy) b) → a ≡ b
+        ((67108864 < pool_bytes policy c) × (a ≡ refusal (cause.Pool (pool_bytes policy c)))) ⊎ (IsWithinPool policy c.chunk × RunsOn (Some trace) (setup_of p i c policy) a) →
+        ((67108864 < pool_bytes policy c) × (b ≡ refusal (cause.Pool (pool_bytes policy c)))) ⊎ (IsWithinPool policy c.chunk × RunsOn (Some trace) (setup_of p i c policy) b) → a ≡ b
     pool-case trace policy p i c a b ranges h k =
         ⊎_elim
-        (λ x. ⊎_elim (λ y. alike a b (refusal (cause.Pool (policy.chunks * c.chunk))) x.1 y.1) (λ y. let much = x.0 in let few = y.0 in absurd (omega arith)) k)
+        (λ x. ⊎_elim (λ y. alike a b (refusal (cause.Pool (pool_bytes policy c))) x.1 y.1) (λ y. let much = x.0 in let few = y.0 in absurd (omega arith)) k)
         (λ x. ⊎_elim (λ y. let much = y.0 in let few = x.0 in absurd (omega arith)) (λ y. runs-case trace policy p i c a b ranges x.0 x.1 y.1) k)
         h
 
@@ -264,7 +310,7 @@ shows-case trace p a b scoped h k =
     let pairs = pairs-are-one (lowered p) demo_sizes h.0 k.0 h.1 k.1 h.2 k.2 plans in
     let image : ShowsRun trace (setup_of p k.0 h.1 demo_policy) a = subst (λ (i : Image). ShowsRun trace (setup_of p i h.1 demo_policy) a) pairs.0 h.3 in
     let runs : ShowsRun trace (setup_of p k.0 k.1 demo_policy) a = subst (λ (c : Certificate). ShowsRun trace (setup_of p k.0 c demo_policy) a) pairs.1 image in
-    one-shown (setup_of p k.0 k.1 demo_policy) trace a b demo-run-policy.some_chunks demo-run-policy.chunks demo-run-policy.fuel (demo-pool k.1.chunk is.chunk) runs k.3
+    one-shown (setup_of p k.0 k.1 demo_policy) trace a b (in-range demo_policy p k.0 k.1 demo-run-policy (demo-pool k.1.chunk is.chunk)) runs k.3
 
 demo-case : (number : ℕ) (a b : Outcome) → Demos number a → Demos number b → a ≡ b
 demo-case number a b h k =
@@ -281,6 +327,9 @@ request-case (Graph source placement) words f trace before a b asked told left h
 request-case (Check source i c) words f trace before a b asked told left h k =
     let P : Option Files → Outcome → Type 0 = λ files o. Checks files source i c o in
     three-case f source i c ChecksBytes a b (λ s x y u v. bytes-case s x y a b u v) (subst (λ files. P files a) told h) (subst (λ files. P files b) told k)
+request-case (Budget source i c) words f trace before a b asked told left h k =
+    let P : Option Files → Outcome → Type 0 = λ files o. Budgets files source i c o in
+    three-case f source i c BudgetsBytes a b (λ s x y u v. budget-bytes-case s x y a b u v) (subst (λ files. P files a) told h) (subst (λ files. P files b) told k)
 request-case (Build source i c placement) words f trace before a b asked told left h k =
     let P : Option Files → Outcome → Type 0 = λ files o. Builds files source i c (sizes_of placement) o in
     load-case document.Source f source (λ bytes. AfterSource bytes (BuildsProgram (sizes_of placement) i c)) a b

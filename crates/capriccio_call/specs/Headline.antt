@@ -16,7 +16,7 @@ use Rattle.command_outcomes.specs.Loads.{IsSourceText}
 use Rattle.command_outcomes.specs.Outcome.{Outcome}
 use Rattle.command_outcomes.specs.Done.{Outside, IsDone, IsExact, IsTold, IsLast, IsWorldOf, status_of, line_of, last_of}
 use Rattle.capriccio_commands.specs.Due.{IsDue}
-use Rattle.capriccio_commands.specs.Runs.{IsAccepted, IsRun, stop_status}
+use Rattle.capriccio_commands.specs.Runs.{IsAccepted, IsRun, IsRunOfSome, stop_status}
 use Rattle.capriccio_commands.specs.Summary.{summary_of}
 use Rattle.workload.specs.Traces.{trace_text}
 use Rattle.workload_source.specs.Programs.{program_text}
@@ -38,7 +38,8 @@ IsAnswer words = IsAnswerOf (IsDue words)
 
 -- What a run wrote, by what the words ask for: the entries are the lawful log of the run up to the stop, and that log is good. For `demo`
 -- the program is the workload's of its number, the log is that on the workload's trace, and the output took the summary that is counted over it.
--- For every other request the log is that on the trace that is handed in, and the output took its lines.
+-- For every other request the log is that on the trace that is handed in, and the output took its lines; where the trace doesn't tell its
+-- bytes, it is that on some bytes.
 abbrev pub IsLogFor : Request → Setup → (before after : Outside) → List Entry → StopLine → World → Type 0
 IsLogFor (Demo number) setup before after entries stop end =
     IsSourceText (program_text number) setup.program
@@ -47,6 +48,7 @@ IsLogFor (Demo number) setup before after entries stop end =
 IsLogFor request setup before after entries stop end =
     IfSome before.left (λ trace. IsRun setup trace entries stop end)
     × Appends before.taken after.taken (log_text entries)
+    × IsRunOfSome setup before.left entries stop end
 
 -- A run that the words ask for came to its stop in this world, and was good: the checker accepts its program, image and certificate; the
 -- output took its lawful log, which is good, or for `demo` a summary of it; the status is that of the stop.

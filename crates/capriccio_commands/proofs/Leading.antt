@@ -1,5 +1,5 @@
 -- What is due of a run with what comes before it: the loads, the readers, the checks.
-use Rattle.std.proofs.Common.{◌≡◌, ℕ, ◌≤◌, ◌*◌, List, Option, Result, Ok, Err, refl, sym, subst, inl, inr}
+use Rattle.std.proofs.Common.{◌≡◌, ℕ, ◌≤◌, List, Option, Result, Ok, Err, refl, sym, subst, inl, inr}
 use Rattle.std.specs.Prelude.{MatchResult}
 use Rattle.cap_io.specs.Files.{Files}
 use Rattle.c_tree.specs.Trees.{ProgramTree}
@@ -22,7 +22,7 @@ use Rattle.command_outcomes.specs.Outcome.{Outcome}
 use Rattle.capriccio_commands.specs.BuildsFiles.{HasFittingCode}
 use Rattle.capriccio_commands.specs.Graphs.{HasFittingFrames}
 use Rattle.command_outcomes.specs.Loads.{AfterLoad, AfterThree}
-use Rattle.capriccio_commands.specs.Runs.{RunsOn, RunsPair, ServesProgram, setup_of}
+use Rattle.capriccio_commands.specs.Runs.{RunsOn, RunsPair, ServesProgram, pool_bytes, setup_of}
 use Rattle.capriccio_commands.specs.RunSteps.{LeadsOn}
 use Rattle.command_outcomes.specs.Steps.{IsStop, IsShelfStop, IsLoaded, AreLoaded}
 use Rattle.capriccio_commands.specs.Closings.{IsUnaccepted}
@@ -59,7 +59,7 @@ runs-of trace policy accepted p i c o program image certificate h =
 
 -- what is answered of an accepted pair is answered of the three that were handed in
 abbrev IsPairAnswer : Option (List ℕ) → RunOptions → ProgramTree → Image → Certificate → Result Acceptance Stop → Type 0
-IsPairAnswer trace policy p i c r = MatchResult r (λ within. LeadsOn trace policy within (RunsPair trace policy p i c) × (policy.chunks * within.certificate.chunk ≤ 67108864)) (IsStop (RunsPair trace policy p i c))
+IsPairAnswer trace policy p i c r = MatchResult r (λ within. LeadsOn trace policy within (RunsPair trace policy p i c) × (pool_bytes policy within.certificate ≤ 67108864)) (IsStop (RunsPair trace policy p i c))
 
 pub pair-of : (trace : Option (List ℕ)) (policy : RunOptions) (accepted : Acceptance) (p : ProgramTree) (i : Image) (c : Certificate) (r : Result Acceptance Stop) → accepted_tree accepted ≡ p → accepted.image ≡ i → accepted.certificate ≡ c →
     IsPairAnswer trace policy (accepted_tree accepted) accepted.image accepted.certificate r → IsPairAnswer trace policy p i c r

@@ -12,3 +12,4 @@ pub mod Options
 pub mod Counting
 pub mod Shown
 pub mod Workloads
+mod Budgeted

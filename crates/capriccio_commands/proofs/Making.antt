@@ -19,7 +19,7 @@ use Rattle.stack_certificate.specs.Certificates.{fact_at}
 use Rattle.thread_core.specs.Making.{IsPolicy, IsStart, start_areas}
 use Rattle.thread_core.specs.Worlds.{Held}
 use Rattle.command_outcomes.specs.Done.{IsWorldOf}
-use Rattle.capriccio_commands.specs.Runs.{IsAccepted, rule_of}
+use Rattle.capriccio_commands.specs.Runs.{IsAccepted, pool_bytes, rule_of}
 use Rattle.capriccio_commands.specs.RunSteps.{IsMade, IsNewMonitor, IsRunPolicy, setup_in, world_policy_of}
 use Rattle.chunk_pool.proofs.NeedLaws.{taken_for-count}
 
@@ -37,10 +37,14 @@ unfolding start_world
 start-keeps areas entry need w e = started areas entry (taken_for areas.pool need) w (λ taken is. taken_for-count areas.pool need taken is) e
 
 -- the options are those of a world of an accepted pair
-pub policy-ranges : (options : RunOptions) (accepted : Acceptance) → IsRunPolicy options → options.chunks * accepted.certificate.chunk ≤ 67108864 → IsPolicy accepted (world_policy_of options) options.fuel
+pub policy-ranges : (options : RunOptions) (accepted : Acceptance) → IsRunPolicy options → pool_bytes options accepted.certificate ≤ 67108864 → IsPolicy accepted (world_policy_of options) options.fuel
 policy-ranges options accepted h fits = record {
   some_chunks = h.some_chunks;
   chunks = h.chunks;
+  extra = h.extra;
+  extra_least = h.extra_least;
+  extra_most = h.extra_most;
+  extra_whole = h.extra_whole;
   some_backlog = h.some_backlog;
   backlog = h.backlog;
   caps = h.caps;
@@ -48,7 +52,7 @@ policy-ranges options accepted h fits = record {
   pool = fits;
 }
 
-pub made-world : (options : RunOptions) (accepted : Acceptance) (held : Held) → IsRunPolicy options → options.chunks * accepted.certificate.chunk ≤ 67108864 →
+pub made-world : (options : RunOptions) (accepted : Acceptance) (held : Held) → IsRunPolicy options → pool_bytes options accepted.certificate ≤ 67108864 →
     IsValid (lowered (accepted_tree accepted)) accepted.image accepted.certificate → IsStart accepted (world_policy_of options) options.fuel held → IsMade options held
 made-world options accepted held h fits valid start =
     let P : Acceptance → Type 0 = λ x. IsPolicy x (world_policy_of options) options.fuel in
@@ -63,7 +67,7 @@ one-more curve zero = refl
 one-more curve (suc n) = rw add-one (ap (λ (curves : List Curve). curve ∷ curves) (let e = one-more curve n in rw add-one at e))
 
 module _ (options : RunOptions) (held : Held) (made : IsMade options held) where
-  kept : (held.machine.areas.globals ≡ held.accepted.image.globals) × (held.machine.areas.pool.count ≡ options.chunks)
+  kept : (held.machine.areas.globals ≡ held.accepted.image.globals) × (held.machine.areas.pool.count ≡ options.chunks + options.extra)
   kept = start-keeps (start_areas held.accepted (world_policy_of options)) (fact_at held.accepted.certificate (accepted_tree held.accepted).main).entry (fact_at held.accepted.certificate (accepted_tree held.accepted).main).bound held.machine made.made.machine
 
   -- the checker accepted its pair

@@ -1,5 +1,5 @@
 -- What the options of a word list are, by its command.
-use Rattle.std.proofs.Common.{ℕ, zero, suc, ◌≡◌, ◌-◌, ◌*◌, ◌≤◌, List, [], ◌∷◌, ◌++◌, map, length, take, replicate, slice_index, Option, Some, None, refl, sym, ap, subst, arith, mul_comm}
+use Rattle.std.proofs.Common.{ℕ, zero, suc, ◌≡◌, ◌+◌, ◌-◌, ◌*◌, ◌≤◌, List, [], ◌∷◌, ◌++◌, map, length, take, replicate, slice_index, Option, Some, None, refl, sym, ap, subst, arith, mul_comm}
 use Rattle.std.specs.Prelude.{◌==◌, codes}
 use Rattle.call_graph.proofs.ListLemmas.{by_test}
 use Rattle.codegen_link.specs.Plans.{AreInRange}
@@ -74,6 +74,10 @@ run-policy-of given policy h =
     record {
       some_chunks = chunks.not_less;
       chunks = chunks.not_more;
+      extra = h.extra.not_more;
+      extra_least = h.extra_bytes.not_less;
+      extra_most = h.extra_bytes.not_more;
+      extra_whole = h.extra_whole;
       fuel = fuel.not_more;
       some_backlog = backlog.not_less;
       backlog = backlog.not_more;
@@ -95,8 +99,11 @@ serve-sizes words source placement policy h = in-range _ placement h.2
 pub serve-policy : (words : List (List ℕ)) (source : List ℕ) (placement : Placement) (policy : Policy) → IsWordList words (Serve source placement policy) → IsRunPolicy policy
 serve-policy words source placement policy h = run-policy-of _ policy h.3
 
-pub serve-pool : (words : List (List ℕ)) (source : List ℕ) (placement : Placement) (policy : Policy) → IsWordList words (Serve source placement policy) → policy.chunks * placement.chunk ≤ 67108864
-serve-pool words source placement policy h = let fits = h.4 in let chunk : ℕ = placement.chunk in let chunks : ℕ = policy.chunks in subst (λ n. n ≤ 67108864) (mul_comm chunk chunks) fits
+pub serve-pool : (words : List (List ℕ)) (source : List ℕ) (placement : Placement) (policy : Policy) → IsWordList words (Serve source placement policy) →
+    policy.chunks * placement.chunk + policy.extra * policy.extra_bytes ≤ 67108864
+serve-pool words source placement policy h =
+    let chunk : ℕ = placement.chunk in let chunks : ℕ = policy.chunks in let bytes : ℕ = policy.extra_bytes in let extra : ℕ = policy.extra in
+    subst (λ n. n ≤ 67108864) (λ i. mul_comm chunk chunks i + mul_comm bytes extra i) h.4
 
 -- a list for `run`
 pub run-policy : (words : List (List ℕ)) (source image certificate : List ℕ) (policy : Policy) → IsWordList words (Run source image certificate policy) → IsRunPolicy policy

@@ -19,7 +19,7 @@ use Rattle.command_outcomes.specs.declared.stops.Stop.TheVariants.{Failed}
 use Rattle.command_outcomes.specs.declared.ended.Ended.{Ended}
 use Rattle.command_outcomes.specs.Outcome.{Outcome}
 use Rattle.command_outcomes.specs.Done.{Outside, IsWhole, IsCutInOut, NoneCounted, TraceCounted, WriteCounted, IsWorldOf}
-use Rattle.capriccio_commands.specs.Runs.{IsAccepted, IsRun, RunsOn, run_outcome, stop_status}
+use Rattle.capriccio_commands.specs.Runs.{IsAccepted, IsRun, IsRunOfSome, RunsOn, run_outcome, stop_status}
 use Rattle.command_outcomes.specs.Steps.{EndsAs}
 use Rattle.capriccio_commands.specs.Closings.{IsClosed}
 use Rattle.command_outcomes.proofs.Ending.{kept-are-stored}
@@ -50,6 +50,9 @@ is-run : (g : Setup) (left : Option (List ℕ)) (entries : List Entry) (stop : S
 is-run g None entries stop w h k = tt
 is-run g (Some bytes) entries stop w h k = record { lawful = h; good = k }
 
+is-run-of-some : (g : Setup) (left : Option (List ℕ)) (bytes : List ℕ) → IfSome left (λ its. its ≡ bytes) → (entries : List Entry) (stop : StopLine) (w : World) → IsLawfulLog g bytes entries stop w → IsGoodLog g entries → IsRunOfSome g left entries stop w
+is-run-of-some g left bytes told entries stop w h k = record { bytes = bytes; told = told; run = record { lawful = h; good = k } }
+
 -- the run came to its stop
 at-stop : (g : Setup) (before after : Outside) (held : Held) (answer : RunEnd) (r : Result Ended Stop) → IsAccepted g → KeepsFiles before.files after.files → after.loads ≡ before.loads → after.stores ≡ before.stores →
     IsWorldOf (record { setup = g; end = held.machine }) held → CameTo g held before.left before.taken after.taken answer → after.reads ≡ before.reads → after.writes ≡ before.writes →
@@ -57,7 +60,7 @@ at-stop : (g : Setup) (before after : Outside) (held : Held) (answer : RunEnd) (
 at-stop g before after held answer r ok files loads stores of came reads writes is =
     let given : Ended = record { status = end-status answer; last = Some held } in
     let outcome : Outcome = run_outcome g came.entries came.stop held.machine in
-    let due : RunsOn before.left g outcome = (ok, came.entries, came.stop, held.machine, is-run g before.left came.entries came.stop held.machine came.lawful came.good, refl) in
+    let due : RunsOn before.left g outcome = (ok, came.entries, came.stop, held.machine, is-run g before.left came.entries came.stop held.machine came.lawful came.good, refl, is-run-of-some g before.left came.bytes came.told came.entries came.stop held.machine came.lawful_of came.good_of) in
     let whole : IsWhole outcome before after = record { files = kept-are-stored before.files after.files files; trace = tt; out = came.writes } in
     let none : NoneCounted before after = record { loads = loads; stores = stores; reads = reads; writes = writes } in
     let ends : EndsAs (RunsOn before.left g) before after (Ok given) = (outcome, (due, whole, none), end-is came.stop answer came.end_is, refl, of) in
@@ -65,7 +68,7 @@ at-stop g before after held answer r ok files loads stores of came reads writes 
 
 -- what was written of a run that could not go on is a beginning of what is due
 short-due : (g : Setup) (left taken taken' : Option (List ℕ)) (held : Held) → IsAccepted g → (short : FellShort g held left taken taken') → RunsOn left g (run_outcome g short.entries short.stop short.end)
-short-due g left taken taken' held ok short = (ok, short.entries, short.stop, short.end, is-run g left short.entries short.stop short.end short.lawful short.good, refl)
+short-due g left taken taken' held ok short = (ok, short.entries, short.stop, short.end, is-run g left short.entries short.stop short.end short.lawful short.good, refl, is-run-of-some g left short.bytes short.told short.entries short.stop short.end short.lawful_of short.good_of)
 
 pub closed : (g : Setup) (before after : Outside) (held : Held) (answer : RunEnd) (r : Result Ended Stop) → IsAccepted g → KeepsFiles before.files after.files → after.loads ≡ before.loads → after.stores ≡ before.stores →
     IsWorldOf (record { setup = g; end = held.machine }) held → IsRunEnd g held before.left before.taken after.taken before.reads after.reads before.writes after.writes answer →

@@ -8,11 +8,14 @@ use Rattle.cap_text.specs.Decimals.{canonical_decimal}
 use Rattle.cap_text.proofs.DecimalLaws.{decimal_some, decimal_zero}
 use Rattle.c_tree.specs.Trees.{ProgramTree}
 use Rattle.c_lower.specs.ProgramCode.{lowered}
-use Rattle.c_scope.specs.SourceText.{ReadsAs}
-use Rattle.c_scope.proofs.SourceTexts.{never}
+use Rattle.c_hoist.specs.NestedText.{ReadsNested}
+use Rattle.c_hoist.proofs.EveryNested.{never, one_program}
+use Rattle.c_hoist.proofs.WholeReads.{reads_nested}
 use Rattle.codegen_link.specs.Layout.{code_words}
 use Rattle.codegen_link.specs.Plans.{AreInRange}
 use Rattle.stack_build.specs.declared.refusals.BuildError.TheVariants.{FrameTooLarge}
+use Rattle.workload_source.proofs.Reading.{program_read}
+use Rattle.workload_limits.specs.Sizes.{HasFittingSizes}
 use Rattle.workload_limits.proofs.Built.{workload_fits}
 use Rattle.workload_source.specs.Programs.{line_feed, first_line, link_line, chain_text, worker_line, main_line, program_text}
 use Rattle.command_outcomes.specs.declared.faults.Fault.TheVariants.{Read, Write, Memory}
@@ -73,7 +76,7 @@ program-short n few = omega (arith, three-long (chain_text n) (worker_line n) (m
 
 -- ---- it reads as a program
 
-pub no-source-error : {A : Type 0} (a : A) (bytes : List ℕ) (program : ProgramTree) (stop : Stop) → ReadsAs bytes program → IsStop (AfterSource bytes NoMore) stop → IsStop (NoMore a) stop
+pub no-source-error : {A : Type 0} (a : A) (bytes : List ℕ) (program : ProgramTree) (stop : Stop) → ReadsNested bytes program → IsStop (AfterSource bytes NoMore) stop → IsStop (NoMore a) stop
 no-source-error a bytes program (Refused cause) reads h = ⊎_elim (λ x. absurd x.2) (λ x. absurd (never bytes program x.0 reads x.1)) h
 no-source-error a bytes program (Failed Read) reads h = absurd h
 no-source-error a bytes program (Failed Write) reads h = absurd h
@@ -82,9 +85,11 @@ no-source-error a bytes program (Failed Memory) reads h = tt
 -- ---- it is built
 
 -- no frame of it and not its code is refused
-pub always-built : {P : Type 0} (n : ℕ) → 1 ≤ n → n ≤ 1000 → (program : ProgramTree) (o : Outcome) → ReadsAs (program_text n) program → IsUnbuilt demo_sizes program o → P
+pub always-built : {P : Type 0} (n : ℕ) → 1 ≤ n → n ≤ 1000 → (program : ProgramTree) (o : Outcome) → ReadsNested (program_text n) program → IsUnbuilt demo_sizes program o → P
 always-built n low high program o reads h =
-    let fits = workload_fits n low high program reads in
+    let whole = program_read n low high in
+    let same = one_program (program_text n) whole.0 program (reads_nested (program_text n) whole.0 whole.1) reads in
+    let fits = subst HasFittingSizes same (workload_fits n low high whole.0 whole.1) in
     ⊎_elim
     (λ x. let clash : None ≡ Some (FrameTooLarge x.function x.bytes) = sym fits.frames ∙ x.first in absurd (cc))
     (λ x.
@@ -103,6 +108,10 @@ pub demo-run-policy : IsRunPolicy demo_policy
 demo-run-policy = record {
   some_chunks = omega arith;
   chunks = omega arith;
+  extra = omega arith;
+  extra_least = omega arith;
+  extra_most = omega arith;
+  extra_whole = refl;
   fuel = omega arith;
   some_backlog = omega arith;
   backlog = omega arith;
@@ -113,5 +122,5 @@ demo-run-policy = record {
   knee = omega arith;
 }
 
-pub demo-pool : (chunk : ℕ) → chunk ≡ demo_sizes.chunk → demo_policy.chunks * chunk ≤ 67108864
+pub demo-pool : (chunk : ℕ) → chunk ≡ demo_sizes.chunk → demo_policy.chunks * chunk + demo_policy.extra * demo_policy.extra_bytes ≤ 67108864
 demo-pool chunk is = omega (arith, is)

@@ -32,7 +32,7 @@ abbrev pub demo_sizes : Options
 demo_sizes = record { chunk = 4096; max_path = 2032 }
 
 abbrev pub demo_policy : RunOptions
-demo_policy = record { chunks = 2048; fuel = 1000000000; backlog = 1024; caps = replicate 8 0; high = 900; low = 700; rule = Graph; knee = 0 }
+demo_policy = record { chunks = 2048; extra = 0; extra_bytes = 64; fuel = 1000000000; backlog = 1024; caps = replicate 8 0; high = 900; low = 700; rule = Graph; knee = 0 }
 
 -- the outcome: the summary of the run's log, the status of its stop, and the world at the stop
 abbrev pub shown_outcome : Setup → List Entry → StopLine → World → Outcome

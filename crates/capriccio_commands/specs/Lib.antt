@@ -1,5 +1,6 @@
 pub mod Graphs
 pub mod BuildsFiles
+pub mod Budgets
 pub mod Checks
 pub mod Due
 pub mod Runs

@@ -1,5 +1,5 @@
 -- What the steps of a run are given, and what they hand on.
-use Rattle.std.specs.Prelude.{ℕ, ⊤, ◌≡◌, ◌<◌, ◌≤◌, IsTrue, List, ◌∷◌, drop, replicate, slice_index, Option}
+use Rattle.std.specs.Prelude.{ℕ, ⊤, ◌≡◌, ◌+◌, ◌%◌, ◌<◌, ◌≤◌, IsTrue, List, ◌∷◌, drop, replicate, slice_index, Option}
 use Rattle.c_lower.specs.ProgramCode.{lowered}
 use Rattle.certificate_rules.specs.Validity.{IsValid}
 use Rattle.command_words.specs.Values.{pairs_of}
@@ -27,6 +27,10 @@ IsRuleInRange (option.Stride tickets) = (tickets.count ≤ 64) × AreTickets (pa
 pub record IsRunPolicy (options : RunOptions) : Type 0 where
   pub some_chunks : 1 ≤ options.chunks
   pub chunks : options.chunks ≤ 65536
+  pub extra : options.extra ≤ 65536
+  pub extra_least : 32 ≤ options.extra_bytes
+  pub extra_most : options.extra_bytes ≤ 65536
+  pub extra_whole : options.extra_bytes % 16 ≡ 0
   pub fuel : options.fuel ≤ 1000000000
   pub some_backlog : 1 ≤ options.backlog
   pub backlog : options.backlog ≤ 4096
@@ -39,7 +43,7 @@ pub record IsRunPolicy (options : RunOptions) : Type 0 where
 -- a monitor of these options, whose gate is open
 pub record IsNewMonitor (options : RunOptions) (monitor : MonitorState) : Type 0 where
   pub curves : monitor.curves ≡ replicate 8 (Knee options.knee)
-  pub caps : monitor.caps ≡ options.chunks ∷ drop 1 options.caps
+  pub caps : monitor.caps ≡ (options.chunks + options.extra) ∷ drop 1 options.caps
   pub high : monitor.high ≡ options.high
   pub low : monitor.low ≡ options.low
   pub gate : IsTrue monitor.is_open
@@ -51,7 +55,7 @@ LeadsOn trace policy accepted due =
 
 -- what a world is given of the options
 abbrev pub world_policy_of : RunOptions → WorldPolicy
-world_policy_of options = record { chunks = options.chunks; backlog = options.backlog; caps = options.caps }
+world_policy_of options = record { chunks = options.chunks; extra = options.extra; extra_bytes = options.extra_bytes; backlog = options.backlog; caps = options.caps }
 
 -- a world that was just made under these options
 pub record IsMade (options : RunOptions) (held : Held) : Type 0 where

@@ -1,5 +1,5 @@
 -- What the commands `serve` and `run` do: the run of a checked pair on the trace.
-use Rattle.std.specs.Prelude.{ℕ, ◌≡◌, ◌*◌, ◌<◌, ◌≤◌, ◌⊎◌, true, List, [], replicate, Option, IfSome, Some}
+use Rattle.std.specs.Prelude.{ℕ, ◌≡◌, ◌+◌, ◌*◌, ◌<◌, ◌≤◌, ◌⊎◌, true, List, [], replicate, Option, IfSome, Some}
 use Rattle.c_tree.specs.Trees.{ProgramTree}
 use Rattle.c_tree.specs.WellScoped.{IsWellScoped}
 use Rattle.c_lower.specs.ProgramCode.{lowered}
@@ -53,6 +53,8 @@ rule_of (option.Stride tickets) = by_stride (pairs_of tickets)
 abbrev pub policy_of : RunOptions → Policy
 policy_of options = record {
   chunks = options.chunks;
+  extra = options.extra;
+  extra_bytes = options.extra_bytes;
   fuel = options.fuel;
   backlog = options.backlog;
   caps = options.caps;
@@ -88,11 +90,18 @@ pub record IsAccepted (setup : Setup) : Type 0 where
   pub globals : AreWords setup.image.globals
   pub valid : IsValid (lowered setup.program) setup.image setup.certificate
 
--- a run of an accepted pair on the trace, where the trace is told
+-- the same of some bytes, which are the trace's own where it tells them; else they are some that it could have had
+pub record IsRunOfSome (setup : Setup) (trace : Option (List ℕ)) (entries : List Entry) (stop : StopLine) (end : World) : Type 0 where
+  pub bytes : List ℕ
+  pub told : IfSome trace (λ its. its ≡ bytes)
+  pub run : IsRun setup bytes entries stop end
+
+-- a run of an accepted pair on the trace, where the trace is told, and else on some bytes
 abbrev pub RunsOn : Option (List ℕ) → Setup → Outcome → Type 0
 RunsOn trace setup outcome =
     IsAccepted setup × (entries : List Entry) × (stop : StopLine) × (end : World)
     × IfSome trace (λ bytes. IsRun setup bytes entries stop end) × (outcome ≡ run_outcome setup entries stop end)
+    × IsRunOfSome setup trace entries stop end
 
 -- ---- serve
 
@@ -108,13 +117,17 @@ Serves files trace name sizes policy = AfterLoad document.Source files name (λ 
 
 -- ---- run
 
+-- how many bytes the chunks of both sizes have
+abbrev pub pool_bytes : RunOptions → Certificate → ℕ
+pool_bytes policy c = policy.chunks * c.chunk + policy.extra * policy.extra_bytes
+
 -- the pair is checked, then the size of its pool, and then it runs
 abbrev pub RunsPair : Option (List ℕ) → RunOptions → ProgramTree → Image → Certificate → Outcome → Type 0
 RunsPair trace policy program i c outcome =
     ((rule function index : ℕ) × IsFirstFailure (lowered program) i c rule function index × (outcome ≡ refusal (cause.Rejected rule function index)))
     ⊎ (IsValid (lowered program) i c
-    × (((67108864 < policy.chunks * c.chunk) × (outcome ≡ refusal (cause.Pool (policy.chunks * c.chunk))))
-    ⊎ ((policy.chunks * c.chunk ≤ 67108864) × RunsOn trace (setup_of program i c policy) outcome)))
+    × (((67108864 < pool_bytes policy c) × (outcome ≡ refusal (cause.Pool (pool_bytes policy c))))
+    ⊎ ((pool_bytes policy c ≤ 67108864) × RunsOn trace (setup_of program i c policy) outcome)))
 
 abbrev pub RunsBytes : Option (List ℕ) → RunOptions → (source image certificate : List ℕ) → Outcome → Type 0
 RunsBytes trace policy source image certificate =

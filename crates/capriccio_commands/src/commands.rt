@@ -1,8 +1,9 @@
 // The commands, over the objects that they are handed.
-ghost use Rattle.std.specs.Prelude.{ℕ, List, Option, ◌≡◌, ◌≤◌, ◌*◌, map};
+ghost use Rattle.std.specs.Prelude.{ℕ, List, Option, ◌≡◌, ◌+◌, ◌≤◌, ◌*◌, map};
 ghost use Rattle.std.specs.String.{string_bytes};
 ghost use Rattle.command_words.specs.WordList.{IsWordList, request_of};
 ghost use Rattle.codegen_link.specs.Plans.{AreInRange};
+ghost use Rattle.capriccio_commands.specs.Budgets.{Budgets};
 ghost use Rattle.capriccio_commands.specs.BuildsFiles.{Builds};
 ghost use Rattle.capriccio_commands.specs.Checks.{Checks};
 ghost use Rattle.command_outcomes.specs.Done.{Outside, outside_by};
@@ -14,6 +15,7 @@ ghost use Rattle.capriccio_commands.specs.Runs.{Serves, Runs};
 ghost use Rattle.capriccio_commands.specs.RunSteps.{IsRunPolicy};
 ghost use Rattle.command_outcomes.specs.Steps.{EndsAs};
 
+use crate::budget_command::budget_files;
 use crate::build_command::build_source;
 use crate::check_command::check_files;
 use crate::demo_command::{Shown, show_workload};
@@ -103,6 +105,11 @@ fn do_command<F: Shelf, S: Source, K: Sink>(
             options_of(placement),
         ),
         Command::Demo { number } => demo(alloc, out, number),
+        Command::Budget {
+            source,
+            image,
+            certificate,
+        } => budget(alloc, shelf, out, source, image, certificate),
     }
 }
 
@@ -133,6 +140,24 @@ fn graph<F: Shelf, K: Sink>(
     print(out, text.as_slice(), 0)
 }
 
+/// The command `budget`.
+fn budget<F: Shelf, K: Sink>(
+    alloc: Global,
+    shelf: &mut F,
+    out: &mut K,
+    source: &str,
+    image: &str,
+    certificate: &str,
+) -> Result<Ended, Stop>
+    ensures { (left : Option (List ℕ)) (reads : ℕ) →
+        let before : Outside = record { files = F.files shelf.old; loads = F.load_faults shelf.old; stores = F.store_faults shelf.old; left = left; reads = reads; taken = K.taken out.old; writes = K.faults out.old } in
+        let after : Outside = record { files = F.files shelf.new; loads = F.load_faults shelf.new; stores = F.store_faults shelf.new; left = left; reads = reads; taken = K.taken out.new; writes = K.faults out.new } in
+        EndsAs (Budgets before.files source.now image.now certificate.now) before after result }
+{
+    let text = budget_files(alloc, shelf, source, image, certificate)?;
+    print(out, text.as_slice(), 0)
+}
+
 /// The command `serve`.
 fn serve<F: Shelf, S: Source, K: Sink>(
     alloc: Global,
@@ -145,7 +170,7 @@ fn serve<F: Shelf, S: Source, K: Sink>(
 ) -> Result<Ended, Stop>
     requires sizes { AreInRange sizes }
     requires policy { IsRunPolicy policy }
-    requires pool { policy.chunks * sizes.chunk ≤ 67108864 }
+    requires pool { policy.chunks * sizes.chunk + policy.extra * policy.extra_bytes ≤ 67108864 }
     ensures { let outside = outside_by F.files F.load_faults F.store_faults S.left S.faults K.taken K.faults in
         let before : Outside = outside shelf.old trace.old out.old in
         let after : Outside = outside shelf.new trace.new out.new in

@@ -99,6 +99,8 @@ fn workload_policy() -> Policy
 {
     Policy {
         chunks: 2048,
+        extra: 0,
+        extra_bytes: 64,
         fuel: 1_000_000_000,
         backlog: 1024,
         caps: [0; 8],

@@ -1,13 +1,13 @@
 // The commands `serve` and `run`: a program that the checker accepts runs on the trace.
-ghost use Rattle.std.specs.Prelude.{◌≡◌, ◌≤◌, ◌*◌, ℕ, List, Option, length, MatchResult};
+ghost use Rattle.std.specs.Prelude.{◌≡◌, ◌≤◌, ℕ, List, Option, length, MatchResult};
 ghost use Rattle.cap_io.specs.Files.{KeepsFiles};
 ghost use Rattle.c_tree.specs.ProgramView.{program_tree};
 ghost use Rattle.certificate_check.specs.Accepting.{accepted_tree};
 ghost use Rattle.codegen_link.specs.Plans.{AreInRange};
 ghost use Rattle.command_words.specs.declared.options.Policy.{Policy as RunOptions};
 ghost use Rattle.command_outcomes.specs.Loads.{AfterSource};
-ghost use Rattle.capriccio_commands.specs.Runs.{Serves, ServesProgram, Runs, RunsBytes, RunsPair};
-ghost use Rattle.capriccio_commands.specs.RunSteps.{LeadsOn};
+ghost use Rattle.capriccio_commands.specs.Runs.{Serves, ServesProgram, Runs, RunsBytes, RunsPair, pool_bytes};
+ghost use Rattle.capriccio_commands.specs.RunSteps.{IsRunPolicy, LeadsOn};
 ghost use Rattle.command_outcomes.specs.Steps.{IsStop, IsShelfStop};
 ghost use Rattle.capriccio_commands.specs.Closings.{IsUnaccepted};
 
@@ -94,7 +94,7 @@ pub(crate) fn accept_program(
     }
 }
 
-/// The files of these names, accepted, with a pool of so many chunks that isn't too large.
+/// The files of these names, accepted, with a pool of this policy that isn't too large.
 pub(crate) fn accept_files<F: Shelf>(
     alloc: Global,
     shelf: &mut F,
@@ -103,9 +103,9 @@ pub(crate) fn accept_files<F: Shelf>(
     certificate_name: &str,
     policy: Policy,
 ) -> Result<Accepted, Stop>
-    requires { policy.chunks ≤ 65536 }
+    requires { IsRunPolicy policy }
     ensures answer { (trace : Option (List ℕ)) → MatchResult result
-        (λ accepted. LeadsOn trace policy accepted (Runs (F.files shelf.old) trace source_name.now image_name.now certificate_name.now policy) × (policy.chunks * accepted.certificate.chunk ≤ 67108864) × (F.load_faults shelf.new ≡ F.load_faults shelf.old))
+        (λ accepted. LeadsOn trace policy accepted (Runs (F.files shelf.old) trace source_name.now image_name.now certificate_name.now policy) × (pool_bytes policy accepted.certificate ≤ 67108864) × (F.load_faults shelf.new ≡ F.load_faults shelf.old))
         (IsShelfStop (Runs (F.files shelf.old) trace source_name.now image_name.now certificate_name.now policy) (F.load_faults shelf.old) (F.load_faults shelf.new)) }
     ensures files { KeepsFiles (F.files shelf.old) (F.files shelf.new) }
     ensures stores { F.store_faults shelf.new ≡ F.store_faults shelf.old }
@@ -129,9 +129,9 @@ fn accept_bytes(
     policy: Policy,
 ) -> Result<Accepted, Stop>
     requires few { length source.now ≤ 1048576 }
-    requires chunks { policy.chunks ≤ 65536 }
+    requires range { IsRunPolicy policy }
     ensures { (trace : Option (List ℕ)) → MatchResult result
-        (λ accepted. LeadsOn trace policy accepted (RunsBytes trace policy source.now image.now certificate.now) × (policy.chunks * accepted.certificate.chunk ≤ 67108864))
+        (λ accepted. LeadsOn trace policy accepted (RunsBytes trace policy source.now image.now certificate.now) × (pool_bytes policy accepted.certificate ≤ 67108864))
         (IsStop (RunsBytes trace policy source.now image.now certificate.now)) }
 {
     let program = read_source(alloc, source)?;
@@ -148,9 +148,9 @@ fn accept_pair(
     certificate: Certificate,
     policy: Policy,
 ) -> Result<Accepted, Stop>
-    requires { policy.chunks ≤ 65536 }
+    requires { IsRunPolicy policy }
     ensures { (trace : Option (List ℕ)) → MatchResult result
-        (λ accepted. LeadsOn trace policy accepted (RunsPair trace policy (program_tree program) image certificate) × (policy.chunks * accepted.certificate.chunk ≤ 67108864))
+        (λ accepted. LeadsOn trace policy accepted (RunsPair trace policy (program_tree program) image certificate) × (pool_bytes policy accepted.certificate ≤ 67108864))
         (IsStop (RunsPair trace policy (program_tree program) image certificate)) }
 {
     match check(alloc, program, image, certificate) {
@@ -160,7 +160,7 @@ fn accept_pair(
 }
 
 /// Why a pair isn't accepted.
-fn check_stop(error: CheckError) -> Stop
+pub(crate) fn check_stop(error: CheckError) -> Stop
     ensures { IsUnaccepted error result }
 {
     match error {
@@ -178,16 +178,17 @@ fn check_stop(error: CheckError) -> Stop
     }
 }
 
-/// An accepted program, where a pool of so many of its chunks isn't too large.
+/// An accepted program, where the pool of this policy isn't too large.
 fn within_pool(accepted: Accepted, policy: Policy) -> Result<Accepted, Stop>
-    requires { policy.chunks ≤ 65536 }
+    requires { IsRunPolicy policy }
     ensures { (trace : Option (List ℕ)) → MatchResult result
-        (λ within. LeadsOn trace policy within (RunsPair trace policy (accepted_tree accepted) accepted.image accepted.certificate) × (policy.chunks * within.certificate.chunk ≤ 67108864))
+        (λ within. LeadsOn trace policy within (RunsPair trace policy (accepted_tree accepted) accepted.image accepted.certificate) × (pool_bytes policy within.certificate ≤ 67108864))
         (IsStop (RunsPair trace policy (accepted_tree accepted) accepted.image accepted.certificate)) }
 {
     // What the image's call tells: the pair is valid.
     let _image = accepted.image();
-    let bytes = u64::from(policy.chunks) * u64::from(accepted.certificate().chunk);
+    let extra_bytes = u64::from(policy.extra) * u64::from(policy.extra_bytes);
+    let bytes = u64::from(policy.chunks) * u64::from(accepted.certificate().chunk) + extra_bytes;
     if bytes > 67_108_864 {
         drop(accepted);
         Err(Stop::Refused(Cause::Pool { bytes }))

@@ -1,8 +1,8 @@
 // A run of an accepted program on the trace, under a policy.
-ghost use Rattle.std.specs.Prelude.{◌≡◌, ◌≤◌, ◌*◌, Some, IfOk};
+ghost use Rattle.std.specs.Prelude.{◌≡◌, ◌≤◌, Some, IfOk};
 ghost use Rattle.capriccio_commands.specs.Closings.{IsClosed};
 ghost use Rattle.capriccio_commands.specs.RunSteps.{IsRunPolicy, IsMade, IsNewMonitor, setup_in, world_policy_of};
-ghost use Rattle.capriccio_commands.specs.Runs.{RunsOn, rule_of, setup_of};
+ghost use Rattle.capriccio_commands.specs.Runs.{RunsOn, pool_bytes, rule_of, setup_of};
 ghost use Rattle.certificate_check.specs.Accepting.{accepted_tree};
 ghost use Rattle.choice_rules.specs.Policy.{by_graph, by_stride};
 ghost use Rattle.command_outcomes.specs.declared.stops.Stop.TheVariants.{Failed};
@@ -11,13 +11,12 @@ ghost use Rattle.resource_monitor.specs.Pressure.{AnswersCurve, IsReading, curve
 ghost use Rattle.resource_monitor.specs.declared.curves.Curve.TheVariants.{Knee};
 ghost use Rattle.stride_rule.specs.State.{new_rule};
 
-use crate::pressures::past_knee;
 use crate::strides::stride_rule_of;
 use cap_io::{Sink, Source};
 use certificate_check::Accepted;
 use command_outcomes::{Ended, Fault, Stop};
 use command_words::{Policy, Rule};
-use resource_monitor::{Curve, Gauge, Measure, Monitor};
+use resource_monitor::{Curve, Gauge, Measure, Monitor, past_knee};
 use runner::{RunEnd, run, run_stride};
 use std::alloc::{AllocError, Global};
 use stride_rule::StrideRule;
@@ -32,7 +31,7 @@ pub(crate) fn run_accepted<S: Source, K: Sink>(
     out: &mut K,
 ) -> Result<Ended, Stop>
     requires range { IsRunPolicy policy }
-    requires pool { policy.chunks * accepted.certificate.chunk ≤ 67108864 }
+    requires pool { pool_bytes policy accepted.certificate ≤ 67108864 }
     ensures { RunEnds (RunsOn (S.left trace.old) (setup_of (accepted_tree accepted) accepted.image accepted.certificate policy)) (S.left trace.old) (S.left trace.new) (S.faults trace.old) (S.faults trace.new) (K.taken out.old) (K.taken out.new) (K.faults out.old) (K.faults out.new) result }
 {
     // What the image's call tells: the pair is valid.
@@ -157,6 +156,8 @@ fn world_policy(policy: Policy) -> WorldPolicy
     let caps = policy.caps;
     WorldPolicy {
         chunks: policy.chunks,
+        extra: policy.extra,
+        extra_bytes: policy.extra_bytes,
         backlog: policy.backlog,
         caps,
     }
@@ -177,7 +178,7 @@ fn monitor_of<C: Measure + Copy>(
         gauges.push(Gauge::new(Curve::Knee { knee: policy.knee }, call))?;
     }
     let mut caps = policy.caps;
-    caps[0] = policy.chunks;
+    caps[0] = policy.chunks + policy.extra;
     Ok(Monitor::new(gauges, caps, policy.high, policy.low))
 }
 

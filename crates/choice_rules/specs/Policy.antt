@@ -1,5 +1,5 @@
 -- The policy of a run: its limits, and the rule by which a thread is chosen.
-use Rattle.std.specs.Prelude.{ℕ, List, ◌∷◌, drop}
+use Rattle.std.specs.Prelude.{ℕ, ◌+◌, List, ◌∷◌, drop}
 use Rattle.resource_monitor.specs.declared.curves.Curve.{Curve}
 
 -- the rule by which one of the eligible threads is chosen
@@ -10,8 +10,11 @@ pub data Rule : Type 0 where
   by_stride : (tickets : List (ℕ × ℕ)) → Rule
 
 pub record Policy : Type 0 where
-  -- the number of chunks, the most instructions, and how many items may wait in a queue
+  -- the number of chunks of the certificate's size, how many are added and their bytes, the most instructions, and how many
+  -- items may wait in a queue
   pub chunks : ℕ
+  pub extra : ℕ
+  pub extra_bytes : ℕ
   pub fuel : ℕ
   pub backlog : ℕ
   -- the caps of the resources by their numbers, of which 0 isn't read; a cap of 0 says that it isn't given
@@ -23,6 +26,6 @@ pub record Policy : Type 0 where
   -- how a thread is chosen
   pub rule : Rule
 
--- the caps of all eight resources: that of resource 0 is the number of chunks
+-- the caps of all eight resources: that of resource 0 is the number of all chunks
 abbrev pub all_caps : Policy → List ℕ
-all_caps policy = policy.chunks ∷ drop 1 policy.caps
+all_caps policy = (policy.chunks + policy.extra) ∷ drop 1 policy.caps

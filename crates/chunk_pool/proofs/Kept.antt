@@ -1,188 +1,328 @@
 -- A pool that lies in one region, as its parts change.
-use Rattle.std.proofs.Common.{◌≡◌, ◌≢◌, ℕ, ◌+◌, ◌-◌, ◌*◌, ◌^◌, ◌<◌, ◌≤◌, ◌⊎◌, inl, inr, List, [], ◌∷◌, length, map, take, drop, get_or, slice_get, set, None, IsTrue, refl, sym, ◌∙◌, ap, subst, arith, All}
+use Rattle.std.proofs.Common.{◌≡◌, ◌≢◌, ℕ, ◌+◌, ◌-◌, ◌^◌, ◌<◌, ◌≤◌, ◌⊎◌, inl, inr, List, [], ◌∷◌, length, map, take, drop, get_or, set, nat_le, refl, sym, ◌∙◌, ap, subst, arith, All, Contains}
 use Rattle.std.specs.List.{range_with_len}
 use Rattle.std.proofs.lemmas.Bool.{cases_eq, cases_lt}
-use Rattle.std.proofs.lemmas.List.{length-set, nil_from_length}
+use Rattle.std.proofs.lemmas.List.{length-set, length-append}
 use Rattle.std.proofs.lemmas.List.Elements.{All-head}
-use Rattle.std.proofs.lemmas.Nat.{row_fits}
 use Rattle.chunk_pool.specs.declared.pool.ChunkPool.TheInside.{Inside}
-use Rattle.chunk_pool.specs.Pool.{Pool, word_of, payload_of, contents_with, with_word, words_of, words_in, after_take, after_give, first_or, fits, taken_for, IsTaken, IsHeld, IsLinked, IsPool, start_chunk, start_pool}
+use Rattle.chunk_pool.specs.declared.shape.Shape.{Shape}
+use Rattle.chunk_pool.specs.Pool.{Pool, shape_of, word_of, payload_of, contents_with, with_word, words_of, words_in, start_of, start_in, size_in, free_count, after_give, first_or, IsHeld, IsLinked, IsShape, IsPool, offers, choice, class_for, next_in, start_chunk, start_shape, start_pool}
 use Rattle.chunk_pool.specs.Chunks.{chunks_in, followed, pool_of, IsKept}
-use Rattle.chunk_pool.proofs.PoolLaws.{same_pool, apart_from, word_of-with_word_same, IsPool-with_word, IsPool-after_take, IsPool-after_give}
-use Rattle.chunk_pool.proofs.FreeLaws.{free_bounded_by_held, IsTaken-after_take}
-use Rattle.chunk_pool.proofs.PoolStart.{first_or-range, first_word-start_pool}
+use Rattle.chunk_pool.proofs.Shapes.{start-before, words_in-some}
+use Rattle.chunk_pool.proofs.PoolLaws.{same_pool, apart_from, absent-first, absent-extra, word_of-with_word_same, IsPool-with_word, IsPool-taken_first, IsPool-taken_extra, IsPool-given_first, IsPool-given_extra, given_first, given_extra, after_give-first, after_give-extra}
+use Rattle.chunk_pool.proofs.FreeLaws.{free_bounded}
+use Rattle.chunk_pool.proofs.PoolStart.{first_or-range, first_or-some, first_word-start_pool, next_in-more}
 use Rattle.chunk_pool.proofs.RegionLaws.{word_in_region, payload_in_region, chunks_in-set, length-followed, followed-step, followed-set, followed-range}
 
 -- ---- reading, where p is what the fields are seen as
 
-pub read_is : (a : Inside) (p : Pool) (id word : ℕ) → pool_of a ≡ p → id < p.count → word < words_of p id → get_or a.region (id * p.words + word) 0 ≡ word_of p id word
-unfolding words_in
+pub shape_is : (a : Inside) (p : Pool) → pool_of a ≡ p → IsKept a → IsShape (shape_of p)
+shape_is a p v kept = subst (λ (q : Pool). IsShape (shape_of q)) v kept.pool.shape
+
+-- each chunk has a header and a payload
+pub has_words : (a : Inside) (p : Pool) (id : ℕ) → pool_of a ≡ p → IsKept a → 8 ≤ words_of p id
+has_words a p id v kept = words_in-some (shape_of p) id (shape_is a p v kept)
+
+-- the region is as long as the words of all chunks
+pub region_is : (a : Inside) (p : Pool) → pool_of a ≡ p → IsKept a → length a.region ≡ size_in (shape_of p)
+region_is a p v kept = kept.size ∙ ap (λ (q : Pool). size_in (shape_of q)) v
+
+pub read_is : (a : Inside) (p : Pool) (id word : ℕ) → pool_of a ≡ p → id < p.count → word < words_of p id → get_or a.region (start_of p id + word) 0 ≡ word_of p id word
 read_is a p id word v =
-    let P : Pool → Type 0 = λ q. id < q.count → word < q.words → get_or a.region (id * q.words + word) 0 ≡ word_of q id word in
-    subst P v (λ within below. sym (word_in_region a.count a.words id word a.region within below))
+    let P : Pool → Type 0 = λ q. id < q.count → word < words_of q id → get_or a.region (start_of q id + word) 0 ≡ word_of q id word in
+    subst P v (λ within below. sym (word_in_region a.shape id word a.region within below))
 
-pub payload_is : (a : Inside) (p : Pool) (id at : ℕ) → pool_of a ≡ p → IsKept a → id < p.count → at ≡ id * p.words + 4 → take (a.words - 4) (drop at a.region) ≡ payload_of p id
+pub payload_is : (a : Inside) (p : Pool) (id at : ℕ) → pool_of a ≡ p → IsKept a → id < p.count → at ≡ start_of p id + 4 → take (words_of p id - 4) (drop at a.region) ≡ payload_of p id
 payload_is a p id at v kept =
-    let P : Pool → Type 0 = λ q. id < q.count → at ≡ id * q.words + 4 → take (a.words - 4) (drop at a.region) ≡ payload_of q id in
+    let P : Pool → Type 0 = λ q. id < q.count → at ≡ start_of q id + 4 → take (words_of q id - 4) (drop at a.region) ≡ payload_of q id in
     subst P v (λ within at_is.
-    ap (λ (n : ℕ). take (a.words - 4) (drop n a.region)) at_is
-    ∙ payload_in_region a.count a.words id a.region (omega (arith, kept.pool.header_fits)) within)
+    ap (λ (n : ℕ). take (words_in a.shape id - 4) (drop n a.region)) at_is
+    ∙ payload_in_region a.shape id a.region (omega (arith, words_in-some a.shape id kept.pool.shape)) within)
 
-pub free_is : (a : Inside) (p : Pool) → pool_of a ≡ p → a.free ≡ length p.free
-free_is a p v = sym (length-followed a.words a.region a.first a.free) ∙ ap (λ (q : Pool). length q.free) v
+pub free_is : (a : Inside) (p : Pool) → pool_of a ≡ p → (a.free ≡ length p.free) × (a.extra_free ≡ length p.extra_free)
+free_is a p v = (
+  sym (length-followed a.shape a.region a.first a.free) ∙ ap (λ (q : Pool). length q.free) v,
+  sym (length-followed a.shape a.region a.extra_first a.extra_free) ∙ ap (λ (q : Pool). length q.extra_free) v,
+)
+
+-- of which size a need takes
+pub class_is : (a : Inside) (p : Pool) (need : ℕ) → pool_of a ≡ p → choice (offers a.shape.words a.free need) (offers a.shape.extra_words a.extra_free need) (nat_le a.shape.words a.shape.extra_words) ≡ class_for p need
+class_is a p need v =
+    ap (λ (n : ℕ). choice (offers a.shape.words n need) (offers a.shape.extra_words a.extra_free need) (nat_le a.shape.words a.shape.extra_words)) (sym (length-followed a.shape a.region a.first a.free))
+    ∙ ap (λ (n : ℕ). choice (offers a.shape.words (length (followed a.shape a.region a.first a.free)) need) (offers a.shape.extra_words n need) (nat_le a.shape.words a.shape.extra_words)) (sym (length-followed a.shape a.region a.extra_first a.extra_free))
+    ∙ ap (λ (q : Pool). class_for q need) v
+
+-- how many chunks are free
+pub all_free_is : (a : Inside) (p : Pool) → pool_of a ≡ p → a.free + a.extra_free ≡ free_count p
+all_free_is a p v = omega (arith, (free_is a p v).0, (free_is a p v).1, length-append p.free p.extra_free)
+
+pub free_most : (a : Inside) (p : Pool) → pool_of a ≡ p → IsKept a → a.free + a.extra_free ≤ a.shape.count
+free_most a p v kept = omega (arith, all_free_is a (pool_of a) refl, free_bounded (pool_of a) kept.pool)
 
 -- ---- a word is written
 
 -- the first word of a chunk is not a word behind the first, and no word of another chunk
-places_apart : (words a b word : ℕ) → word < words → (a ≢ b) ⊎ (1 ≤ word) → a * words ≢ b * words + word
-places_apart words a b word below differ same = elim (cases_eq a b) [
+places_apart : (s : Shape) (a b word : ℕ) → IsShape s → word < words_in s b → (a ≢ b) ⊎ (1 ≤ word) → start_in s a ≢ start_in s b + word
+places_apart s a b word sound below differ same = elim (cases_eq a b) [
   | inl equal ↦ elim differ [
     | inl apart ↦ absurd (apart equal)
-    | inr behind ↦ let both : a * words ≡ b * words = ap (λ (n : ℕ). n * words) equal in absurd (omega arith)
+    | inr behind ↦ let both : start_in s a ≡ start_in s b = ap (start_in s) equal in absurd (omega arith)
   ]
   | inr apart ↦ elim (cases_lt a b) [
-    | inl before ↦ let fits : a * words + words ≤ b * words = row_fits a words b words before (omega arith) in absurd (omega arith)
-    | inr behind ↦ let less : b < a = omega (arith, apart) in let fits : b * words + words ≤ a * words = row_fits b words a words less (omega arith) in absurd (omega arith)
+    | inl before ↦ absurd (omega (arith, start-before s a b before, words_in-some s a sound))
+    | inr behind ↦ let less : b < a = omega (arith, apart) in absurd (omega (arith, start-before s b a less))
   ]
 ]
 
-pub links_apart : (p : Pool) (id word : ℕ) → word < p.words → IsHeld p id ⊎ (4 ≤ word) → All (λ k. k * p.words ≢ id * p.words + word) p.free
-links_apart p id word below kept k d within =
-    places_apart p.words (get_or p.free k d) id word below (elim kept [ inl held ↦ inl (apart_from p.free id held.1 k d within) | inr behind ↦ inr (omega arith) ])
+links_apart : (s : Shape) (ids : List ℕ) (id word : ℕ) → IsShape s → word < words_in s id → (¬ Contains ids id) ⊎ (4 ≤ word) → All (λ k. start_in s k ≢ start_in s id + word) ids
+links_apart s ids id word sound below kept k d within =
+    places_apart s (get_or ids k d) id word sound below (elim kept [ inl absent ↦ inl (apart_from ids id absent k d within) | inr behind ↦ inr (omega arith) ])
 
 -- the pool with the word written, and that it is kept
 pub record IsWritten (a : Inside) (p : Pool) (id word value : ℕ) (new : List ℕ) : Type 0 where
   pub pool : pool_of (record a { region = new }) ≡ with_word p id word value
   pub kept : IsKept (record a { region = new })
 
-here_written : (a : Inside) (id word value : ℕ) → IsKept a → id < a.count → word < a.words → value < 2 ^ 32 → IsHeld (pool_of a) id ⊎ (4 ≤ word) → IsWritten a (pool_of a) id word value (set a.region (id * a.words + word) value)
+here_written : (a : Inside) (id word value : ℕ) → IsKept a → id < a.shape.count → word < words_in a.shape id → value < 2 ^ 32 → IsHeld (pool_of a) id ⊎ (4 ≤ word) → IsWritten a (pool_of a) id word value (set a.region (start_in a.shape id + word) value)
 here_written a id word value kept within below fits link_kept =
-    let at = id * a.words + word in
+    let s = a.shape in
+    let at = start_in s id + word in
     let new = set a.region at value in
-    let same_free = followed-set a.words a.region at value a.first a.free (links_apart (pool_of a) id word below link_kept) in
+    let free = followed s a.region a.first a.free in
+    let extra = followed s a.region a.extra_first a.extra_free in
+    let same_free = followed-set s a.region at value a.first a.free
+    (links_apart s free id word kept.pool.shape below (elim link_kept [ inl held ↦ inl (absent-first (pool_of a) id held.1) | inr behind ↦ inr behind ])) in
+    let same_extra = followed-set s a.region at value a.extra_first a.extra_free
+    (links_apart s extra id word kept.pool.shape below (elim link_kept [ inl held ↦ inl (absent-extra (pool_of a) id held.1) | inr behind ↦ inr behind ])) in
     let pool : pool_of (record a { region = new }) ≡ with_word (pool_of a) id word value =
-    same_pool a.count a.count a.words (chunks_in a.count a.words new) (contents_with (chunks_in a.count a.words a.region) id word value) (followed a.words new a.first a.free) (followed a.words a.region a.first a.free) refl
-    (chunks_in-set a.count a.words id word value a.region within below) same_free in
+    same_pool s (chunks_in s new) (contents_with (chunks_in s a.region) id word value) (followed s new a.first a.free) free (followed s new a.extra_first a.extra_free) extra
+    (chunks_in-set s id word value a.region within below) same_free same_extra in
     record {
       pool = pool;
       kept = record {
         pool = subst IsPool (sym pool) (IsPool-with_word (pool_of a) id word value kept.pool within fits link_kept);
         size = length-set a.region at value ∙ kept.size;
-        first = kept.first ∙ ap (λ (free : List ℕ). first_or free a.count) (sym same_free);
+        first = kept.first ∙ ap (λ (ids : List ℕ). first_or ids s.count) (sym same_free);
+        extra_first = kept.extra_first ∙ ap (λ (ids : List ℕ). first_or ids s.count) (sym same_extra);
       };
     }
 
-pub written : (a : Inside) (p : Pool) (id word value at : ℕ) (new : List ℕ) → pool_of a ≡ p → IsKept a → id < p.count → word < words_of p id → value < 2 ^ 32 → IsHeld p id ⊎ (4 ≤ word) → at ≡ id * p.words + word → new ≡ set a.region at value → IsWritten a p id word value new
-unfolding words_in
+pub written : (a : Inside) (p : Pool) (id word value at : ℕ) (new : List ℕ) → pool_of a ≡ p → IsKept a → id < p.count → word < words_of p id → value < 2 ^ 32 → IsHeld p id ⊎ (4 ≤ word) → at ≡ start_of p id + word → new ≡ set a.region at value → IsWritten a p id word value new
 written a p id word value at new v kept within below fits link_kept at_is new_is =
-    let P : Pool → Type 0 = λ q. id < q.count → word < q.words → IsHeld q id ⊎ (4 ≤ word) → at ≡ id * q.words + word → IsWritten a q id word value new in
+    let P : Pool → Type 0 = λ q. id < q.count → word < words_of q id → IsHeld q id ⊎ (4 ≤ word) → at ≡ start_of q id + word → IsWritten a q id word value new in
     subst P v (λ within below link_kept at_is.
-    let same : set a.region (id * a.words + word) value ≡ new = sym (new_is ∙ ap (λ (i : ℕ). set a.region i value) at_is) in
+    let same : set a.region (start_in a.shape id + word) value ≡ new = sym (new_is ∙ ap (λ (i : ℕ). set a.region i value) at_is) in
     subst (IsWritten a (pool_of a) id word value) same (here_written a id word value kept within below fits link_kept)) within below link_kept at_is
 
 -- ---- a chunk is taken
 
--- the first free number is a chunk's
-pub first_within : (a : Inside) → IsKept a → a.free ≢ 0 → a.first < a.count
+-- a list that isn't empty, by its first number and what the region has there
+taken_off : (s : Shape) (region : List ℕ) (first free next : ℕ) → free ≢ 0 → next ≡ get_or region (start_in s first) 0 → followed s region first free ≡ first ∷ followed s region next (free - 1)
+taken_off s region first free next some next_is =
+    followed-step s region first free (free - 1) (omega (arith, some)) ∙ ap (λ (n : ℕ). first ∷ followed s region n (free - 1)) (sym next_is)
+
+-- the first word of a chunk is the next number of a list that it begins
+next_of : (s : Shape) (region : List ℕ) (id : ℕ) (ids : List ℕ) → IsShape s → id < s.count → IsLinked (chunks_in s region) s.count (id ∷ ids) → get_or region (start_in s id) 0 ≡ first_or ids s.count
+next_of s region id ids sound within linked =
+    let at : start_in s id ≡ start_in s id + 0 = omega arith in
+    ap (λ (i : ℕ). get_or region i 0) at ∙ sym (word_in_region s id 0 region within (omega (arith, words_in-some s id sound))) ∙ linked.0
+
+-- the first free numbers are chunks'
+pub first_within : (a : Inside) → IsKept a → a.free ≢ 0 → a.first < a.shape.count
 first_within a kept some =
-    let ids = followed a.words a.region (get_or a.region (a.first * a.words) 0) (a.free - 1) in
-    let split : followed a.words a.region a.first a.free ≡ a.first ∷ ids = followed-step a.words a.region a.first a.free (a.free - 1) (omega (arith, some)) in
-    All-head (λ id. id < a.count) a.first ids (subst (All (λ id. id < a.count)) split kept.pool.free_below)
+    let s = a.shape in
+    let ids = followed s a.region (get_or a.region (start_in s a.first) 0) (a.free - 1) in
+    let split : followed s a.region a.first a.free ≡ a.first ∷ ids = taken_off s a.region a.first a.free (get_or a.region (start_in s a.first) 0) some refl in
+    let each = All-head (λ id. (0 ≤ id) × (id < s.first_count)) a.first ids (subst (All (λ id. (0 ≤ id) × (id < s.first_count))) split kept.pool.free.within) in
+    omega (arith, each.1, kept.pool.shape.first_within)
 
-abbrev pub taken_from : Inside → ℕ → Inside
-taken_from a next = record a { first = next; free = a.free - 1 }
+pub extra_within : (a : Inside) → IsKept a → a.extra_free ≢ 0 → a.extra_first < a.shape.count
+extra_within a kept some =
+    let s = a.shape in
+    let ids = followed s a.region (get_or a.region (start_in s a.extra_first) 0) (a.extra_free - 1) in
+    let split : followed s a.region a.extra_first a.extra_free ≡ a.extra_first ∷ ids = taken_off s a.region a.extra_first a.extra_free (get_or a.region (start_in s a.extra_first) 0) some refl in
+    (All-head (λ id. (s.first_count ≤ id) × (id < s.count)) a.extra_first ids (subst (All (λ id. (s.first_count ≤ id) × (id < s.count))) split kept.pool.extra_free.within)).1
 
-pub record IsTakenFrom (a : Inside) (next : ℕ) : Type 0 where
-  pub split : (pool_of a).free ≡ a.first ∷ (pool_of (taken_from a next)).free
-  pub pool : pool_of (taken_from a next) ≡ after_take (pool_of a)
-  pub kept : IsKept (taken_from a next)
+abbrev pub first_taken : Inside → ℕ → Inside
+first_taken a next = record a { first = next; free = a.free - 1 }
 
-pub taken : (a : Inside) (next : ℕ) → IsKept a → a.free ≢ 0 → next ≡ word_of (pool_of a) a.first 0 → IsTakenFrom a next
-taken a next kept some next_is =
-    let within = first_within a kept some in
-    let ids = followed a.words a.region next (a.free - 1) in
-    let at : a.first * a.words + 0 ≡ a.first * a.words = omega arith in
-    let link : next ≡ get_or a.region (a.first * a.words) 0 =
-    next_is ∙ word_in_region a.count a.words a.first 0 a.region within (omega (arith, kept.pool.header_fits)) ∙ ap (λ (i : ℕ). get_or a.region i 0) at in
-    let split : followed a.words a.region a.first a.free ≡ a.first ∷ ids =
-    followed-step a.words a.region a.first a.free (a.free - 1) (omega (arith, some)) ∙ ap (λ (n : ℕ). a.first ∷ followed a.words a.region n (a.free - 1)) (sym link) in
-    let contents = chunks_in a.count a.words a.region in
-    let pool : pool_of (taken_from a next) ≡ after_take (pool_of a) =
-    same_pool a.count a.count a.words contents contents ids (drop 1 (followed a.words a.region a.first a.free)) refl refl (sym (ap (drop 1) split)) in
-    let linked : IsLinked contents a.count (a.first ∷ ids) = subst (IsLinked contents a.count) split kept.pool.linked in
-    record {
-      split = split;
-      pool = pool;
-      kept = record { pool = subst IsPool (sym pool) (IsPool-after_take (pool_of a) kept.pool); size = kept.size; first = next_is ∙ linked.0 };
-    }
+abbrev pub extra_taken : Inside → ℕ → Inside
+extra_taken a next = record a { extra_first = next; extra_free = a.extra_free - 1 }
 
--- where no chunk is free, a need takes nothing
-pub none_taken : (a : Inside) (p : Pool) (need : ℕ) → pool_of a ≡ p → a.free ≡ 0 → All (λ id. IsTrue (fits p need id)) p.free → IsTaken (taken_for p need) None p p
-none_taken a p need v empty each =
-    let free : p.free ≡ [] = nil_from_length p.free (omega (arith, free_is a p v, empty)) in
-    IsTaken-after_take p need None p (sym (ap (λ (ids : List ℕ). slice_get ids 0) free))
-    (ap (λ (ids : List ℕ). record p { free = ids }) (free ∙ sym (ap (drop 1) free))) each
+pub record IsFirstTaken (a : Inside) (p : Pool) (next : ℕ) : Type 0 where
+  pub first : a.first ≡ first_or p.free p.count
+  pub pool : pool_of (first_taken a next) ≡ record p { free = drop 1 p.free }
+  pub kept : IsKept (first_taken a next)
+
+pub record IsExtraTaken (a : Inside) (p : Pool) (next : ℕ) : Type 0 where
+  pub first : a.extra_first ≡ first_or p.extra_free p.count
+  pub pool : pool_of (extra_taken a next) ≡ record p { extra_free = drop 1 p.extra_free }
+  pub kept : IsKept (extra_taken a next)
+
+pub taken_first : (a : Inside) (p : Pool) (next : ℕ) → pool_of a ≡ p → IsKept a → a.free ≢ 0 → next ≡ get_or a.region (start_in a.shape a.first) 0 → IsFirstTaken a p next
+taken_first a p next v kept some next_is = subst (λ (q : Pool). IsFirstTaken a q next) v here where
+  s : Shape
+  s = a.shape
+
+  ids : List ℕ
+  ids = followed s a.region next (a.free - 1)
+
+  split : followed s a.region a.first a.free ≡ a.first ∷ ids
+  split = taken_off s a.region a.first a.free next some next_is
+
+  pool : pool_of (first_taken a next) ≡ record (pool_of a) { free = drop 1 (pool_of a).free }
+  pool = ap (λ (free : List ℕ). record (pool_of a) { free = free }) (sym (ap (drop 1) split))
+
+  here : IsFirstTaken a (pool_of a) next
+  here = record {
+    first = kept.first;
+    pool = pool;
+    kept = record {
+      pool = subst IsPool (sym pool) (IsPool-taken_first (pool_of a) kept.pool);
+      size = kept.size;
+      first = next_is ∙ next_of s a.region a.first ids kept.pool.shape (first_within a kept some) (subst (IsLinked (chunks_in s a.region) s.count) split kept.pool.free.linked);
+      extra_first = kept.extra_first;
+    };
+  }
+
+pub taken_extra : (a : Inside) (p : Pool) (next : ℕ) → pool_of a ≡ p → IsKept a → a.extra_free ≢ 0 → next ≡ get_or a.region (start_in a.shape a.extra_first) 0 → IsExtraTaken a p next
+taken_extra a p next v kept some next_is = subst (λ (q : Pool). IsExtraTaken a q next) v here where
+  s : Shape
+  s = a.shape
+
+  ids : List ℕ
+  ids = followed s a.region next (a.extra_free - 1)
+
+  split : followed s a.region a.extra_first a.extra_free ≡ a.extra_first ∷ ids
+  split = taken_off s a.region a.extra_first a.extra_free next some next_is
+
+  pool : pool_of (extra_taken a next) ≡ record (pool_of a) { extra_free = drop 1 (pool_of a).extra_free }
+  pool = ap (λ (free : List ℕ). record (pool_of a) { extra_free = free }) (sym (ap (drop 1) split))
+
+  here : IsExtraTaken a (pool_of a) next
+  here = record {
+    first = kept.extra_first;
+    pool = pool;
+    kept = record {
+      pool = subst IsPool (sym pool) (IsPool-taken_extra (pool_of a) kept.pool);
+      size = kept.size;
+      first = kept.first;
+      extra_first = next_is ∙ next_of s a.region a.extra_first ids kept.pool.shape (extra_within a kept some) (subst (IsLinked (chunks_in s a.region) s.count) split kept.pool.extra_free.linked);
+    };
+  }
 
 -- ---- a chunk is given back
 
-abbrev pub given_to : Inside → ℕ → Inside
-given_to a id = record a { first = id; free = a.free + 1 }
+abbrev pub first_given : Inside → ℕ → Inside
+first_given a id = record a { first = id; free = a.free + 1 }
 
-pub record IsGivenTo (a : Inside) (p : Pool) (id : ℕ) : Type 0 where
-  pub pool : pool_of (given_to a id) ≡ after_give p id
-  pub kept : IsKept (given_to a id)
-  pub room : a.free < a.count
+abbrev pub extra_given : Inside → ℕ → Inside
+extra_given a id = record a { extra_first = id; extra_free = a.extra_free + 1 }
+
+pub record IsGiven (a : Inside) (p : Pool) (id : ℕ) : Type 0 where
+  pub pool : pool_of a ≡ after_give p id
+  pub kept : IsKept a
+
+-- what the region has in the first word of a chunk into which a number was written
+link_is : (a : Inside) (p : Pool) (id value : ℕ) → pool_of a ≡ with_word p id 0 value → IsKept a → IsPool p → id < p.count → get_or a.region (start_in a.shape id) 0 ≡ value
+link_is a p id value is kept sound within =
+    let at : start_in a.shape id ≡ start_in a.shape id + 0 = omega arith in
+    let here : id < a.shape.count = subst (λ (q : Pool). id < q.count) (sym is) within in
+    ap (λ (i : ℕ). get_or a.region i 0) at
+    ∙ sym (word_in_region a.shape id 0 a.region here (omega (arith, words_in-some a.shape id kept.pool.shape)))
+    ∙ ap (λ (q : Pool). word_of q id 0) is
+    ∙ word_of-with_word_same p id 0 value sound within (omega (arith, words_in-some (shape_of p) id sound.shape))
 
 -- the link is written, and then the number is in front
-pub given : (old a : Inside) (p : Pool) (id : ℕ) → pool_of old ≡ p → IsKept old → pool_of a ≡ with_word p id 0 old.first → IsKept a → IsHeld p id → IsGivenTo a p id
-unfolding words_in
-given old a p id old_is old_kept is kept held =
+pub given_to_first : (old a : Inside) (p : Pool) (id : ℕ) → pool_of old ≡ p → IsKept old → pool_of a ≡ with_word p id 0 old.first → IsKept a → IsHeld p id → id < p.first_count → IsGiven (first_given a id) p id
+given_to_first old a p id old_is old_kept is kept held below =
     let sound : IsPool p = subst IsPool old_is old_kept.pool in
-    let linked : Pool = with_word p id 0 old.first in
+    let s = a.shape in
     let link : old.first ≡ first_or p.free p.count = old_kept.first ∙ ap (λ (q : Pool). first_or q.free q.count) old_is in
     let first : a.first ≡ first_or p.free p.count = kept.first ∙ ap (λ (q : Pool). first_or q.free q.count) is in
-    let within : id < a.count = subst (λ (q : Pool). id < q.count) (sym is) held.0 in
-    let at : id * a.words ≡ id * a.words + 0 = omega arith in
-    let next : get_or a.region (id * a.words) 0 ≡ a.first =
-    ap (λ (i : ℕ). get_or a.region i 0) at
-    ∙ sym (word_in_region a.count a.words id 0 a.region within (omega (arith, kept.pool.header_fits)))
-    ∙ ap (λ (q : Pool). word_of q id 0) is
-    ∙ word_of-with_word_same p id 0 old.first sound held.0 (omega (arith, sound.header_fits)) ∙ link ∙ sym first in
-    let free : List ℕ = followed a.words a.region id (a.free + 1) in
-    let split : free ≡ id ∷ followed a.words a.region a.first a.free =
-    followed-step a.words a.region id (a.free + 1) a.free refl ∙ ap (λ (n : ℕ). id ∷ followed a.words a.region n a.free) next in
-    let pool : pool_of (given_to a id) ≡ after_give p id =
+    let next : get_or a.region (start_in s id) 0 ≡ a.first = link_is a p id old.first is kept sound held.0 ∙ link ∙ sym first in
+    let free : List ℕ = followed s a.region id (a.free + 1) in
+    let split : free ≡ id ∷ followed s a.region a.first a.free =
+    followed-step s a.region id (a.free + 1) a.free refl ∙ ap (λ (n : ℕ). id ∷ followed s a.region n a.free) next in
+    let given : pool_of (first_given a id) ≡ given_first p id =
     ap (λ (q : Pool). record q { free = free }) is
-    ∙ ap (λ (free : List ℕ). record linked { free = free }) (split ∙ ap (λ (q : Pool). id ∷ q.free) is)
+    ∙ ap (λ (ids : List ℕ). record (with_word p id 0 old.first) { free = ids }) (split ∙ ap (λ (q : Pool). id ∷ q.free) is)
     ∙ ap (λ (n : ℕ). record p { contents = contents_with p.contents id 0 n; free = id ∷ p.free }) link in
     record {
-      pool = pool;
+      pool = given ∙ sym (after_give-first p id below);
       kept = record {
-        pool = subst IsPool (sym pool) (IsPool-after_give p id sound held);
+        pool = subst IsPool (sym given) (IsPool-given_first p id sound held below);
         size = kept.size;
-        first = sym (ap (λ (free : List ℕ). first_or free a.count) split);
+        first = sym (ap (λ (ids : List ℕ). first_or ids s.count) split);
+        extra_first = kept.extra_first;
       };
-      room = subst (λ (q : Pool). length q.free < q.count → a.free < q.count) (sym is) (λ fewer. omega (arith, fewer, free_is a linked is)) (subst (λ (q : Pool). length q.free < q.count) (sym is) (free_bounded_by_held p id sound held));
+    }
+
+pub given_to_extra : (old a : Inside) (p : Pool) (id : ℕ) → pool_of old ≡ p → IsKept old → pool_of a ≡ with_word p id 0 old.extra_first → IsKept a → IsHeld p id → p.first_count ≤ id → IsGiven (extra_given a id) p id
+given_to_extra old a p id old_is old_kept is kept held from =
+    let sound : IsPool p = subst IsPool old_is old_kept.pool in
+    let s = a.shape in
+    let link : old.extra_first ≡ first_or p.extra_free p.count = old_kept.extra_first ∙ ap (λ (q : Pool). first_or q.extra_free q.count) old_is in
+    let first : a.extra_first ≡ first_or p.extra_free p.count = kept.extra_first ∙ ap (λ (q : Pool). first_or q.extra_free q.count) is in
+    let next : get_or a.region (start_in s id) 0 ≡ a.extra_first = link_is a p id old.extra_first is kept sound held.0 ∙ link ∙ sym first in
+    let free : List ℕ = followed s a.region id (a.extra_free + 1) in
+    let split : free ≡ id ∷ followed s a.region a.extra_first a.extra_free =
+    followed-step s a.region id (a.extra_free + 1) a.extra_free refl ∙ ap (λ (n : ℕ). id ∷ followed s a.region n a.extra_free) next in
+    let given : pool_of (extra_given a id) ≡ given_extra p id =
+    ap (λ (q : Pool). record q { extra_free = free }) is
+    ∙ ap (λ (ids : List ℕ). record (with_word p id 0 old.extra_first) { extra_free = ids }) (split ∙ ap (λ (q : Pool). id ∷ q.extra_free) is)
+    ∙ ap (λ (n : ℕ). record p { contents = contents_with p.contents id 0 n; extra_free = id ∷ p.extra_free }) link in
+    record {
+      pool = given ∙ sym (after_give-extra p id from);
+      kept = record {
+        pool = subst IsPool (sym given) (IsPool-given_extra p id sound held from);
+        size = kept.size;
+        first = kept.first;
+        extra_first = sym (ap (λ (ids : List ℕ). first_or ids s.count) split);
+      };
     }
 
 -- ---- the start
 
-abbrev pub started_with : ℕ → ℕ → List ℕ → Inside
-started_with count words region = record { count = count; words = words; first = 0; free = count; region = region }
+abbrev pub started_with : ℕ → ℕ → ℕ → ℕ → List ℕ → Inside
+started_with chunks words extra extra_words region = record {
+  shape = start_shape chunks words extra extra_words;
+  first = 0;
+  free = chunks;
+  extra_first = chunks;
+  extra_free = extra;
+  region = region;
+}
 
-pub started : (count words : ℕ) (region : List ℕ) → 1 ≤ words → chunks_in count words region ≡ map (start_chunk words) (range_with_len 0 count) → pool_of (started_with count words region) ≡ start_pool count words
-started count words region some contents =
-    same_pool count count words (chunks_in count words region) (map (start_chunk words) (range_with_len 0 count)) (followed words region 0 count) (range_with_len 0 count) refl contents
-    (followed-range words region 0 count count (omega arith) (λ id within.
-    let at : id * words ≡ id * words + 0 = omega arith in
-    ap (λ (i : ℕ). get_or region i 0) at ∙ sym (word_in_region count words id 0 region within (omega arith))
-    ∙ ap (λ (contents : List (List ℕ)). get_or (get_or contents id []) 0 0) contents ∙ first_word-start_pool count words id within))
+module _ (chunks words extra extra_words : ℕ) (region : List ℕ) (sound : IsPool (start_pool chunks words extra extra_words))
+    (linked : chunks_in (start_shape chunks words extra extra_words) region ≡ map (start_chunk (start_shape chunks words extra extra_words)) (range_with_len 0 (chunks + extra))) where
+  abbrev s : Shape
+  s = start_shape chunks words extra extra_words
 
-pub started_kept : (count words : ℕ) (region : List ℕ) → 1 ≤ words → length region ≡ count * words → chunks_in count words region ≡ map (start_chunk words) (range_with_len 0 count) → IsPool (start_pool count words) → IsKept (started_with count words region)
-started_kept count words region some size contents sound =
-    let is = started count words region some contents in
-    record {
-      pool = subst IsPool (sym is) sound;
-      size = size;
-      first = sym (ap (λ (q : Pool). first_or q.free count) is ∙ first_or-range 0 count count (omega arith));
-    }
+  next : (id : ℕ) → id < s.count → get_or region (start_in s id) 0 ≡ next_in s id
+  next id within =
+      let at : start_in s id ≡ start_in s id + 0 = omega arith in
+      ap (λ (i : ℕ). get_or region i 0) at ∙ sym (word_in_region s id 0 region within (omega (arith, words_in-some s id sound.shape)))
+      ∙ ap (λ (contents : List (List ℕ)). get_or (get_or contents id []) 0 0) linked ∙ first_word-start_pool s id within
+
+  free_order : followed s region 0 chunks ≡ range_with_len 0 chunks
+  free_order = followed-range s region 0 chunks chunks (omega arith)
+      (λ id from below. next id (omega arith) ∙ next_in-more s id (λ same. omega arith))
+
+  extra_order : followed s region chunks extra ≡ range_with_len chunks extra
+  extra_order = followed-range s region chunks extra (chunks + extra) refl
+      (λ id from below. next id (omega arith) ∙ next_in-more s id (λ same. omega arith))
+
+  pub started : pool_of (started_with chunks words extra extra_words region) ≡ start_pool chunks words extra extra_words
+  started = same_pool s (chunks_in s region) (map (start_chunk s) (range_with_len 0 (chunks + extra))) (followed s region 0 chunks) (range_with_len 0 chunks)
+      (followed s region chunks extra) (range_with_len chunks extra) linked free_order extra_order
+
+  pub started_kept : length region ≡ size_in s → IsKept (started_with chunks words extra extra_words region)
+  started_kept size = record {
+    pool = subst IsPool (sym started) sound;
+    size = size;
+    first = sym (ap (λ (ids : List ℕ). first_or ids s.count) free_order ∙ first_free_start);
+    extra_first = sym (ap (λ (ids : List ℕ). first_or ids s.count) extra_order ∙ first_or-range chunks extra s.count refl);
+  } where
+    first_free_start : first_or (range_with_len 0 chunks) s.count ≡ 0
+    first_free_start = first_or-some 0 chunks s.count sound.shape.some_chunks

@@ -1,3 +1,4 @@
+pub mod Shapes
 pub mod PoolLaws
 pub mod NeedLaws
 pub mod FreeLaws

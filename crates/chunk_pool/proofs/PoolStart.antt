@@ -1,11 +1,13 @@
 -- The start is a sound pool.
-use Rattle.std.proofs.Common.{◌≡◌, ℕ, zero, suc, ◌+◌, ◌-◌, ◌*◌, ◌/◌, ◌%◌, ◌^◌, ◌<◌, ◌≤◌, false, List, [], length, map, get_or, replicate, refl, sym, ◌∙◌, ap, subst, arith, nat_eq, All}
+use Rattle.std.proofs.Common.{◌≡◌, ℕ, zero, suc, ◌+◌, ◌-◌, ◌*◌, ◌/◌, ◌%◌, ◌^◌, ◌<◌, ◌≤◌, false, List, [], length, map, get_or, replicate, refl, sym, ◌∙◌, ap, subst, inl, inr, arith, nat_eq, cond, Bool, All}
 use Rattle.std.specs.List.{IsDistinct, AllByRecursion, range_with_len}
-use Rattle.std.proofs.lemmas.Bool.{ne_eqb}
+use Rattle.std.proofs.lemmas.Bool.{ne_eqb, eq-eqb, cases_eq}
 use Rattle.std.proofs.lemmas.List.{length-map, length-replicate, get_or-map}
-use Rattle.std.proofs.lemmas.List.Elements.{All-cons, All-map, All-replicate}
+use Rattle.std.proofs.lemmas.List.Elements.{All-cons, All-replicate}
 use Rattle.std.proofs.lemmas.List.FromFn.{length-range_with_len, get_or-range_with_len}
-use Rattle.chunk_pool.specs.Pool.{first_or, IsChunk, IsLinked, IsPool, start_chunk, start_pool}
+use Rattle.chunk_pool.specs.declared.shape.Shape.{Shape}
+use Rattle.chunk_pool.specs.Pool.{first_or, words_in, next_in, IsChunk, IsLinked, IsFreeList, IsShape, IsPool, start_chunk, start_shape, start_pool}
+use Rattle.chunk_pool.proofs.Shapes.{words_in-some}
 
 -- ---- the start
 
@@ -22,48 +24,109 @@ pub first_or-range : (a n end : ℕ) → a + n ≡ end → first_or (range_with_
 first_or-range a zero end ends = omega arith
 first_or-range a (suc n) end ends = refl
 
--- where each chunk's first word is the number after its own, the chunks are linked in their order
-IsLinked-range : (contents : List (List ℕ)) (a n end : ℕ) → a + n ≡ end → ((id : ℕ) → id < end → get_or (get_or contents id []) 0 0 ≡ id + 1) → IsLinked contents end (range_with_len a n)
-IsLinked-range contents a zero end ends next = tt
-IsLinked-range contents a (suc n) end ends next =
-    (next a (omega arith) ∙ sym (first_or-range (a + 1) n end (omega arith)), IsLinked-range contents (a + 1) n end (omega arith) next)
+pub first_or-some : (a n end : ℕ) → 1 ≤ n → first_or (range_with_len a n) end ≡ a
+first_or-some a zero end some = absurd (omega arith)
+first_or-some a (suc n) end some = refl
 
-below_in_range : (n : ℕ) → All (λ id. id < n) (range_with_len 0 n)
-below_in_range n k d within =
-    let in' : k < n = omega (arith, length-range_with_len 0 n) in
-    omega (arith, get_or-range_with_len 0 n k d in')
+-- ---- the numbers behind
 
-IsChunk-start_chunk : (words id : ℕ) → 1 ≤ words → id + 1 < 2 ^ 32 → IsChunk words (start_chunk words id)
-IsChunk-start_chunk words id some fits = record {
-  length = omega (arith, length-replicate {A = ℕ} (words - 1) 0);
-  fits = All-cons (λ word. word < 2 ^ 32) (id + 1) (replicate (words - 1) 0) fits (All-replicate (λ word. word < 2 ^ 32) (words - 1) 0 (omega arith));
+next_in-last : (s : Shape) (id : ℕ) → id + 1 ≡ s.first_count → next_in s id ≡ s.count
+next_in-last s id last = ap (λ (b : Bool). cond b s.count (id + 1)) (eq-eqb (id + 1) s.first_count last)
+
+pub next_in-more : (s : Shape) (id : ℕ) → ¬ (id + 1 ≡ s.first_count) → next_in s id ≡ id + 1
+next_in-more s id more = ap (λ (b : Bool). cond b s.count (id + 1)) (ne_eqb (id + 1) s.first_count more)
+
+next_in-most : (s : Shape) (id : ℕ) → id < s.count → next_in s id ≤ s.count
+next_in-most s id within = elim (cases_eq (id + 1) s.first_count) [
+  | inl last ↦ omega (arith, next_in-last s id last)
+  | inr more ↦ omega (arith, next_in-more s id more)
+]
+
+-- the numbers of a size: from one to below another, each linked to the next and the last to the end
+IsLinked-range : (contents : List (List ℕ)) (a n to end : ℕ) → a + n ≡ to → ((id : ℕ) → a ≤ id → id + 1 < to → get_or (get_or contents id []) 0 0 ≡ id + 1) → ((id : ℕ) → a ≤ id → id + 1 ≡ to → get_or (get_or contents id []) 0 0 ≡ end) → IsLinked contents end (range_with_len a n)
+IsLinked-range contents a zero to end ends next last = tt
+IsLinked-range contents a (suc zero) to end ends next last = (last a (omega arith) (omega arith), tt)
+IsLinked-range contents a (suc (suc n)) to end ends next last =
+    (next a (omega arith) (omega arith), IsLinked-range contents (a + 1) (suc n) to end (omega arith) (λ id from. next id (omega arith)) (λ id from. last id (omega arith)))
+
+within_range : (a n : ℕ) → All (λ id. (a ≤ id) × (id < a + n)) (range_with_len a n)
+within_range a n k d within =
+    let in' : k < n = omega (arith, length-range_with_len a n) in
+    let at = get_or-range_with_len a n k d in' in
+    (omega (arith, at), omega (arith, at))
+
+IsChunk-start_chunk : (s : Shape) (id : ℕ) → 1 ≤ words_in s id → next_in s id < 2 ^ 32 → IsChunk (words_in s id) (start_chunk s id)
+IsChunk-start_chunk s id some fits = record {
+  length = omega (arith, length-replicate {A = ℕ} (words_in s id - 1) 0);
+  fits = All-cons (λ word. word < 2 ^ 32) (next_in s id) (replicate (words_in s id - 1) 0) fits (All-replicate (λ word. word < 2 ^ 32) (words_in s id - 1) 0 (omega arith));
 }
 
-pub first_word-start_pool : (count words id : ℕ) → id < count → get_or (get_or (map (start_chunk words) (range_with_len 0 count)) id []) 0 0 ≡ id + 1
-first_word-start_pool count words id within =
-    let in' : id < length (range_with_len 0 count) = omega (arith, length-range_with_len 0 count) in
-    ap (λ chunk. get_or chunk 0 0) (get_or-map (start_chunk words) (range_with_len 0 count) id 0 [] in')
-    ∙ ap (λ (n : ℕ). n + 1) (let e : get_or (range_with_len 0 count) id 0 ≡ id = omega (arith, get_or-range_with_len 0 count id 0 within) in e)
+pub chunk-start : (s : Shape) (id : ℕ) → id < s.count → get_or (map (start_chunk s) (range_with_len 0 s.count)) id [] ≡ start_chunk s id
+chunk-start s id within =
+    let in' : id < length (range_with_len 0 s.count) = omega (arith, length-range_with_len 0 s.count) in
+    get_or-map (start_chunk s) (range_with_len 0 s.count) id 0 [] in'
+    ∙ ap (start_chunk s) (let e : get_or (range_with_len 0 s.count) id 0 ≡ id = omega (arith, get_or-range_with_len 0 s.count id 0 within) in e)
 
-pub IsPool-start_pool : (count words : ℕ) → 1 ≤ count → count ≤ 65536 → 16 ≤ words → words ≤ 16384 → words % 4 ≡ 0 → count * words ≤ 16777216 → IsPool (start_pool count words)
-IsPool-start_pool count words some_chunks chunks_bounded header_fits words_bounded aligned size_bounded = record {
-  some_chunks = some_chunks;
-  chunks_bounded = chunks_bounded;
-  header_fits = header_fits;
-  words_bounded = words_bounded;
-  aligned = aligned;
-  size_bounded = size_bounded;
-  count_is = length-map (range_with_len 0 count) (start_chunk words) ∙ length-range_with_len 0 count;
-  chunks = All-map (IsChunk words) (start_chunk words) (range_with_len 0 count)
-      (λ k d within. IsChunk-start_chunk words (get_or (range_with_len 0 count) k d) (omega arith) (omega (arith, below_in_range count k d within)));
-  free_below = below_in_range count;
-  free_distinct = IsDistinct-range 0 count;
-  linked = IsLinked-range (map (start_chunk words) (range_with_len 0 count)) 0 count count (omega arith) (first_word-start_pool count words);
+pub first_word-start_pool : (s : Shape) (id : ℕ) → id < s.count → get_or (get_or (map (start_chunk s) (range_with_len 0 s.count)) id []) 0 0 ≡ next_in s id
+first_word-start_pool s id within = ap (λ (chunk : List ℕ). get_or chunk 0 0) (chunk-start s id within)
+
+-- contents whose first words are the numbers behind are linked in the order of the numbers, size by size
+pub first_linked : (s : Shape) (contents : List (List ℕ)) → IsShape s → ((id : ℕ) → id < s.count → get_or (get_or contents id []) 0 0 ≡ next_in s id) → IsFreeList contents s.count 0 s.first_count (range_with_len 0 s.first_count)
+first_linked s contents sound next = record {
+  within = (let all : 0 + s.first_count ≡ s.first_count = omega arith in
+      subst (λ (n : ℕ). All (λ id. (0 ≤ id) × (id < n)) (range_with_len 0 s.first_count)) all (within_range 0 s.first_count));
+  distinct = IsDistinct-range 0 s.first_count;
+  linked = IsLinked-range contents 0 s.first_count s.first_count s.count (omega arith)
+      (λ id from below. next id (omega (arith, sound.first_within)) ∙ next_in-more s id (λ same. omega arith))
+      (λ id from last. next id (omega (arith, sound.first_within)) ∙ next_in-last s id last);
 }
 
--- the same, with the size of a chunk in bytes
-pub IsPool-start_bytes : (count bytes : ℕ) → 1 ≤ count → count ≤ 65536 → 64 ≤ bytes → bytes ≤ 65536 → bytes % 16 ≡ 0 → count * bytes ≤ 67108864 → IsPool (start_pool count (bytes / 4))
-IsPool-start_bytes count bytes some_chunks chunks_bounded header_fits bytes_bounded aligned size_bounded =
+pub extra_linked : (s : Shape) (contents : List (List ℕ)) (extra : ℕ) → IsShape s → s.first_count + extra ≡ s.count → ((id : ℕ) → id < s.count → get_or (get_or contents id []) 0 0 ≡ next_in s id) → IsFreeList contents s.count s.first_count s.count (range_with_len s.first_count extra)
+extra_linked s contents extra sound ends next = record {
+  within = subst (λ (n : ℕ). All (λ id. (s.first_count ≤ id) × (id < n)) (range_with_len s.first_count extra)) ends (within_range s.first_count extra);
+  distinct = IsDistinct-range s.first_count extra;
+  linked = IsLinked-range contents s.first_count extra s.count s.count ends
+      (λ id from below. next id (omega arith) ∙ next_in-more s id (λ same. omega arith))
+      (λ id from last. next id (omega arith) ∙ next_in-more s id (λ same. omega arith) ∙ last);
+}
+
+pub IsPool-start_pool : (chunks words extra extra_words : ℕ) → IsShape (start_shape chunks words extra extra_words) → IsPool (start_pool chunks words extra extra_words)
+IsPool-start_pool chunks words extra extra_words sound =
+    let s : Shape = start_shape chunks words extra extra_words in
+    record {
+      shape = sound;
+      count_is = length-map (range_with_len 0 s.count) (start_chunk s) ∙ length-range_with_len 0 s.count;
+      chunks = λ id within. subst (IsChunk (words_in s id)) (sym (chunk-start s id within))
+          (IsChunk-start_chunk s id (omega (arith, words_in-some s id sound)) (omega (arith, next_in-most s id within, sound.extra_bounded, sound.chunks_bounded)));
+      free = first_linked s (map (start_chunk s) (range_with_len 0 s.count)) sound (first_word-start_pool s);
+      extra_free = extra_linked s (map (start_chunk s) (range_with_len 0 s.count)) extra sound refl (first_word-start_pool s);
+    }
+
+-- the shape of so many chunks of so many bytes
+pub IsShape-start_bytes : (count bytes extra extra_bytes : ℕ) → 1 ≤ count → count ≤ 65536 → 64 ≤ bytes → bytes ≤ 65536 → bytes % 16 ≡ 0 → extra ≤ 65536 → 32 ≤ extra_bytes → extra_bytes ≤ 65536 → extra_bytes % 16 ≡ 0 → count * bytes + extra * extra_bytes ≤ 67108864 → IsShape (start_shape count (bytes / 4) extra (extra_bytes / 4))
+IsShape-start_bytes count bytes extra extra_bytes some_chunks chunks_bounded header_fits bytes_bounded aligned extra_bounded extra_header_fits extra_bytes_bounded extra_aligned size_bounded =
     let in_words : bytes ≡ 4 * (bytes / 4) = omega arith in
-    let size : count * (4 * (bytes / 4)) ≤ 67108864 = subst (λ (b : ℕ). count * b ≤ 67108864) in_words size_bounded in
-    IsPool-start_pool count (bytes / 4) some_chunks chunks_bounded (omega arith) (omega arith) (omega arith) (omega arith)
+    let extra_in_words : extra_bytes ≡ 4 * (extra_bytes / 4) = omega arith in
+    let size : count * (4 * (bytes / 4)) + extra * (4 * (extra_bytes / 4)) ≤ 67108864 =
+    subst (λ (e : ℕ). count * (4 * (bytes / 4)) + extra * e ≤ 67108864) extra_in_words (subst (λ (b : ℕ). count * b + extra * extra_bytes ≤ 67108864) in_words size_bounded) in
+    let all_extra : count + extra - count ≡ extra = omega arith in
+    let size_in_words : count * (bytes / 4) + (count + extra - count) * (extra_bytes / 4) ≤ 16777216 =
+    subst (λ (n : ℕ). count * (bytes / 4) + n * (extra_bytes / 4) ≤ 16777216) (sym all_extra) (omega arith) in
+    record {
+      some_chunks = some_chunks;
+      chunks_bounded = chunks_bounded;
+      first_within = omega arith;
+      extra_bounded = omega arith;
+      header_fits = omega arith;
+      extra_header_fits = omega arith;
+      words_bounded = omega arith;
+      extra_words_bounded = omega arith;
+      aligned = omega arith;
+      extra_aligned = omega arith;
+      size_bounded = size_in_words;
+    }
+
+pub IsPool-start_bytes : (count bytes extra extra_bytes : ℕ) → 1 ≤ count → count ≤ 65536 → 64 ≤ bytes → bytes ≤ 65536 → bytes % 16 ≡ 0 → extra ≤ 65536 → 32 ≤ extra_bytes → extra_bytes ≤ 65536 → extra_bytes % 16 ≡ 0 → count * bytes + extra * extra_bytes ≤ 67108864 → IsPool (start_pool count (bytes / 4) extra (extra_bytes / 4))
+IsPool-start_bytes count bytes extra extra_bytes some_chunks chunks_bounded header_fits bytes_bounded aligned extra_bounded extra_header_fits extra_bytes_bounded extra_aligned size_bounded =
+    IsPool-start_pool count (bytes / 4) extra (extra_bytes / 4)
+    (IsShape-start_bytes count bytes extra extra_bytes some_chunks chunks_bounded header_fits bytes_bounded aligned extra_bounded extra_header_fits extra_bytes_bounded extra_aligned size_bounded)

@@ -1,33 +1,47 @@
--- A pool of equal chunks and its free list, as a plain value.
-use Rattle.std.specs.Prelude.{◌≡◌, ◌≢◌, ℕ, ◌+◌, ◌-◌, ◌*◌, ◌/◌, ◌%◌, ◌^◌, ◌<◌, ◌≤◌, ◌&&◌, Bool, List, [], ◌∷◌, length, map, drop, replicate, Option, Some, None, if◌then◌else◌, nat_eq, nat_lt, nat_le, slice_get, slice_index, slice_index_or, slice_set, All, Contains}
+-- A pool of chunks of two sizes and its two free lists, as a plain value.
+use Rattle.std.specs.Prelude.{◌≡◌, ◌≢◌, ℕ, ◌+◌, ◌-◌, ◌*◌, ◌/◌, ◌%◌, ◌^◌, ◌<◌, ◌≤◌, ◌&&◌, Bool, true, false, List, [], ◌∷◌, ◌++◌, length, map, drop, replicate, Option, Some, None, if◌then◌else◌, nat_eq, nat_lt, nat_le, slice_index, slice_index_or, slice_set, All, Contains}
 use Rattle.std.specs.List.{IsDistinct, range_with_len}
+use Rattle.chunk_pool.specs.declared.shape.Class.{Class}
+use Rattle.chunk_pool.specs.declared.shape.Class.TheVariants.{First, Extra}
+use Rattle.chunk_pool.specs.declared.shape.Shape.{Shape}
 
--- how many chunks there are, how many words each has, the words of every chunk, and the numbers of
--- the free chunks, the one that is taken next in front
+-- how many chunks there are, how many of these have the first size, the words of a chunk of each size, the words of every
+-- chunk, and of each size the numbers of the free chunks, the one that is taken next in front
 pub record Pool : Type 0 where
   pub count : ℕ
+  pub first_count : ℕ
   pub words : ℕ
+  pub extra_words : ℕ
   pub contents : List (List ℕ)
   pub free : List ℕ
+  pub extra_free : List ℕ
 
 -- ---- the shape
 
--- how many chunks there are and how large they are. Where chunks stand follows from it, and nothing but a new pool
--- changes it.
-pub record Shape : Type 0 where
-  pub count : ℕ
-  pub words : ℕ
-
+-- how many chunks there are of each size. Where chunks stand follows from it, and nothing but a new pool changes it.
 abbrev pub shape_of : Pool → Shape
-shape_of p = record { count = p.count; words = p.words }
+shape_of p = record { count = p.count; first_count = p.first_count; words = p.words; extra_words = p.extra_words }
+
+-- the numbers of the first size come before those of the second
+abbrev pub is_first : Shape → ℕ → Bool
+is_first shape id = nat_lt id shape.first_count
 
 -- how many words a chunk has
 unfoldable pub words_in : Shape → ℕ → ℕ
-words_in shape id = shape.words
+words_in shape id = if is_first shape id then shape.words else shape.extra_words
+
+-- how many words the chunks of the first size have
+abbrev pub first_size : Shape → ℕ
+first_size shape = shape.first_count * shape.words
 
 -- how many words stand before a chunk's first
 unfoldable pub start_in : Shape → ℕ → ℕ
-start_in shape id = id * shape.words
+start_in shape id =
+    if is_first shape id then id * shape.words else first_size shape + (id - shape.first_count) * shape.extra_words
+
+-- how many words all chunks have
+abbrev pub size_in : Shape → ℕ
+size_in shape = first_size shape + (shape.count - shape.first_count) * shape.extra_words
 
 abbrev pub words_of : Pool → ℕ → ℕ
 words_of p id = words_in (shape_of p) id
@@ -71,9 +85,9 @@ KeepsPayloads old new = (other : ℕ) → payload_of new other ≡ payload_of ol
 
 -- ---- free and held
 
--- the numbers of all free chunks
+-- the numbers of all free chunks, those of the first size in front
 abbrev pub all_free : Pool → List ℕ
-all_free p = p.free
+all_free p = p.free ++ p.extra_free
 
 -- how many chunks are free
 abbrev pub free_count : Pool → ℕ
@@ -81,24 +95,25 @@ free_count p = length (all_free p)
 
 -- a pool whose free chunks are those of another pool
 abbrev pub with_free_of : Pool → Pool → Pool
-with_free_of p q = record p { free = q.free }
+with_free_of p q = record p { free = q.free; extra_free = q.extra_free }
 
 -- the first of these numbers, or the end mark where there is none
 abbrev pub first_or : List ℕ → ℕ → ℕ
 first_or [] end = end
 first_or (id ∷ ids) end = id
 
--- the number that is taken next, if a chunk is free
-abbrev pub first_free : Pool → Option ℕ
-first_free p = slice_get p.free 0
+-- the free chunks of the size that a chunk has
+abbrev pub free_beside : Pool → ℕ → List ℕ
+free_beside p id = if is_first (shape_of p) id then p.free else p.extra_free
 
--- a take removes the first free number
-abbrev pub after_take : Pool → Pool
-after_take p = record p { free = drop 1 p.free }
-
--- a give writes the first free number, or the count, into the chunk's first word, and puts the chunk in front
+-- a give puts the chunk in front of the free chunks of its size, and writes into its first word the one that was first
+-- there, or the count
 abbrev pub after_give : Pool → ℕ → Pool
-after_give p id = record p { contents = contents_with p.contents id 0 (first_or p.free p.count); free = id ∷ p.free }
+after_give p id = record p {
+  contents = contents_with p.contents id 0 (first_or (free_beside p id) p.count);
+  free = if is_first (shape_of p) id then id ∷ p.free else p.free;
+  extra_free = if is_first (shape_of p) id then p.extra_free else id ∷ p.extra_free;
+}
 
 -- the chunk is free
 abbrev pub IsFree : Pool → ℕ → Type 0
@@ -120,34 +135,60 @@ abbrev pub IsLinked : List (List ℕ) → ℕ → List ℕ → Type 0
 IsLinked contents end [] = Unit {0}
 IsLinked contents end (id ∷ ids) = (slice_index (slice_index_or contents id []) 0 ≡ first_or ids end) × IsLinked contents end ids
 
+-- a list of numbers from one to below another, none twice, which runs through the first words of its chunks
+pub record IsFreeList (contents : List (List ℕ)) (end from to : ℕ) (ids : List ℕ) : Type 0 where
+  pub within : All (λ id. (from ≤ id) × (id < to)) ids
+  pub distinct : IsDistinct nat_eq ids
+  pub linked : IsLinked contents end ids
+
+-- 1 to 65,536 chunks of the first size, a multiple of 4 words from 16 to 16,384, and at most 65,536 of the second, a
+-- multiple of 4 words from 8 to 16,384; together at most 16,777,216 words
+pub record IsShape (shape : Shape) : Type 0 where
+  pub some_chunks : 1 ≤ shape.first_count
+  pub chunks_bounded : shape.first_count ≤ 65536
+  pub first_within : shape.first_count ≤ shape.count
+  pub extra_bounded : shape.count ≤ shape.first_count + 65536
+  pub header_fits : 16 ≤ shape.words
+  pub extra_header_fits : 8 ≤ shape.extra_words
+  pub words_bounded : shape.words ≤ 16384
+  pub extra_words_bounded : shape.extra_words ≤ 16384
+  pub aligned : shape.words % 4 ≡ 0
+  pub extra_aligned : shape.extra_words % 4 ≡ 0
+  pub size_bounded : size_in shape ≤ 16777216
+
 pub record IsPool (p : Pool) : Type 0 where
-  -- 1 to 65,536 chunks of a multiple of 4 words from 16 to 16,384, together at most 16,777,216 words
-  pub some_chunks : 1 ≤ p.count
-  pub chunks_bounded : p.count ≤ 65536
-  pub header_fits : 16 ≤ p.words
-  pub words_bounded : p.words ≤ 16384
-  pub aligned : p.words % 4 ≡ 0
-  pub size_bounded : p.count * p.words ≤ 16777216
+  pub shape : IsShape (shape_of p)
   pub count_is : length p.contents ≡ p.count
-  pub chunks : All (IsChunk p.words) p.contents
-  -- the free list has numbers of chunks, none twice, and runs through the first words of its chunks
-  pub free_below : All (λ id. id < p.count) p.free
-  pub free_distinct : IsDistinct nat_eq p.free
-  pub linked : IsLinked p.contents p.count p.free
+  pub chunks : (id : ℕ) → id < p.count → IsChunk (words_of p id) (chunk_of p id)
+  -- each free list has numbers of its size
+  pub free : IsFreeList p.contents p.count 0 p.first_count p.free
+  pub extra_free : IsFreeList p.contents p.count p.first_count p.count p.extra_free
 
 -- ---- the start
 
--- all words are 0 but the first, which is the next chunk's number: of the last chunk this is the count
-abbrev pub start_chunk : ℕ → ℕ → List ℕ
-start_chunk words id = (id + 1) ∷ replicate (words - 1) 0
+-- so many chunks of so many words, and so many more of another size
+abbrev pub start_shape : ℕ → ℕ → ℕ → ℕ → Shape
+start_shape chunks words extra extra_words =
+    record { count = chunks + extra; first_count = chunks; words = words; extra_words = extra_words }
+
+-- the number behind a chunk's: of the last of its size this is the count
+abbrev pub next_in : Shape → ℕ → ℕ
+next_in shape id = if nat_eq (id + 1) shape.first_count then shape.count else id + 1
+
+-- all words are 0 but the first, which is the next chunk's number
+abbrev pub start_chunk : Shape → ℕ → List ℕ
+start_chunk shape id = next_in shape id ∷ replicate (words_in shape id - 1) 0
 
 -- every chunk is free, in the order of the numbers
-abbrev pub start_pool : ℕ → ℕ → Pool
-start_pool count words = record {
-  count = count;
+abbrev pub start_pool : ℕ → ℕ → ℕ → ℕ → Pool
+start_pool chunks words extra extra_words = record {
+  count = chunks + extra;
+  first_count = chunks;
   words = words;
-  contents = map (start_chunk words) (range_with_len 0 count);
-  free = range_with_len 0 count;
+  extra_words = extra_words;
+  contents = map (start_chunk (start_shape chunks words extra extra_words)) (range_with_len 0 (chunks + extra));
+  free = range_with_len 0 chunks;
+  extra_free = range_with_len chunks extra;
 }
 
 -- ---- addresses
@@ -160,7 +201,7 @@ first_place = 0x8000_0000
 abbrev pub bytes_of : Pool → ℕ → ℕ
 bytes_of p id = 4 * words_of p id
 
--- how many bytes a chunk of the first size has. All chunks have one size.
+-- how many bytes a chunk of the first size has
 unfoldable pub first_bytes_in : Shape → ℕ
 first_bytes_in shape = 4 * shape.words
 
@@ -186,11 +227,19 @@ payload_bytes_of p id = bytes_of p id - 16
 abbrev pub HasAddress : Pool → ℕ → ℕ → Type 0
 HasAddress p id address = (id < p.count) × (place_of p id ≤ address) × (address < end_of p id)
 
+-- the address just past the chunks of the first size, and just past all
+abbrev pub first_end : Shape → ℕ
+first_end shape = first_place + 4 * first_size shape
+
+abbrev pub last_end : Shape → ℕ
+last_end shape = first_place + 4 * size_in shape
+
 -- the number of the chunk that has a byte at this address, if one has
 unfoldable pub chunk_in : Shape → ℕ → Option ℕ
 chunk_in shape address =
-    if nat_le first_place address && nat_lt address (first_place + shape.count * (4 * shape.words))
-    then Some ((address - first_place) / (4 * shape.words))
+    if nat_lt address first_place then None
+    else if nat_lt address (first_end shape) then Some ((address - first_place) / (4 * shape.words))
+    else if nat_lt address (last_end shape) then Some (shape.first_count + (address - first_end shape) / (4 * shape.extra_words))
     else None
 
 abbrev pub chunk_at : Pool → ℕ → Option ℕ
@@ -202,19 +251,43 @@ chunk_at p address = chunk_in (shape_of p) address
 abbrev pub fits : Pool → ℕ → ℕ → Bool
 fits p need id = nat_le need (payload_bytes_of p id)
 
+-- no free chunk fits the need
+abbrev pub FitsNone : Pool → ℕ → Type 0
+FitsNone p need = All (λ id. fits p need id ≡ false) (all_free p)
+
 -- a chunk, and the pool after it has left the free list
 pub record Taken : Type 0 where
   pub chunk : ℕ
   pub pool : Pool
 
--- what the need takes of a pool with this free list: the first of them, if it fits. All chunks have one size.
-abbrev pub taken_of : Pool → ℕ → List ℕ → Option Taken
-taken_of p need [] = None
-taken_of p need (id ∷ ids) = if fits p need id then Some (record { chunk = id; pool = record p { free = ids } }) else None
+-- chunks of so many words, so many of which are free, have one for the need
+abbrev pub offers : ℕ → ℕ → ℕ → Bool
+offers words free need = nat_lt 0 free && nat_le need (4 * words - 16)
 
--- what the need takes; none where no free chunk fits it
+-- of which size a need takes, by whether a free chunk of the first and one of the second fits, and whether a payload of
+-- the first is no larger
+abbrev pub choice : Bool → Bool → Bool → Option Class
+choice true false no_larger = Some First
+choice true true true = Some First
+choice true true false = Some Extra
+choice false true no_larger = Some Extra
+choice false false no_larger = None
+
+abbrev pub class_for : Pool → ℕ → Option Class
+class_for p need =
+    choice (offers p.words (length p.free) need) (offers p.extra_words (length p.extra_free) need) (nat_le p.words p.extra_words)
+
+-- the first free number of that size
+abbrev pub taken_of : Pool → Option Class → Option Taken
+taken_of p None = None
+taken_of p (Some First) = Some (record { chunk = first_or p.free p.count; pool = record p { free = drop 1 p.free } })
+taken_of p (Some Extra) =
+    Some (record { chunk = first_or p.extra_free p.count; pool = record p { extra_free = drop 1 p.extra_free } })
+
+-- what the need takes: a chunk of the smaller size of which a free chunk fits, of the first where both are one. None where
+-- no free chunk fits it.
 unfoldable pub taken_for : Pool → ℕ → Option Taken
-taken_for p need = taken_of p need (all_free p)
+taken_for p need = taken_of p (class_for p need)
 
 -- the answer of a take and the pool after it are what the need takes
 abbrev pub IsTaken : Option Taken → Option ℕ → Pool → Pool → Type 0

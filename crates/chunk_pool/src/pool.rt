@@ -1,22 +1,26 @@
-ghost use Rattle.std.specs.Prelude.{◌≡◌, ℕ, ◌+◌, ◌-◌, ◌*◌, ◌/◌, ◌%◌, ◌<◌, ◌≤◌, ◌⊎◌, ◌↔◌, [], ◌∷◌, length, map, replicate, All, IsTrue, IsNone, IfSome, IfNone, IfOk};
-ghost use Rattle.chunk_pool.specs.Pool.{Pool, word_of, payload_of, with_word, words_of, KeepsOthers, KeepsOtherWords, KeepsPayloads, all_free, free_count, first_or, first_free, after_take, after_give, IsFree, IsHeld, IsPool, start_pool, bytes_of, place_of, end_of, fits, taken_for, IsTaken, HasAddress, chunk_at, start_chunk};
+ghost use Rattle.std.specs.Prelude.{◌≡◌, ℕ, ◌+◌, ◌-◌, ◌*◌, ◌/◌, ◌%◌, ◌<◌, ◌≤◌, ◌⊎◌, ◌↔◌, false, drop, length, map, replicate, All, IsTrue, IsNone, IfSome, IfNone, IfOk};
+ghost use Rattle.chunk_pool.specs.Pool.{Pool, word_of, payload_of, with_word, words_of, start_of, KeepsOthers, KeepsOtherWords, KeepsPayloads, free_beside, free_count, first_or, after_give, IsFree, IsHeld, IsPool, IsShape, start_pool, shape_of, size_in, bytes_of, place_of, end_of, fits, FitsNone, class_for, taken_for, IsTaken, HasAddress, chunk_at, start_chunk};
 ghost use Rattle.std.specs.List.{range_with_len};
 ghost use Rattle.chunk_pool.specs.Chunks.{chunks_in};
 
 use crate::region::Region;
+use crate::shape::{Class, FIRST_PLACE, Shape};
 use std::alloc::{AllocError, Global};
 use std::marker::Model;
 
-/// A pool of 1 to 65,536 chunks of one size, numbered from 0, and the list of those that are free.
+/// A pool of 1 to 65,536 chunks of one size and at most 65,536 of a second, numbered from 0, those of the first size in
+/// front, and of each size the list of those that are free.
 ///
 /// The first four words of a chunk are its header, the other words its payload. While a chunk is free, its first word
-/// holds the number of the next free chunk, or the count of chunks where there is none. No call but `new` takes memory.
+/// holds the number of the next free chunk of its size, or the count of all chunks where there is none. No call but `new`
+/// takes memory.
 #[derive(Drop)]
 pub struct ChunkPool {
-    count: u32,
-    words: u32,
+    shape: Shape,
     first: u32,
     free: u32,
+    extra_first: u32,
+    extra_free: u32,
     region: Region,
 }
 
@@ -34,63 +38,129 @@ impl Model for ChunkPool {
 
 impl ChunkPool {
     /// The address of the first byte of chunk 0.
-    pub const FIRST_PLACE: u32 = 0x8000_0000;
+    pub const FIRST_PLACE: u32 = FIRST_PLACE;
 
-    /// A pool of `count` chunks of `bytes` bytes each, all free, the numbers in order. All words are 0 but the first of
-    /// each chunk, which links the free list.
-    pub fn new(alloc: Global, count: u32, bytes: u32) -> Result<ChunkPool, AllocError>
+    /// A pool of `count` chunks of `bytes` bytes each and `extra` chunks of `extra_bytes` bytes each behind them, all free,
+    /// the numbers in order. All words are 0 but the first of each chunk, which links the free list of its size.
+    pub fn new(
+        alloc: Global,
+        count: u32,
+        bytes: u32,
+        extra: u32,
+        extra_bytes: u32,
+    ) -> Result<ChunkPool, AllocError>
         requires some_chunks { 1 ≤ count }
         requires chunks_bounded { count ≤ 65536 }
         requires header_fits { 64 ≤ bytes }
         requires bytes_bounded { bytes ≤ 65536 }
         requires aligned { bytes % 16 ≡ 0 }
-        requires size_bounded { count * bytes ≤ 67108864 }
+        requires extra_bounded { extra ≤ 65536 }
+        requires extra_header_fits { 32 ≤ extra_bytes }
+        requires extra_bytes_bounded { extra_bytes ≤ 65536 }
+        requires extra_aligned { extra_bytes % 16 ≡ 0 }
+        requires size_bounded { count * bytes + extra * extra_bytes ≤ 67108864 }
 
-        ensures start { IfOk result (λ pool. pool ≡ start_pool count (bytes / 4)) }
+        ensures start { IfOk result (λ pool. pool ≡ start_pool count (bytes / 4) extra (extra_bytes / 4)) }
         ensures sound { IfOk result (λ pool. IsPool pool) }
     {
-        let words = bytes / 4;
-        let mut region = Region::new(alloc, count as usize * words as usize)?;
-        link_all(&mut region, count, words);
+        let shape = Shape {
+            count: count + extra,
+            first_count: count,
+            words: bytes / 4,
+            extra_words: extra_bytes / 4,
+        };
+        let mut region = Region::new(alloc, shape.size())?;
+        link_all(&mut region, shape);
         Ok(ChunkPool {
-            count,
-            words,
+            shape,
             first: 0,
             free: count,
+            extra_first: count,
+            extra_free: extra,
             region,
         })
     }
 
-    /// Removes the first number of the free list and answers it, or `None` where no chunk is free. No word changes.
-    #[tactic(auto, unfolding(crate::specs::Pool::words_in))]
-    pub fn take(&mut self) -> Option<u32>
-        ensures first { result ≡ first_free self.old }
-        ensures after { self.new ≡ after_take self.old }
-        ensures none { IsNone result ↔ (all_free self.old ≡ []) }
-        ensures held { IfSome result (λ id. IsFree self.old id × IsHeld self.new id) }
-        // Where each free chunk fits a need, it takes what the need takes.
-        ensures needed { (need : ℕ) → All (λ id. IsTrue (fits self.old need id)) (all_free self.old) → IsTaken (taken_for self.old need) result self.old self.new }
+    /// Takes a chunk whose payload has at least `need` bytes, or answers `None` where no free chunk has. It is of the
+    /// smaller size that has one, of the first where both sizes are one, and the first of its free list. No word changes.
+    pub fn take(&mut self, need: u32) -> Option<u32>
+        ensures taken { IsTaken (taken_for self.old need) result self.old self.new }
+        ensures none { IsNone result ↔ FitsNone self.old need }
+        ensures held { IfSome result (λ id. IsFree self.old id × IsTrue (fits self.old need id) × IsHeld self.new id) }
         ensures sound { IsPool self.new }
     {
-        if self.free == 0 {
-            return None;
+        let class = self.class_for(need)?;
+        match class {
+            Class::First => Some(self.take_first()),
+            Class::Extra => Some(self.take_extra()),
         }
-        let id = self.first;
-        self.first = self.read(id, 0);
-        self.free -= 1;
-        Some(id)
     }
 
-    /// Gives chunk `id` back: its first word is the first free number, or the count where there is none, and its
-    /// number is in front of the free list.
-    #[tactic(auto, unfolding(crate::specs::Pool::words_in))]
+    /// Whether a free chunk has a payload of at least `need` bytes, so that `take` finds one for it.
+    pub fn fits(&self, need: u32) -> bool
+        ensures fits { (result ≡ false) ↔ FitsNone self.now need }
+        ensures sound { IsPool self.now }
+    {
+        self.class_for(need).is_some()
+    }
+
+    /// Of which size a need takes.
+    fn class_for(&self, need: u32) -> Option<Class>
+        ensures value { result ≡ class_for self.now need }
+        ensures sound { IsPool self.now }
+    {
+        self.shape.class_for(self.free, self.extra_free, need)
+    }
+
+    /// Takes the first free number of the first size.
+    fn take_first(&mut self) -> u32
+        requires some { 0 < length self.old.free }
+        ensures first { result ≡ first_or self.old.free self.old.count }
+        ensures after { self.new ≡ record self.old { free = drop 1 self.old.free } }
+        ensures sound { IsPool self.new }
+    {
+        let id = self.first;
+        self.first = self.region.read(self.shape.start_of(id));
+        self.free -= 1;
+        id
+    }
+
+    /// Takes the first free number of the second size.
+    fn take_extra(&mut self) -> u32
+        requires some { 0 < length self.old.extra_free }
+        ensures first { result ≡ first_or self.old.extra_free self.old.count }
+        ensures after { self.new ≡ record self.old { extra_free = drop 1 self.old.extra_free } }
+        ensures sound { IsPool self.new }
+    {
+        let id = self.extra_first;
+        self.extra_first = self.region.read(self.shape.start_of(id));
+        self.extra_free -= 1;
+        id
+    }
+
+    /// Gives chunk `id` back: its first word is the first free number of its size, or the count where there is none, and
+    /// its number is in front of that list.
     pub fn give(&mut self, id: u32)
         requires { IsHeld self.old id }
 
         ensures after { self.new ≡ after_give self.old id }
-        ensures link { word_of self.new id 0 ≡ first_or self.old.free self.old.count }
+        ensures link { word_of self.new id 0 ≡ first_or (free_beside self.old id) self.old.count }
         ensures payloads { KeepsPayloads self.old self.new }
         ensures others { KeepsOthers self.old self.new id }
+        ensures sound { IsPool self.new }
+    {
+        if id < self.shape.first_count {
+            self.give_first(id)
+        } else {
+            self.give_extra(id)
+        }
+    }
+
+    /// Gives back chunk `id` of the first size.
+    fn give_first(&mut self, id: u32)
+        requires held { IsHeld self.old id }
+        requires class { id < self.old.first_count }
+        ensures after { self.new ≡ after_give self.old id }
         ensures sound { IsPool self.new }
     {
         self.write(id, 0, self.first);
@@ -98,8 +168,19 @@ impl ChunkPool {
         self.free += 1;
     }
 
+    /// Gives back chunk `id` of the second size.
+    fn give_extra(&mut self, id: u32)
+        requires held { IsHeld self.old id }
+        requires class { self.old.first_count ≤ id }
+        ensures after { self.new ≡ after_give self.old id }
+        ensures sound { IsPool self.new }
+    {
+        self.write(id, 0, self.extra_first);
+        self.extra_first = id;
+        self.extra_free += 1;
+    }
+
     /// The word `word`, from 0, of chunk `id`.
-    #[tactic(auto, unfolding(crate::specs::Pool::words_in))]
     pub fn read(&self, id: u32, word: u32) -> u32
         requires id_in_range { id < self.now.count }
         requires word_in_range { word < words_of self.now id }
@@ -110,7 +191,6 @@ impl ChunkPool {
     }
 
     /// Writes the word `word`, from 0, of chunk `id`. The header of a free chunk is not written.
-    #[tactic(auto, unfolding(crate::specs::Pool::words_in))]
     pub fn write(&mut self, id: u32, word: u32, value: u32)
         requires id_in_range { id < self.old.count }
         requires word_in_range { word < words_of self.old id }
@@ -127,38 +207,36 @@ impl ChunkPool {
     }
 
     /// The words of chunk `id` behind its header, from word 4 on.
-    #[tactic(auto, unfolding(crate::specs::Pool::words_in))]
     pub fn payload(&self, id: u32) -> &[u32]
         requires { id < self.now.count }
         ensures value { result.now ≡ payload_of self.now id }
         ensures sound { IsPool self.now }
     {
         self.region
-            .slice(self.position(id, 4), self.words as usize - 4)
+            .slice(self.position(id, 4), self.shape.words_of(id) as usize - 4)
     }
 
     /// Where the word `word` of chunk `id` lies in the region.
-    #[tactic(auto, unfolding(crate::specs::Pool::words_in))]
     fn position(&self, id: u32, word: u32) -> usize
         requires id_in_range { id < self.now.count }
         requires word_in_range { word < words_of self.now id }
-        ensures place { result ≡ id * self.now.words + word }
-        ensures within { result < self.now.count * self.now.words }
+        ensures place { result ≡ start_of self.now id + word }
+        ensures within { result + (words_of self.now id - word) ≤ size_in (shape_of self.now) }
+        ensures sound { IsPool self.now }
     {
-        id as usize * self.words as usize + word as usize
+        self.shape.start_of(id) + word as usize
     }
 
-    /// How many chunks are free.
+    /// How many chunks are free, of both sizes.
     pub fn free(&self) -> u32
         ensures count { result ≡ free_count self.now }
         ensures bounded { result ≤ self.now.count }
         ensures sound { IsPool self.now }
     {
-        self.free
+        self.free + self.extra_free
     }
 
     /// The address of the first byte of chunk `id`.
-    #[tactic(auto, unfolding(crate::specs::Pool::words_in, crate::specs::Pool::start_in))]
     pub fn place_of(&self, id: u32) -> u32
         requires { id < self.now.count }
         ensures place { result ≡ place_of self.now id }
@@ -166,21 +244,19 @@ impl ChunkPool {
         ensures below_end { end_of self.now id ≤ 0x8400_0000 }
         ensures sound { IsPool self.now }
     {
-        ChunkPool::FIRST_PLACE + id * (4 * self.words)
+        FIRST_PLACE + 4 * self.shape.start_of(id) as u32
     }
 
     /// How many bytes chunk `id` has.
-    #[tactic(auto, unfolding(crate::specs::Pool::words_in))]
     pub fn bytes_of(&self, id: u32) -> u32
         requires { id < self.now.count }
         ensures value { result ≡ bytes_of self.now id }
         ensures sound { IsPool self.now }
     {
-        4 * self.words
+        4 * self.shape.words_of(id)
     }
 
     /// The number of the chunk that has a byte at `address`, or `None` where none has.
-    #[tactic(auto, unfolding(crate::specs::Pool::words_in, crate::specs::Pool::start_in, crate::specs::Pool::chunk_in))]
     pub fn chunk_at(&self, address: u32) -> Option<u32>
         ensures value { result ≡ chunk_at self.now address }
         ensures holds { IfSome result (λ id. HasAddress self.now id address) }
@@ -188,21 +264,18 @@ impl ChunkPool {
         ensures none { IfNone result ((id : ℕ) → ¬ HasAddress self.now id address) }
         ensures sound { IsPool self.now }
     {
-        let bytes = 4 * self.words;
-        let offset = address.checked_sub(ChunkPool::FIRST_PLACE)?;
-        let id = offset / bytes;
-        if id < self.count { Some(id) } else { None }
+        self.shape.chunk_at(address)
     }
 }
 
-/// Links the chunks of a region of zeros: the first word of each is the number after its own.
-fn link_all(region: &mut Region, count: u32, words: u32)
-    requires some_words { 1 ≤ words }
-    requires zeros { region.old ≡ replicate (count * words) 0 }
-    ensures size { length region.new ≡ count * words }
-    ensures linked { chunks_in count words region.new ≡ map (start_chunk words) (range_with_len 0 count) }
+/// Links the chunks of a region of zeros: the first word of each is the number behind its own among those of its size.
+fn link_all(region: &mut Region, shape: Shape)
+    requires sound { IsShape shape }
+    requires zeros { region.old ≡ replicate (size_in shape) 0 }
+    ensures size { length region.new ≡ size_in shape }
+    ensures linked { chunks_in shape region.new ≡ map (start_chunk shape) (range_with_len 0 shape.count) }
 {
-    for id in 0..count {
-        region.write(id as usize * words as usize, id + 1);
+    for id in 0..shape.count {
+        region.write(shape.start_of(id), shape.next(id));
     }
 }

@@ -12,8 +12,8 @@ use Rattle.thread_core.specs.Worlds.{Held}
 use Rattle.command_outcomes.specs.declared.ended.Ended.{Ended}
 use Rattle.command_outcomes.specs.Outcome.{Outcome, Ran, printed}
 use Rattle.command_outcomes.specs.CauseLines.{refusal}
-use Rattle.command_outcomes.specs.Done.{Outside, WhereTold, AreStored, AreCutShort, IsRisen, IsDone, IsExact, IsTold, IsTraceLeft, IsLast}
-use Rattle.command_outcomes.specs.Steps.{IsShelfStop, IsPrinted, AreStores, EndsAs, RunEnds, IsFinished}
+use Rattle.command_outcomes.specs.Done.{Outside, WhereTold, AreStored, AreCutShort, IsRisen, IsDone, IsTraceLeft, IsLast}
+use Rattle.command_outcomes.specs.Steps.{IsShelfStop, IsPrinted, AreStores, EndsAs, RunEnds}
 
 pub keeps-itself : (bytes : Option (List ℕ)) → Keeps bytes bytes
 keeps-itself None = tt

@@ -9,7 +9,7 @@ use Rattle.stack_image.specs.declared.refusals.ImageError.TheVariants as image
 use Rattle.command_outcomes.specs.declared.documents.Document.{Document}
 use Rattle.command_outcomes.specs.declared.documents.Document.TheVariants as document
 use Rattle.command_outcomes.specs.declared.stops.Cause.{Cause}
-use Rattle.command_outcomes.specs.declared.stops.Cause.TheVariants.{Usage, Absent, TooLong, Source, Image, CertificateLine, Rejected, Frame, Code, Pool}
+use Rattle.command_outcomes.specs.declared.stops.Cause.TheVariants.{Usage, Absent, TooLong, Source, Image, CertificateLine, Rejected, Frame, Code, Pool, Cycle}
 use Rattle.command_outcomes.specs.Outcome.{Outcome, refused}
 
 abbrev pub document_name : Document → List ℕ
@@ -65,9 +65,13 @@ abbrev pub rejected_words : ℕ → ℕ → ℕ → List ℕ
 rejected_words rule function index =
     ((((codes "rejected V" ++ canonical_decimal rule) ++ codes " function ") ++ canonical_decimal function) ++ codes " index ") ++ canonical_decimal index
 
+-- the function of this name lies on a cycle of calls
+abbrev pub cycle_words : List ℕ → List ℕ
+cycle_words name = codes "budget: cycle at " ++ name
+
 -- a cause, without its line feed
 abbrev pub cause_words : Cause → List ℕ
-cause_words Usage = codes "usage: capriccio serve SRC, run SRC IMG CRT, build SRC IMG CRT, check SRC IMG CRT, graph SRC, demo N"
+cause_words Usage = codes "usage: capriccio serve SRC, run SRC IMG CRT, build SRC IMG CRT, check SRC IMG CRT, graph SRC, demo N, budget SRC IMG CRT"
 cause_words (Absent document) = codes "absent: " ++ document_name document
 cause_words (TooLong document) = document_name document ++ codes ": TooLong"
 cause_words (Source error) = codes "source: " ++ source_words error
@@ -76,6 +80,7 @@ cause_words (CertificateLine number) = codes "certificate: Line " ++ canonical_d
 cause_words (Frame name bytes) = frame_words name.items bytes
 cause_words (Rejected rule function index) = codes "check: " ++ rejected_words rule function index
 cause_words (Pool bytes) = (codes "limit: pool is " ++ canonical_decimal bytes) ++ codes " bytes"
+cause_words (Cycle name) = cycle_words name.items
 cause_words (Code words) = (codes "limit: code is " ++ canonical_decimal words) ++ codes " words"
 
 abbrev pub cause_status : Cause → ℕ
@@ -89,6 +94,7 @@ cause_status (Frame name bytes) = 5
 cause_status (Code words) = 5
 cause_status (Rejected rule function index) = 3
 cause_status (Pool bytes) = 5
+cause_status (Cycle name) = 17
 
 -- what a command does where it refuses
 abbrev pub refusal : Cause → Outcome

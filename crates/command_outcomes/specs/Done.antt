@@ -1,5 +1,5 @@
 -- What a call leaves outside: of an outcome that is due all, or after a fault or where memory is wanting a part.
-use Rattle.std.specs.Prelude.{ℕ, ◌≡◌, ◌≢◌, ◌≤◌, ◌⊎◌, Bool, true, false, List, [], ◌∷◌, Option, Some, None, Result, Ok, Err}
+use Rattle.std.specs.Prelude.{ℕ, ◌≡◌, ◌≢◌, ◌+◌, ◌≤◌, ◌⊎◌, Bool, true, false, List, [], ◌∷◌, Option, Some, None, Result, Ok, Err}
 use Rattle.std.specs.Io.KnownBytes.{Keeps, Appends}
 use Rattle.cap_io.specs.Faults.{Rose, Stayed}
 use Rattle.cap_io.specs.Files.{Files, KeepsFiles, KeepsOthers}
@@ -177,7 +177,7 @@ pub record IsWorldOf (ran : Ran) (world : Held) : Type 0 where
   pub image : world.accepted.image ≡ ran.setup.image
   pub certificate : world.accepted.certificate ≡ ran.setup.certificate
   pub setting : world.setting ≡ setting_of ran.setup
-  pub chunks : world.machine.areas.pool.count ≡ ran.setup.policy.chunks
+  pub chunks : world.machine.areas.pool.count ≡ ran.setup.policy.chunks + ran.setup.policy.extra
   pub machine : world.machine ≡ ran.end
 
 -- it is there exactly where a run came to its stop

@@ -4,7 +4,7 @@ use Rattle.std.specs.Prelude.{ℕ, ◌≡◌, ◌<◌, ◌≤◌, ◌⊎◌, Lis
 use Rattle.cap_io.specs.Files.{Files}
 use Rattle.c_tree.specs.Trees.{ProgramTree}
 use Rattle.c_tree.specs.WellScoped.{IsWellScoped}
-use Rattle.c_scope.specs.SourceText.{ReadsAs, IsSourceErrorOf}
+use Rattle.c_hoist.specs.NestedText.{ReadsNested, IsNestedSourceErrorOf}
 use Rattle.c_scope.specs.declared.source_errors.SourceError.{SourceError}
 use Rattle.stack_image.specs.declared.images.Image.{Image}
 use Rattle.stack_image.specs.declared.refusals.ImageError.{ImageError}
@@ -39,13 +39,13 @@ AfterThree files source_name image_name certificate_name next =
 
 -- the bytes are read as a program, which is well scoped
 pub record IsSourceText (bytes : List ℕ) (program : ProgramTree) : Type 0 where
-  pub reads : ReadsAs bytes program
+  pub reads : ReadsNested bytes program
   pub scoped : IsWellScoped program
 
 abbrev pub AfterSource : List ℕ → (ProgramTree → Outcome → Type 0) → Outcome → Type 0
 AfterSource bytes next outcome =
     ((program : ProgramTree) × IsSourceText bytes program × next program outcome)
-    ⊎ ((error : SourceError) × IsSourceErrorOf bytes error × (outcome ≡ refusal (cause.Source error)))
+    ⊎ ((error : SourceError) × IsNestedSourceErrorOf bytes error × (outcome ≡ refusal (cause.Source error)))
 
 -- the bytes spell an image
 pub record IsImageText (bytes : List ℕ) (i : Image) : Type 0 where

@@ -2,7 +2,7 @@
 ghost use Rattle.std.specs.Prelude.{◌≡◌, ◌++◌, ◌∷◌, [], codes, IfOk, OnOk};
 ghost use Rattle.cap_text.specs.Decimals.{canonical_decimal};
 ghost use Rattle.cap_word.specs.Limit.{name_of};
-ghost use Rattle.command_outcomes.specs.CauseLines.{document_name, at_place, source_words, image_words, frame_words, rejected_words, cause_words};
+ghost use Rattle.command_outcomes.specs.CauseLines.{document_name, at_place, source_words, image_words, frame_words, rejected_words, cycle_words, cause_words};
 
 use crate::documents::Document;
 use crate::stops::Cause;
@@ -14,7 +14,7 @@ use std::alloc::{AllocError, Global};
 
 /// What the words may be.
 const USAGE: &[u8] =
-    b"usage: capriccio serve SRC, run SRC IMG CRT, build SRC IMG CRT, check SRC IMG CRT, graph SRC, demo N";
+    b"usage: capriccio serve SRC, run SRC IMG CRT, build SRC IMG CRT, check SRC IMG CRT, graph SRC, demo N, budget SRC IMG CRT";
 
 /// The line of a refusal, with its line feed.
 pub(crate) fn line_of(alloc: Global, cause: &Cause) -> Result<Vec<u8>, AllocError>
@@ -48,6 +48,7 @@ fn put_cause(line: &mut Vec<u8>, cause: &Cause) -> Result<(), AllocError>
             put_rejected(line, *rule, *function, *index)
         }
         Cause::Pool { bytes } => put_pool(line, *bytes),
+        Cause::Cycle { name } => put_cycle(line, name),
     }
 }
 
@@ -96,6 +97,13 @@ fn put_pool(line: &mut Vec<u8>, bytes: u64) -> Result<(), AllocError>
     put_text(line, b"limit: pool is ")?;
     put_number(line, bytes)?;
     put_text(line, b" bytes")
+}
+
+fn put_cycle(line: &mut Vec<u8>, name: &[u8]) -> Result<(), AllocError>
+    ensures { OnOk result (line.new.items ≡ line.old.items ++ cycle_words name.now) }
+{
+    put_text(line, b"budget: cycle at ")?;
+    put_text(line, name)
 }
 
 /// Appends a rejection.

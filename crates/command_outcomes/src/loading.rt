@@ -9,7 +9,8 @@ ghost use Rattle.command_outcomes.specs.Steps.{IsLoadAnswer, AreLoaded, IsStop};
 use crate::documents::Document;
 use crate::faults::Fault;
 use crate::stops::{Cause, Stop};
-use c_scope::{SourceError, read_program};
+use c_hoist::read_nested;
+use c_scope::SourceError;
 use c_tree::Program;
 use cap_io::{Shelf, ShelfError};
 use certificate_text::{CertError, read_cert};
@@ -75,7 +76,7 @@ pub fn read_source(alloc: Global, source: &[u8]) -> Result<Program, Stop>
     requires { length source.now ≤ 1048576 }
     ensures { MatchResult result (λ program. IsSourceText source.now (program_tree program)) (IsStop (AfterSource source.now NoMore)) }
 {
-    match read_program(alloc, source) {
+    match read_nested(alloc, source) {
         Ok(program) => Ok(program),
         Err(SourceError::Memory) => Err(Stop::Failed(Fault::Memory)),
         Err(error) => Err(Stop::Refused(Cause::Source(error))),

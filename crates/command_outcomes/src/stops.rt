@@ -48,6 +48,11 @@ pub enum Cause {
         /// The bytes of all chunks.
         bytes: u64,
     },
+    /// From the function of this name calls lead back to it, so that the program has no budget.
+    Cycle {
+        /// The function's name.
+        name: Vec<u8>,
+    },
 }
 
 impl Cause {
@@ -64,6 +69,7 @@ impl Cause {
             | Cause::CertificateLine(_) => 4,
             Cause::Rejected { .. } => 3,
             Cause::Frame { .. } | Cause::Code { .. } | Cause::Pool { .. } => 5,
+            Cause::Cycle { .. } => 17,
         }
     }
 }

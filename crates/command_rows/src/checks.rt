@@ -1,4 +1,4 @@
-// The command `check`.
+// The commands `check` and `budget`.
 use crate::calls::{Given, NO_FAULT, NONE, Wanted, is_so};
 use crate::images::{CUT_IMAGE, IMAGE_OF_LINKED, IMAGE_OF_SEVEN, IMAGE_OF_TWO, LONG_IMAGE};
 use std::alloc::{AllocError, Global};
@@ -13,11 +13,24 @@ pub(crate) const CERTIFICATE_OF_SEVEN: &[u8] =
 pub(crate) const TWO: &[u8] =
     b"int g(int x) { return x; } int main() { int a; int b; a = g(1); return a; }";
 
-/// Source, image, certificate, the status, and what the output and standard error take.
-type CheckRow<'a> = (&'a [u8], &'a [u8], &'a [u8], u8, &'a [u8], &'a [u8]);
+const CHECK: &[&str] = &["check", "P", "I", "C"];
+
+const BUDGET: &[&str] = &["budget", "P", "I", "C"];
+
+/// The words, the source, image and certificate that they name, the status, and what the output and standard error take.
+type CheckRow<'a> = (
+    &'a [&'a str],
+    &'a [u8],
+    &'a [u8],
+    &'a [u8],
+    u8,
+    &'a [u8],
+    &'a [u8],
+);
 
 const CHECKS: [CheckRow<'static>; 9] = [
     (
+        CHECK,
         PUT_SEVEN,
         IMAGE_OF_SEVEN,
         CERTIFICATE_OF_SEVEN,
@@ -26,6 +39,7 @@ const CHECKS: [CheckRow<'static>; 9] = [
         NONE,
     ),
     (
+        CHECK,
         TWO,
         IMAGE_OF_LINKED,
         b"capriccio certificate 1\nchunk 64\nmax-path 32\nfunctions 2\nfunction 4104 16 16 12 16 0 4\nfunction 4168 37 16 12 16 0 4 8\nsites 1\nsite 0 linked 16\n",
@@ -34,6 +48,7 @@ const CHECKS: [CheckRow<'static>; 9] = [
         NONE,
     ),
     (
+        CHECK,
         TWO,
         IMAGE_OF_LINKED,
         b"capriccio certificate 1\nchunk 64\nmax-path 32\nmax-path 32\nfunctions 2\nfunction 4104 16 16 12 16 0 4\nfunction 4168 37 16 12 16 0 4 8\nsites 1\nsite 0 linked 16\n",
@@ -42,6 +57,7 @@ const CHECKS: [CheckRow<'static>; 9] = [
         b"certificate: Line 4\n",
     ),
     (
+        CHECK,
         TWO,
         IMAGE_OF_TWO,
         b"capriccio certificate 1\nchunk 64\nmax-path 32\nfunctions 2\nfunction 4104 16 16 12 16 0 4\nfunction 4168 27 16 12 16 0 4 8\nsites 1\nsite 0 plain\n",
@@ -50,6 +66,7 @@ const CHECKS: [CheckRow<'static>; 9] = [
         NONE,
     ),
     (
+        CHECK,
         TWO,
         IMAGE_OF_TWO,
         b"capriccio certificate 1\nchunk 64\nmax-path 32\nfunctions 2\nfunction 4104 16 16 12 0 0 4\nfunction 4168 27 16 12 32 0 4 8\nsites 1\nsite 0 plain\n",
@@ -58,6 +75,7 @@ const CHECKS: [CheckRow<'static>; 9] = [
         NONE,
     ),
     (
+        CHECK,
         PUT_SEVEN,
         CUT_IMAGE,
         CERTIFICATE_OF_SEVEN,
@@ -66,6 +84,7 @@ const CHECKS: [CheckRow<'static>; 9] = [
         b"image: Short at 10\n",
     ),
     (
+        CHECK,
         PUT_SEVEN,
         LONG_IMAGE,
         CERTIFICATE_OF_SEVEN,
@@ -74,6 +93,7 @@ const CHECKS: [CheckRow<'static>; 9] = [
         b"image: Long at 120\n",
     ),
     (
+        CHECK,
         PUT_SEVEN,
         IMAGE_OF_SEVEN,
         b"capriccio certificate 1\nchunk 4096\nmax-path 2032\nmax-path 2032\nfunctions 1\nfunction 4104 22 16 12 16 0\nsites 0\n",
@@ -82,6 +102,7 @@ const CHECKS: [CheckRow<'static>; 9] = [
         b"certificate: Line 4\n",
     ),
     (
+        CHECK,
         b"int main() { return; }",
         CUT_IMAGE,
         NONE,
@@ -91,11 +112,50 @@ const CHECKS: [CheckRow<'static>; 9] = [
     ),
 ];
 
-/// Whether `check` says this of a source, an image and a certificate.
+const BUDGETS: [CheckRow<'static>; 4] = [
+    (
+        BUDGET,
+        TWO,
+        IMAGE_OF_LINKED,
+        b"capriccio certificate 1\nchunk 64\nmax-path 32\nfunctions 2\nfunction 4104 16 16 12 16 0 4\nfunction 4168 37 16 12 16 0 4 8\nsites 1\nsite 0 linked 16\n",
+        0,
+        b"chunks 2\nheight 0 0\nheight 1 1\n",
+        NONE,
+    ),
+    (
+        BUDGET,
+        PUT_SEVEN,
+        IMAGE_OF_SEVEN,
+        CERTIFICATE_OF_SEVEN,
+        0,
+        b"chunks 1\nheight 0 0\n",
+        NONE,
+    ),
+    (
+        BUDGET,
+        TWO,
+        IMAGE_OF_TWO,
+        b"capriccio certificate 1\nchunk 64\nmax-path 32\nfunctions 2\nfunction 4104 16 16 12 16 0 4\nfunction 4168 27 16 12 16 0 4 8\nsites 1\nsite 0 plain\n",
+        3,
+        NONE,
+        b"check: rejected V10 function 1 index 0\n",
+    ),
+    (
+        BUDGET,
+        PUT_SEVEN,
+        CUT_IMAGE,
+        CERTIFICATE_OF_SEVEN,
+        4,
+        NONE,
+        b"image: Short at 10\n",
+    ),
+];
+
+/// Whether the command says this of a source, an image and a certificate.
 fn is_checked(alloc: Global, row: &CheckRow) -> Result<bool, AllocError> {
-    let (source, image, certificate, status, out, err) = *row;
+    let (words, source, image, certificate, status, out, err) = *row;
     let given = Given {
-        words: &["check", "P", "I", "C"],
+        words,
         files: &[("P", source), ("I", image), ("C", certificate)],
         trace: NONE,
         fails: NO_FAULT,
@@ -115,7 +175,16 @@ fn is_checked(alloc: Global, row: &CheckRow) -> Result<bool, AllocError> {
 #[test]
 fn checks(rt: HostRuntime) -> Result<(), Fail> {
     for row in &CHECKS {
-        let err = row.5;
+        let err = row.6;
+        assert!(rt; is_checked(rt.alloc(), row)?, "{err:?}");
+    }
+    Ok(())
+}
+
+#[test]
+fn budgets(rt: HostRuntime) -> Result<(), Fail> {
+    for row in &BUDGETS {
+        let err = row.6;
         assert!(rt; is_checked(rt.alloc(), row)?, "{err:?}");
     }
     Ok(())

@@ -62,6 +62,16 @@ const TRACE_OF_SILENT: &[u8] =
 const LOG_OF_SILENT: &[u8] =
     b"run 0 0 0\nend 0 21 1023\nrun 21 1 0\nblock 1 2 4 16 1023\nevent 100 arrive 5\nrun 100 1 2\nblock 1 3 0<5 29 1023\nevent 200 data 5 2\nrun 200 1 3\nblock 1 4 1<5 14 1023\nrun 214 1 4\nblock 1 5 2<5 26 1023\nevent 300 data 5 10\nrun 300 1 5\nblock 1 6 3<5 14 1023\nrun 314 1 6\nblock 1 5 2<5 43 1023\nevent 400 arrive 6\nrun 857 1 5\nout 1 -1\nblock 1 2 4 32 1023\nrun 889 1 2\nblock 1 3 0<5 29 1023\nevent 950 data 6 1\nrun 950 1 3\nblock 1 4 1<5 14 1023\nrun 964 1 4\nblock 1 5 2<5 26 1023\nevent 1100 data 6 7\nrun 1100 1 5\nblock 1 6 3<5 14 1023\nrun 1114 1 6\nout 1 7\nblock 1 2 4 55 1023\nevent 1200 arrive 7\nrun 1200 1 2\nblock 1 3 0<5 29 1023\nrun 1729 1 3\nout 1 -1\nblock 1 2 4 32 1023\nedge 0 1 1 5376 0\nedge 0 2 1 4096 0\nedge 2 3 3 7424 0\nedge 3 2 1 8192 0\nedge 3 4 2 3584 0\nedge 4 5 2 6656 0\nedge 5 2 1 8192 0\nedge 5 6 2 3584 0\nedge 6 2 1 14080 0\nedge 6 5 1 11008 0\nstop idle\n";
 
+/// Calls inside expressions.
+const ORDERS: &[u8] =
+    b"// An arrival is the number of a channel. On it come the prices of an order, one after another; 500 ticks after the last of them the\n// order is over. Two workers take orders, and each answers with what both have sold so far.\nint sold;\n\nint sum_of(int channel) {\n  int sum;\n  sum = 0;\n  while (waitfor(channel, 500)) sum = sum + wait(channel);\n  return sum;\n}\n\nvoid worker(int n) {\n  while (1) {\n    sold = sum_of(accept()) + sold;\n    put(sold);\n  }\n}\n\nint main() {\n  spawn(worker, 1);\n  spawn(worker, 2);\n  return 0;\n}\n";
+
+const TRACE_OF_ORDERS: &[u8] =
+    b"arrive 100 5\ndata 200 5 2\narrive 300 6\ndata 400 6 7\ndata 500 5 10\ndata 600 6 1\n";
+
+const LOG_OF_ORDERS: &[u8] =
+    b"run 0 0 0\nend 0 31 1022\nrun 31 1 0\nblock 1 2 3 10 1022\nrun 41 2 0\nblock 2 2 3 10 1022\nevent 100 arrive 5\nrun 100 1 2\nblock 1 3 0<2 30 1022\nevent 200 data 5 2\nrun 200 1 3\nblock 1 4 1<2 18 1022\nrun 218 1 4\nblock 1 3 0<2 26 1022\nevent 300 arrive 6\nrun 300 2 2\nblock 2 3 0<2 30 1022\nevent 400 data 6 7\nrun 400 2 3\nblock 2 4 1<2 18 1022\nrun 418 2 4\nblock 2 3 0<2 26 1022\nevent 500 data 5 10\nrun 500 1 3\nblock 1 4 1<2 18 1022\nrun 518 1 4\nblock 1 3 0<2 26 1022\nevent 600 data 6 1\nrun 600 2 3\nblock 2 4 1<2 18 1022\nrun 618 2 4\nblock 2 3 0<2 26 1022\nrun 1044 1 3\nout 1 12\nblock 1 2 3 45 1022\nrun 1144 2 3\nout 2 20\nblock 2 2 3 45 1022\nedge 0 1 1 7936 256\nedge 0 2 2 2560 0\nedge 2 3 2 7680 0\nedge 3 2 2 11520 0\nedge 3 4 4 4608 0\nedge 4 3 4 6656 0\nstop idle\n";
+
 /// Two tenants, by strides and by the graph.
 const TENANTS: &[u8] =
     b"// Two tenants share the machine. Each puts its number and lets the other have a turn, again and again.\nvoid tenant(int number) {\n  while (1) {\n    put(number);\n    yield();\n  }\n}\n\nint main() {\n  spawn(tenant, 1);\n  spawn(tenant, 2);\n  return 0;\n}\n";
@@ -74,8 +84,21 @@ const LOG_OF_TENANTS: &[u8] =
 const LOG_OF_TENANTS_GRAPH: &[u8] =
     b"run 0 0 0\nend 0 31 1022\nrun 31 1 0\nout 1 1\nblock 1 2 1 15 1022\nrun 46 1 2\nout 1 1\nblock 1 2 1 13 1022\nrun 59 1 2\nout 1 1\nblock 1 2 1 13 1022\nrun 72 1 2\nout 1 1\nblock 1 2 1 13 1022\nrun 85 1 2\nout 1 1\nblock 1 2 1 13 1022\nrun 98 1 2\nout 1 1\nblock 1 2 1 13 1022\nrun 111 1 2\nout 1 1\nblock 1 2 1 13 1022\nrun 124 1 2\nout 1 1\nblock 1 2 1 13 1022\nrun 137 1 2\nout 1 1\nblock 1 2 1 13 1022\nrun 150 1 2\nout 1 1\nblock 1 2 1 13 1022\nrun 163 1 2\nout 1 1\nblock 1 2 1 13 1022\nrun 176 1 2\nout 1 1\nblock 1 2 1 13 1022\nrun 189 1 2\nedge 0 1 1 7936 256\nedge 0 2 1 3840 0\nedge 2 2 11 3328 0\nstop fuel 1 0 1022\n";
 
-// The tenants' fuel is spent at their end: the status is 13. Each other server idles at its end: it is 10.
-const EXAMPLES: [Row<'static>; 9] = [
+/// Waiting threads on small chunks.
+const SIZES: &[u8] =
+    b"// Each arrival starts a thread that waits on that channel for a number n, and puts in how many ways n is a sum of numbers above 0,\n// whatever their order. For that it needs a list; while it waits it needs next to nothing.\nint ways(int n) {\n  int of[101];\n  int part;\n  int i;\n  of[0] = 1;\n  for (part = 1; part <= n; part = part + 1) {\n    for (i = part; i <= n; i = i + 1) of[i] = of[i] + of[i - part];\n    yield();\n  }\n  return of[n];\n}\n\nvoid guest(int channel) {\n  int n;\n  int answer;\n  n = wait(channel);\n  take(1, 1);\n  answer = ways(n);\n  put(answer);\n  give(1, 1);\n}\n\nint main() {\n  int channel;\n  while (1) {\n    channel = accept();\n    spawn(guest, channel);\n  }\n}\n";
+
+const TRACE_OF_SIZES: &[u8] =
+    b"arrive 0 1\narrive 0 2\narrive 0 3\narrive 0 4\ndata 1000 2 3\ndata 1100 1 4\n";
+
+const LOG_OF_SIZES: &[u8] =
+    b"event 0 arrive 1\nevent 0 arrive 2\nevent 0 arrive 3\nevent 0 arrive 4\nrun 0 0 0\nblock 0 2 6 12 32\nrun 12 0 2\nblock 0 2 6 18 31\nrun 30 1 0\nblock 1 3 1 14 31\nrun 44 0 2\nblock 0 2 6 18 30\nrun 62 2 0\nblock 2 3 1 14 30\nrun 76 0 2\nblock 0 2 6 18 29\nrun 94 3 0\nblock 3 3 1 14 29\nrun 108 0 2\nblock 0 2 6 18 28\nrun 126 4 0\nblock 4 3 1 14 28\nevent 1000 data 2 3\nrun 1000 2 3\nblock 2 4 2 11 28\nrun 1011 2 4\nblock 2 5 0<3 357 27\nevent 1368 data 1 4\nrun 1368 2 5\nblock 2 5 0<3 167 27\nrun 1535 1 3\nblock 1 4 2 11 27\nrun 1546 2 5\nblock 2 5 0<3 104 27\nrun 1650 2 5\nout 2 3\nend 2 61 29\nrun 1711 1 4\nblock 1 5 0<3 420 28\nrun 2131 1 5\nblock 1 5 0<3 230 28\nrun 2361 1 5\nblock 1 5 0<3 167 28\nrun 2528 1 5\nblock 1 5 0<3 104 28\nrun 2632 1 5\nout 1 5\nend 1 61 30\nedge 0 2 1 3072 0 0\nedge 0 3 4 3584 0 0\nedge 2 2 4 4608 256 0\nedge 3 4 2 2816 0 0\nedge 4 5 2 93408 256 256\nedge 5 1 2 15616 -512 -256\nedge 5 5 5 40930 0 0\nstop idle\n";
+
+const LOG_OF_SIZES_ONE: &[u8] =
+    b"event 0 arrive 1\nevent 0 arrive 2\nevent 0 arrive 3\nevent 0 arrive 4\nrun 0 0 0\nblock 0 2 6 12 3\nrun 12 0 2\nblock 0 2 6 18 2\nrun 30 1 0\nblock 1 3 1 14 2\nrun 44 0 2\nblock 0 2 6 18 1\nrun 62 2 0\nblock 2 3 1 14 1\nrun 76 0 2\nblock 0 2 6 18 0\nrun 94 3 0\nblock 3 3 1 14 0\nrun 108 0 2\nedge 0 2 1 3072 0 0\nedge 0 3 3 3584 0 0\nedge 2 2 3 4608 256 0\nstop nochunk 0 9 0\n";
+
+// Each of these servers idles at its end: the status is 10.
+const EXAMPLES: [Row<'static>; 6] = [
     (&["serve", "P"], POOL, TRACE_OF_POOL, 10, LOG_OF_POOL, NONE),
     (
         &["serve", "P"],
@@ -126,6 +149,9 @@ const EXAMPLES: [Row<'static>; 9] = [
         LOG_OF_TIMERS,
         NONE,
     ),
+];
+
+const EXAMPLES_OF_PEERS: [Row<'static>; 2] = [
     (
         &["serve", "P"],
         SILENT,
@@ -134,6 +160,18 @@ const EXAMPLES: [Row<'static>; 9] = [
         LOG_OF_SILENT,
         NONE,
     ),
+    (
+        &["serve", "P"],
+        ORDERS,
+        TRACE_OF_ORDERS,
+        10,
+        LOG_OF_ORDERS,
+        NONE,
+    ),
+];
+
+// The tenants' fuel is spent at their end: the status is 13.
+const EXAMPLES_OF_RULES: [Row<'static>; 2] = [
     (
         &[
             "serve",
@@ -161,8 +199,70 @@ const EXAMPLES: [Row<'static>; 9] = [
     ),
 ];
 
+// On chunks of one size the fourth waiting thread finds none: the status is 12.
+const EXAMPLES_OF_SIZES: [Row<'static>; 2] = [
+    (
+        &[
+            "serve",
+            "P",
+            "--chunk",
+            "512",
+            "--max-path",
+            "448",
+            "--chunks",
+            "1",
+            "--extra",
+            "32",
+            "--extra-size",
+            "48",
+            "--caps",
+            "1=1",
+        ],
+        SIZES,
+        TRACE_OF_SIZES,
+        10,
+        LOG_OF_SIZES,
+        NONE,
+    ),
+    (
+        &[
+            "serve",
+            "P",
+            "--chunk",
+            "512",
+            "--max-path",
+            "448",
+            "--chunks",
+            "4",
+            "--caps",
+            "1=1",
+        ],
+        SIZES,
+        TRACE_OF_SIZES,
+        12,
+        LOG_OF_SIZES_ONE,
+        NONE,
+    ),
+];
+
 // What each server writes on its trace is its log.
+
 #[test]
 fn examples_have_their_logs(rt: HostRuntime) -> Result<(), Fail> {
     hold(&rt, rt.alloc(), &EXAMPLES)
+}
+
+#[test]
+fn examples_of_peers_have_their_logs(rt: HostRuntime) -> Result<(), Fail> {
+    hold(&rt, rt.alloc(), &EXAMPLES_OF_PEERS)
+}
+
+#[test]
+fn examples_of_rules_have_their_logs(rt: HostRuntime) -> Result<(), Fail> {
+    hold(&rt, rt.alloc(), &EXAMPLES_OF_RULES)
+}
+
+#[test]
+fn examples_of_sizes_have_their_logs(rt: HostRuntime) -> Result<(), Fail> {
+    hold(&rt, rt.alloc(), &EXAMPLES_OF_SIZES)
 }

@@ -53,9 +53,9 @@ const GRAPHS: [Row<'static>; 9] = [
         PLAIN,
         b"int main() { put(self() + 1); return 0; }",
         NONE,
-        2,
+        0,
+        b"function 0 main frame 16 bound 16\n",
         NONE,
-        b"source: NestedCall at 17\n",
     ),
     (&["graph", "Q"], TWO, NONE, 9, NONE, b"absent: source\n"),
     (
@@ -64,7 +64,7 @@ const GRAPHS: [Row<'static>; 9] = [
         NONE,
         1,
         NONE,
-        b"usage: capriccio serve SRC, run SRC IMG CRT, build SRC IMG CRT, check SRC IMG CRT, graph SRC, demo N\n",
+        b"usage: capriccio serve SRC, run SRC IMG CRT, build SRC IMG CRT, check SRC IMG CRT, graph SRC, demo N, budget SRC IMG CRT\n",
     ),
 ];
 

@@ -6,7 +6,7 @@ use std::alloc::{AllocError, Global};
 use std::test::Fail;
 
 const USAGE: &[u8] =
-    b"usage: capriccio serve SRC, run SRC IMG CRT, build SRC IMG CRT, check SRC IMG CRT, graph SRC, demo N\n";
+    b"usage: capriccio serve SRC, run SRC IMG CRT, build SRC IMG CRT, check SRC IMG CRT, graph SRC, demo N, budget SRC IMG CRT\n";
 
 // Sources that are refused, words that are no word list, and a file that isn't there.
 const REFUSALS: [Row<'static>; 27] = [
@@ -70,11 +70,11 @@ const REFUSALS: [Row<'static>; 27] = [
     ),
     (
         SERVE,
-        b"int main() { put(self() + 1); return 0; }",
+        b"int main() { int i; for (i = 0; i < self(); i = i + 1) ; return 0; }",
         NONE,
         2,
         NONE,
-        b"source: NestedCall at 17\n",
+        b"source: NestedCall at 36\n",
     ),
     (&[], PUT_SEVEN, NONE, 1, NONE, USAGE),
     (&["serve"], PUT_SEVEN, NONE, 1, NONE, USAGE),

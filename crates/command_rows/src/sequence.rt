@@ -1,4 +1,5 @@
-// One shelf that never fails: a program is served, built, checked and run, and the world that it hands out is looked at.
+// One shelf that never fails: a program is served, built, checked and run, and the world that it hands out is looked at. And one
+// whose program calls itself, so that no budget is made of it.
 use crate::calls::{NONE, files_of, hold_files, status_of, words_of};
 use crate::checks::{CERTIFICATE_OF_SEVEN, PUT_SEVEN};
 use crate::images::IMAGE_OF_SEVEN;
@@ -8,37 +9,105 @@ use std::alloc::{AllocError, Global};
 use std::test::Fail;
 use thread_core::World;
 
+/// The log of a program that puts 7, over 1,025 chunks.
+const LOG_OF_SEVEN_AND_ONE: &[u8] =
+    b"run 0 0 0\nout 0 7\nend 0 17 1025\nedge 0 1 1 4352 -256\nstop done\n";
+
 /// A file with what it holds.
 type Held<'a> = (&'a str, &'a [u8]);
 
-/// Words, the status, what the output and standard error take, whether a world is handed out, and files that are there then.
-type Row<'a> = (&'a [&'a str], u8, &'a [u8], &'a [u8], bool, &'a [Held<'a>]);
+/// The world of the log at its end: how many chunks are free, all of the pool's, and words of chunks, each as its chunk, its
+/// place in that and its value.
+#[derive(Clone, Copy)]
+struct AtEnd {
+    free: u32,
+    words: [(u32, u32, u32); 3],
+}
 
-const SEQUENCE: [Row<'static>; 6] = [
-    (&["serve", "P"], 0, LOG_OF_SEVEN, NONE, true, &[]),
+/// The thread ran on chunk 0 of 4,096 bytes: the return address was saved in its last word, and its first word links chunk 1.
+const ON_FIRST: AtEnd = AtEnd {
+    free: 1024,
+    words: [(0, 1023, 4096), (0, 0, 1), (1, 1023, 0)],
+};
+
+/// It ran on chunk 1,024, the one of 32 bytes, whose first word is the count.
+const ON_EXTRA: AtEnd = AtEnd {
+    free: 1025,
+    words: [(1024, 7, 4096), (1024, 0, 1025), (0, 1023, 0)],
+};
+
+/// Words, the status, what the output and standard error take, the world that is handed out, and files that are there then.
+type Row<'a> = (
+    &'a [&'a str],
+    u8,
+    &'a [u8],
+    &'a [u8],
+    Option<AtEnd>,
+    &'a [Held<'a>],
+);
+
+const SEQUENCE: [Row<'static>; 9] = [
+    (&["serve", "P"], 0, LOG_OF_SEVEN, NONE, Some(ON_FIRST), &[]),
+    // a second size that fits and is smaller, and one that is as large as the first
+    (
+        &["serve", "P", "--extra", "1", "--extra-size", "32"],
+        0,
+        LOG_OF_SEVEN_AND_ONE,
+        NONE,
+        Some(ON_EXTRA),
+        &[],
+    ),
+    (
+        &["serve", "P", "--extra", "1", "--extra-size", "4096"],
+        0,
+        LOG_OF_SEVEN_AND_ONE,
+        NONE,
+        Some(AtEnd {
+            free: 1025,
+            words: [(0, 1023, 4096), (0, 0, 1), (1024, 1023, 0)],
+        }),
+        &[],
+    ),
     (
         &["build", "P", "I", "C"],
         0,
         b"built code 24 globals 0 tables 0\n",
         NONE,
-        false,
+        None,
         &[("I", IMAGE_OF_SEVEN), ("C", CERTIFICATE_OF_SEVEN)],
     ),
+    (&["check", "P", "I", "C"], 0, b"accepted\n", NONE, None, &[]),
     (
-        &["check", "P", "I", "C"],
+        &["run", "P", "I", "C"],
         0,
-        b"accepted\n",
+        LOG_OF_SEVEN,
         NONE,
-        false,
+        Some(ON_FIRST),
         &[],
     ),
-    (&["run", "P", "I", "C"], 0, LOG_OF_SEVEN, NONE, true, &[]),
     (
         &["run", "P", "I", "C", "--chunks", "65536"],
         5,
         NONE,
         b"limit: pool is 268435456 bytes\n",
-        false,
+        None,
+        &[],
+    ),
+    (
+        &[
+            "run",
+            "P",
+            "I",
+            "C",
+            "--extra",
+            "61441",
+            "--extra-size",
+            "1024",
+        ],
+        5,
+        NONE,
+        b"limit: pool is 67109888 bytes\n",
+        None,
         &[],
     ),
     (
@@ -46,32 +115,38 @@ const SEQUENCE: [Row<'static>; 6] = [
         9,
         NONE,
         b"absent: certificate\n",
-        false,
+        None,
         &[],
     ),
 ];
 
-/// Whether the world is that of the log at its end: 17 instructions, all of 1,024 chunks free again, no thread, and in chunk
-/// 0 the saved return address and the number of the next free chunk.
-fn is_at_end(last: &Option<World>) -> bool {
+/// Whether the world is that of the log at its end: 17 instructions, all chunks free again, no thread, and these words.
+fn is_at_end(last: &Option<World>, wanted: &AtEnd) -> bool {
     match last {
         None => false,
         Some(world) => {
             world.cost() == 17
-                && world.free() == 1024
+                && world.free() == wanted.free
+                && world.cap(0) == wanted.free
                 && world.live() == 0
-                && word(world, 1023) == Some(4096)
-                && word(world, 0) == Some(1)
+                && has_word(world, wanted.words[0])
+                && has_word(world, wanted.words[1])
+                && has_word(world, wanted.words[2])
         }
     }
 }
 
-/// A word of chunk 0.
-fn word(world: &World, word: u32) -> Option<u32> {
-    if world.cap(0) > 0 && word < world.chunk_words() {
-        Some(world.word_at(0, word))
-    } else {
-        None
+/// Whether a word of a chunk has this value.
+fn has_word(world: &World, wanted: (u32, u32, u32)) -> bool {
+    let (chunk, word, value) = wanted;
+    chunk < world.cap(0) && word < world.chunk_words(chunk) && world.word_at(chunk, word) == value
+}
+
+/// Whether the world that is handed out, or that none is, is as wanted.
+fn is_left(last: &Option<World>, wanted: &Option<AtEnd>) -> bool {
+    match wanted {
+        None => last.is_none(),
+        Some(wanted) => is_at_end(last, wanted),
     }
 }
 
@@ -84,7 +159,7 @@ fn leaves(alloc: Global, words: &Vec<String>, shelf: &mut CleanShelf, row: &Row)
     let status = status_of(
         alloc, words, shelf, &mut trace, &mut out, &mut err, &mut last,
     );
-    let is_world = is_at_end(&last) == row.4 && last.is_some() == row.4;
+    let is_world = is_left(&last, &row.4);
     let is_so = status == row.1 && out.bytes() == row.2 && err.bytes() == row.3 && is_world;
     drop(last);
     drop(err);
@@ -101,9 +176,34 @@ fn is_row(alloc: Global, shelf: &mut CleanShelf, row: &Row) -> Result<bool, Allo
     Ok(is_so && hold_files(alloc, shelf, row.5))
 }
 
-/// Whether the rows of the sequence hold, one after another.
-fn all_hold(alloc: Global, shelf: &mut CleanShelf) -> Result<bool, AllocError> {
-    for row in &SEQUENCE {
+const SMALL: &[&str] = &["build", "P", "I", "C", "--chunk", "64", "--max-path", "32"];
+
+/// A program whose function calls itself.
+const RECURSIVE: &[u8] =
+    b"int f(int n) { int a; int b; if (n < 1) return n; a = f(n - 1); return a; } int main() { int a; a = f(3); return a; }";
+
+const CYCLE: [Row<'static>; 2] = [
+    (
+        SMALL,
+        0,
+        b"built code 98 globals 0 tables 0\n",
+        NONE,
+        None,
+        &[],
+    ),
+    (
+        &["budget", "P", "I", "C"],
+        17,
+        NONE,
+        b"budget: cycle at f\n",
+        None,
+        &[],
+    ),
+];
+
+/// Whether the rows hold, one after another.
+fn all_hold(alloc: Global, shelf: &mut CleanShelf, rows: &[Row]) -> Result<bool, AllocError> {
+    for row in rows {
         if !is_row(alloc, shelf, row)? {
             return Ok(false);
         }
@@ -112,15 +212,21 @@ fn all_hold(alloc: Global, shelf: &mut CleanShelf) -> Result<bool, AllocError> {
 }
 
 /// The same of a shelf that has the source alone.
-fn all_hold_of_source(alloc: Global) -> Result<bool, AllocError> {
-    let mut shelf = CleanShelf::new(alloc, files_of(alloc, &[("P", PUT_SEVEN)])?);
-    let is_so = all_hold(alloc, &mut shelf);
+fn all_hold_of_source(alloc: Global, source: &[u8], rows: &[Row]) -> Result<bool, AllocError> {
+    let mut shelf = CleanShelf::new(alloc, files_of(alloc, &[("P", source)])?);
+    let is_so = all_hold(alloc, &mut shelf, rows);
     drop(shelf);
     is_so
 }
 
 #[test]
 fn serves_builds_checks_and_runs(rt: HostRuntime) -> Result<(), Fail> {
-    assert!(rt; all_hold_of_source(rt.alloc())?);
+    assert!(rt; all_hold_of_source(rt.alloc(), PUT_SEVEN, &SEQUENCE)?);
+    Ok(())
+}
+
+#[test]
+fn builds_and_finds_a_cycle(rt: HostRuntime) -> Result<(), Fail> {
+    assert!(rt; all_hold_of_source(rt.alloc(), RECURSIVE, &CYCLE)?);
     Ok(())
 }

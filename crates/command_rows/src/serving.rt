@@ -39,8 +39,24 @@ const WAITING: &[u8] = b"int main() { int x; x = waitfor(0, 50); put(x); return 
 const LOG_OF_SILENCE: &[u8] =
     b"run 0 0 0\nblock 0 2 0 15 1023\nrun 65 0 2\nout 0 0\nend 0 15 1024\nedge 0 2 1 3840 0\nedge 2 1 1 3840 -256\nstop done\n";
 
-const RUNS_TO_THE_END: [Row<'static>; 17] = [
+const RUNS_TO_THE_END: [Row<'static>; 20] = [
     (SERVE, PUT_SEVEN, NONE, 0, LOG_OF_SEVEN, NONE),
+    (
+        SERVE,
+        b"int main() { put(self() + 1); return 0; }",
+        NONE,
+        0,
+        b"run 0 0 0\nout 0 1\nend 0 26 1024\nedge 0 1 1 6656 -256\nstop done\n",
+        NONE,
+    ),
+    (
+        SERVE,
+        b"int fib(int n) { if (n < 2) return n; return fib(n - 1) + fib(n - 2); } int main() { put(fib(10)); return 0; }",
+        NONE,
+        0,
+        b"run 0 0 0\nout 0 55\nend 0 7170 1024\nedge 0 1 1 1835520 -256\nstop done\n",
+        NONE,
+    ),
     (
         SERVE,
         b"int main() { put(-2147483648 / -1); put(5 / 0); return 0; }",
@@ -93,6 +109,28 @@ const RUNS_TO_THE_END: [Row<'static>; 17] = [
             "48",
             "--chunks",
             "2",
+        ],
+        SHALLOW,
+        NONE,
+        0,
+        b"run 0 0 0\nout 0 1\nend 0 100 2\nedge 0 1 1 25600 -256\nstop done\n",
+        NONE,
+    ),
+    // the second chunk is of a second size, which the call's need of 32 bytes fits
+    (
+        &[
+            "serve",
+            "P",
+            "--chunk",
+            "80",
+            "--max-path",
+            "48",
+            "--chunks",
+            "1",
+            "--extra",
+            "1",
+            "--extra-size",
+            "48",
         ],
         SHALLOW,
         NONE,
@@ -194,7 +232,7 @@ fn runs_to_the_end(rt: HostRuntime) -> Result<(), Fail> {
     hold(&rt, rt.alloc(), &RUNS_TO_THE_END)
 }
 
-const CUT_RUNS: [Row<'static>; 12] = [
+const CUT_RUNS: [Row<'static>; 13] = [
     (
         &["serve", "P", "--fuel", "0"],
         PUT_SEVEN,
@@ -226,6 +264,28 @@ const CUT_RUNS: [Row<'static>; 12] = [
         NONE,
         12,
         b"run 0 0 0\nstop nochunk 0 43 0\n",
+        NONE,
+    ),
+    // one chunk is free, and too small
+    (
+        &[
+            "serve",
+            "P",
+            "--chunk",
+            "80",
+            "--max-path",
+            "48",
+            "--chunks",
+            "1",
+            "--extra",
+            "1",
+            "--extra-size",
+            "32",
+        ],
+        SHALLOW,
+        NONE,
+        12,
+        b"run 0 0 0\nstop nochunk 0 43 1\n",
         NONE,
     ),
     (

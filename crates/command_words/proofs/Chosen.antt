@@ -1,5 +1,5 @@
 -- The texts that were given choose one value.
-use Rattle.std.proofs.Common.{◌≡◌, ◌∙◌, ℕ, ◌-◌, ◌*◌, ◌%◌, ◌<◌, ◌≤◌, refl, ap, sym, subst, arith, false, true≢false, List, [], ◌∷◌, map, Option, Some, None, IfNone, codes}
+use Rattle.std.proofs.Common.{◌≡◌, ◌∙◌, ℕ, ◌+◌, ◌-◌, ◌*◌, ◌%◌, ◌<◌, ◌≤◌, refl, ap, sym, subst, arith, false, true≢false, List, [], ◌∷◌, map, Option, Some, None, IfNone, codes}
 use Rattle.std.specs.Str.{bytes_eq}
 use Rattle.std.proofs.lemmas.Slice.Eq.{bytes_eq-Decides}
 use Rattle.cap_text.proofs.DecimalLaws.{decimal_unique}
@@ -9,7 +9,7 @@ use Rattle.command_words.specs.declared.options.Rule.{Rule}
 use Rattle.command_words.specs.declared.options.Rule.TheVariants.{Graph, Stride}
 use Rattle.command_words.specs.declared.options.Tickets.{Tickets}
 use Rattle.command_words.specs.Values.{IsChosen, IsNumber, IsPlacement, IsPolicy, AreCaps, AreCapsAbove, cap_text, caps_of, default_max_path, AreTickets, IsRule, rule_name, ticket_text, tickets_of}
-use Rattle.command_words.specs.WordList.{Request, Serve, Run, Build, Check, Graph, Demo}
+use Rattle.command_words.specs.WordList.{Request, Serve, Run, Build, Check, Graph, Demo, Budget}
 use Rattle.command_words.specs.Asked.{Texts, IsAsked, HasThree}
 use Rattle.command_words.proofs.CapsSoFar.{Caps, one_cap}
 use Rattle.command_words.proofs.TicketsSoFar.{ticket_parts}
@@ -94,6 +94,8 @@ one_rule given tickets (Stride t) (Stride u) is same = ap Stride (one_tickets ti
 pub one_policy : (given : Texts) (p q : Policy) → IsPolicy given p → IsPolicy given q → p ≡ q
 one_policy given p q is same =
     let chunks = one_chosen (given (codes "--chunks")) 1024 p.chunks q.chunks is.chunks.chosen same.chunks.chosen in
+    let extra = one_chosen (given (codes "--extra")) 0 p.extra q.extra is.extra.chosen same.extra.chosen in
+    let extra_bytes = one_chosen (given (codes "--extra-size")) 64 p.extra_bytes q.extra_bytes is.extra_bytes.chosen same.extra_bytes.chosen in
     let fuel = one_chosen (given (codes "--fuel")) 10000000 p.fuel q.fuel is.fuel.chosen same.fuel.chosen in
     let backlog = one_chosen (given (codes "--backlog")) 64 p.backlog q.backlog is.backlog.chosen same.backlog.chosen in
     let caps = one_caps (given (codes "--caps")) p.caps q.caps is.caps same.caps in
@@ -101,7 +103,7 @@ one_policy given p q is same =
     let low = one_chosen (given (codes "--low")) 700 p.low q.low is.low.chosen same.low.chosen in
     let rule = one_rule (given (codes "--rule")) (given (codes "--tickets")) p.rule q.rule is.rule same.rule in
     let knee = one_chosen (given (codes "--knee")) 0 p.knee q.knee is.knee.chosen same.knee.chosen in
-    λ i. record { chunks = chunks i; fuel = fuel i; backlog = backlog i; caps = caps i; high = high i; low = low i; rule = rule i; knee = knee i }
+    λ i. record { chunks = chunks i; extra = extra i; extra_bytes = extra_bytes i; fuel = fuel i; backlog = backlog i; caps = caps i; high = high i; low = low i; rule = rule i; knee = knee i }
 
 -- a chunk is chosen that is no multiple of 16
 pub no_whole : (given : Texts) (chunk : ℕ) → IsNumber (given (codes "--chunk")) 4096 64 65536 chunk → (chunk % 16 ≡ 0 → ⊥) → (p : Placement) → IsPlacement given p → ⊥
@@ -139,17 +141,26 @@ no_three given name is serve graph demo none (Run source image certificate polic
 no_three given name is serve graph demo none (Build source image certificate placement) asked = none (codes "build") source image certificate asked.0
 no_three given name is serve graph demo none (Check source image certificate) asked = none (codes "check") source image certificate asked.0
 no_three given name is serve graph demo none (Graph source placement) asked = other_name given name (codes "graph") is asked.0.0 graph
+no_three given name is serve graph demo none (Budget source image certificate) asked = none (codes "budget") source image certificate asked.0
 no_three given name is serve graph demo none (Demo number) asked = other_name given name (codes "demo") is asked.0.0 demo
+
+-- a size of the chunks that are added is chosen that is no multiple of 16
+pub no_extra : (given : Texts) (bytes : ℕ) → IsNumber (given (codes "--extra-size")) 64 32 65536 bytes → (bytes % 16 ≡ 0 → ⊥) → (p : Policy) → IsPolicy given p → ⊥
+no_extra given bytes chosen other p is =
+    let same = one_chosen (given (codes "--extra-size")) 64 p.extra_bytes bytes is.extra_bytes.chosen chosen.chosen in
+    other (subst (λ (b : ℕ). b % 16 ≡ 0) same is.extra_whole)
 
 -- the pool would be too large
 pub no_pool : (given : Texts) (placement : Placement) (policy : Policy) → given (codes "command") ≡ Some (codes "serve") → IsPlacement given placement → IsPolicy given policy
-    → 67108864 < placement.chunk * policy.chunks → (request : Request) → IsAsked given request → ⊥
+    → 67108864 < placement.chunk * policy.chunks + policy.extra_bytes * policy.extra → (request : Request) → IsAsked given request → ⊥
 no_pool given placement policy is placed ruled large (Serve source p q) asked =
-    let small : placement.chunk * policy.chunks ≤ 67108864 = subst (λ (x : Placement). x.chunk * policy.chunks ≤ 67108864) (one_placement given p placement asked.1 placed)
-    (subst (λ (x : Policy). p.chunk * x.chunks ≤ 67108864) (one_policy given q policy asked.2 ruled) asked.3) in
+    let small : placement.chunk * policy.chunks + policy.extra_bytes * policy.extra ≤ 67108864 =
+    subst (λ (x : Placement). x.chunk * policy.chunks + policy.extra_bytes * policy.extra ≤ 67108864) (one_placement given p placement asked.1 placed)
+    (subst (λ (x : Policy). p.chunk * x.chunks + x.extra_bytes * x.extra ≤ 67108864) (one_policy given q policy asked.2 ruled) asked.3) in
     absurd (omega arith)
 no_pool given placement policy is placed ruled large (Run source image certificate q) asked = other_name given (codes "serve") (codes "run") is asked.0.0 refl
 no_pool given placement policy is placed ruled large (Build source image certificate p) asked = other_name given (codes "serve") (codes "build") is asked.0.0 refl
 no_pool given placement policy is placed ruled large (Check source image certificate) asked = other_name given (codes "serve") (codes "check") is asked.0.0 refl
 no_pool given placement policy is placed ruled large (Graph source p) asked = other_name given (codes "serve") (codes "graph") is asked.0.0 refl
+no_pool given placement policy is placed ruled large (Budget source image certificate) asked = other_name given (codes "serve") (codes "budget") is asked.0.0 refl
 no_pool given placement policy is placed ruled large (Demo number) asked = other_name given (codes "serve") (codes "demo") is asked.0.0 refl

@@ -7,7 +7,7 @@ use Rattle.command_words.specs.declared.options.Placement.{Placement}
 use Rattle.command_words.specs.declared.options.Policy.{Policy}
 use Rattle.command_words.specs.Said.{Said, Given, Positional, words_of, IsPlain, IsPlainSaid, positionals_of, options_of, value_of, IsOneOf}
 use Rattle.command_words.specs.Values.{IsPlacement, IsPolicy, default_max_path, IsNumber, AreCaps, IsRule}
-use Rattle.command_words.specs.WordList.{Request, Serve, Run, Build, Check, Graph, Demo, Says, IsWordList, placement_options, policy_options}
+use Rattle.command_words.specs.WordList.{Request, Serve, Run, Build, Check, Graph, Demo, Budget, Says, IsWordList, placement_options, policy_options}
 use Rattle.command_words.specs.Parse.{all_options, command_names, IsWord, IsReadable, IsSaid, Tells, IsReadAs}
 use Rattle.command_words.specs.Asked.{Texts, LacksAll, HasOne, HasThree, IsAsked}
 use Rattle.std.proofs.lemmas.Slice.Eq.{bytes_eq-Decides}
@@ -135,6 +135,9 @@ is_graph = inr (inr (inr (inr (inl refl))))
 is_demo : IsCommand (codes "demo")
 is_demo = inr (inr (inr (inr (inr (inl refl)))))
 
+is_budget : IsCommand (codes "budget")
+is_budget = inr (inr (inr (inr (inr (inr (inl refl))))))
+
 -- ---- word lists as the parser has them
 
 readable_rest : (said : List Said) → AllByRecursion IsPlainSaid said → AllByRecursion (IsOneOf all_options) (options_of said) → AllByRecursion IsWord (flat_map words_of said)
@@ -178,6 +181,7 @@ name_of (Build source image certificate placement) = codes "build"
 name_of (Check source image certificate) = codes "check"
 name_of (Graph source placement) = codes "graph"
 name_of (Demo number) = codes "demo"
+name_of (Budget source image certificate) = codes "budget"
 
 abbrev pub said_in : (words : List Text) (request : Request) → IsWordList words request → List Said
 said_in words (Serve source placement policy) is = is.0
@@ -186,6 +190,7 @@ said_in words (Build source image certificate placement) is = is.0
 said_in words (Check source image certificate) is = is.0
 said_in words (Graph source placement) is = is.0
 said_in words (Demo number) is = is.0
+said_in words (Budget source image certificate) is = is.0
 
 -- a word list is readable, and says what its command says
 pub whole_list : (words : List Text) (request : Request) (is : IsWordList words request) → IsWhole words (name_of request) (said_in words request is)
@@ -195,6 +200,7 @@ whole_list words (Build source image certificate placement) is = whole_of words 
 whole_list words (Check source image certificate) is = whole_of words _ _ [] is.0 is.1 is_check none_within (omega arith)
 whole_list words (Graph source placement) is = whole_of words _ _ placement_options is.0 is.1 is_graph placement_within (omega arith)
 whole_list words (Demo number) is = whole_of words _ _ [] is.0 is.1 is_demo none_within (omega arith)
+whole_list words (Budget source image certificate) is = whole_of words _ _ [] is.0 is.1 is_budget none_within (omega arith)
 
 -- ---- the texts of the options tell the same
 
@@ -208,14 +214,17 @@ placement_along f g p same is = record {
 policy_along : (f g : Texts) (p : Policy) → AllByRecursion (λ option. f option ≡ g option) policy_options → IsPolicy f p → IsPolicy g p
 policy_along f g p same is = record {
   chunks = subst (λ (t : Option Text). IsNumber t 1024 1 65536 p.chunks) same.0 is.chunks;
-  fuel = subst (λ (t : Option Text). IsNumber t 10000000 0 1000000000 p.fuel) same.1.0 is.fuel;
-  backlog = subst (λ (t : Option Text). IsNumber t 64 1 4096 p.backlog) same.1.1.0 is.backlog;
-  caps = subst (λ (t : Option Text). AreCaps t p.caps) same.1.1.1.0 is.caps;
-  high = subst (λ (t : Option Text). IsNumber t 900 1 1000 p.high) same.1.1.1.1.0 is.high;
-  low = subst (λ (t : Option Text). IsNumber t 700 0 (p.high - 1) p.low) same.1.1.1.1.1.0 is.low;
-  rule = subst (λ (t : Option Text). IsRule t (g (codes "--tickets")) p.rule) same.1.1.1.1.1.1.0
-      (subst (λ (t : Option Text). IsRule (f (codes "--rule")) t p.rule) same.1.1.1.1.1.1.1.0 is.rule);
-  knee = subst (λ (t : Option Text). IsNumber t 0 0 999 p.knee) same.1.1.1.1.1.1.1.1.0 is.knee;
+  extra = subst (λ (t : Option Text). IsNumber t 0 0 65536 p.extra) same.1.0 is.extra;
+  extra_bytes = subst (λ (t : Option Text). IsNumber t 64 32 65536 p.extra_bytes) same.1.1.0 is.extra_bytes;
+  extra_whole = is.extra_whole;
+  fuel = subst (λ (t : Option Text). IsNumber t 10000000 0 1000000000 p.fuel) same.1.1.1.0 is.fuel;
+  backlog = subst (λ (t : Option Text). IsNumber t 64 1 4096 p.backlog) same.1.1.1.1.0 is.backlog;
+  caps = subst (λ (t : Option Text). AreCaps t p.caps) same.1.1.1.1.1.0 is.caps;
+  high = subst (λ (t : Option Text). IsNumber t 900 1 1000 p.high) same.1.1.1.1.1.1.0 is.high;
+  low = subst (λ (t : Option Text). IsNumber t 700 0 (p.high - 1) p.low) same.1.1.1.1.1.1.1.0 is.low;
+  rule = subst (λ (t : Option Text). IsRule t (g (codes "--tickets")) p.rule) same.1.1.1.1.1.1.1.1.0
+      (subst (λ (t : Option Text). IsRule (f (codes "--rule")) t p.rule) same.1.1.1.1.1.1.1.1.1.0 is.rule);
+  knee = subst (λ (t : Option Text). IsNumber t 0 0 999 p.knee) same.1.1.1.1.1.1.1.1.1.1.0 is.knee;
 }
 
 turned : (f g : Texts) (names : List Text) → AllByRecursion (λ option. f option ≡ g option) names → AllByRecursion (λ option. g option ≡ f option) names
@@ -247,13 +256,13 @@ agrees given said all = record {
 
 no_placement : (said : List Said) → AllByRecursion (IsOneOf policy_options) (options_of said) → LacksAll (value_of said) placement_options
 no_placement said known = (
-  absent said policy_options (codes "--chunk") known (refl, (refl, (refl, (refl, (refl, (refl, (refl, (refl, (refl, tt))))))))),
-  (absent said policy_options (codes "--max-path") known (refl, (refl, (refl, (refl, (refl, (refl, (refl, (refl, (refl, tt))))))))), tt),
+  absent said policy_options (codes "--chunk") known (refl, (refl, (refl, (refl, (refl, (refl, (refl, (refl, (refl, (refl, (refl, tt))))))))))),
+  (absent said policy_options (codes "--max-path") known (refl, (refl, (refl, (refl, (refl, (refl, (refl, (refl, (refl, (refl, (refl, tt))))))))))), tt),
 )
 
 no_policy : (said : List Said) → AllByRecursion (IsOneOf placement_options) (options_of said) → LacksAll (value_of said) policy_options
 no_policy said known =
-    (absent said placement_options (codes "--chunks") known (refl, (refl, tt)), (absent said placement_options (codes "--fuel") known (refl, (refl, tt)), (absent said placement_options (codes "--backlog") known (refl, (refl, tt)), (absent said placement_options (codes "--caps") known (refl, (refl, tt)), (absent said placement_options (codes "--high") known (refl, (refl, tt)), (absent said placement_options (codes "--low") known (refl, (refl, tt)), (absent said placement_options (codes "--rule") known (refl, (refl, tt)), (absent said placement_options (codes "--tickets") known (refl, (refl, tt)), (absent said placement_options (codes "--knee") known (refl, (refl, tt)), tt)))))))))
+    (absent said placement_options (codes "--chunks") known (refl, (refl, tt)), (absent said placement_options (codes "--extra") known (refl, (refl, tt)), (absent said placement_options (codes "--extra-size") known (refl, (refl, tt)), (absent said placement_options (codes "--fuel") known (refl, (refl, tt)), (absent said placement_options (codes "--backlog") known (refl, (refl, tt)), (absent said placement_options (codes "--caps") known (refl, (refl, tt)), (absent said placement_options (codes "--high") known (refl, (refl, tt)), (absent said placement_options (codes "--low") known (refl, (refl, tt)), (absent said placement_options (codes "--rule") known (refl, (refl, tt)), (absent said placement_options (codes "--tickets") known (refl, (refl, tt)), (absent said placement_options (codes "--knee") known (refl, (refl, tt)), tt)))))))))))
 
 no_options : (said : List Said) (names : List Text) → AllByRecursion (IsOneOf []) (options_of said) → LacksAll (value_of said) names
 no_options said [] known = tt
@@ -301,6 +310,12 @@ asks words given (Graph source placement) is tells =
       one_word given (codes "graph") source is.0 tells is.1.positional,
       placement_along (value_of is.0) given placement (turned given (value_of is.0) placement_options parts.placed) is.2,
       lacks_along (value_of is.0) given policy_options (turned given (value_of is.0) policy_options parts.ruled) (no_policy is.0 is.1.known),
+    )
+asks words given (Budget source image certificate) is tells =
+    let parts = agrees given is.0 tells.options in (
+      three_words given (codes "budget") source image certificate is.0 tells is.1.positional,
+      lacks_along (value_of is.0) given placement_options (turned given (value_of is.0) placement_options parts.placed) (no_options is.0 placement_options is.1.known),
+      lacks_along (value_of is.0) given policy_options (turned given (value_of is.0) policy_options parts.ruled) (no_options is.0 policy_options is.1.known),
     )
 asks words given (Demo number) is tells =
     let parts = agrees given is.0 tells.options in (
@@ -430,6 +445,8 @@ is_list words given b (Graph source placement) asked =
       says_of words given b (codes "graph") (source ∷ []) placement_options asked.0.0 (place_of_one words given b (codes "graph") source asked.0) (only_placement words given b asked.2),
       placement_along given (value_of b.rest) placement parts.placed asked.1,
     )
+is_list words given b (Budget source image certificate) asked =
+    (b.rest, says_of words given b (codes "budget") (source ∷ image ∷ certificate ∷ []) [] asked.0.0 (places_of_three words given b (codes "budget") source image certificate asked.0) (only_none words given b asked.1 asked.2))
 is_list words given b (Demo number) asked = (
   b.rest,
   says_of words given b (codes "demo") (canonical_decimal number ∷ []) [] asked.0.0 (place_of_one words given b (codes "demo") (canonical_decimal number) asked.0) (only_none words given b asked.3 asked.4),

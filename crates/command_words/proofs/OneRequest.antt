@@ -9,7 +9,7 @@ use Rattle.command_words.specs.declared.options.Placement.{Placement}
 use Rattle.command_words.specs.declared.options.Policy.{Policy}
 use Rattle.command_words.specs.Said.{Said, Positional, positionals_of, value_of}
 use Rattle.command_words.specs.Values.{IsPlacement, IsPolicy}
-use Rattle.command_words.specs.WordList.{Request, Serve, Run, Build, Check, Graph, Demo, IsWordList}
+use Rattle.command_words.specs.WordList.{Request, Serve, Run, Build, Check, Graph, Demo, Budget, IsWordList}
 use Rattle.command_words.proofs.Lists.{name_of, said_in, whole_list, one_said}
 use Rattle.command_words.proofs.Chosen.{one_placement, one_policy}
 
@@ -66,9 +66,14 @@ one_request words (Demo number) (Demo other) is also =
     let same = same_said words (Demo number) (Demo other) is also in
     let names : canonical_decimal number ∷ [] ≡ canonical_decimal other ∷ [] = same_words is.0 also.0 (canonical_decimal number ∷ []) (canonical_decimal other ∷ []) same is.1.positional also.1.positional in
     ap Demo (decimal_unique number other (cc))
+one_request words (Budget source image certificate) (Budget a b c) is also =
+    let same = same_said words (Budget source image certificate) (Budget a b c) is also in
+    let names : source ∷ image ∷ certificate ∷ [] ≡ a ∷ b ∷ c ∷ [] = same_words is.0 also.0 (source ∷ image ∷ certificate ∷ []) (a ∷ b ∷ c ∷ []) same is.1.positional also.1.positional in
+    cc
 one_request words (Serve source p q) b is also = absurd (other_command words (Serve source p q) b is also refl)
 one_request words (Run source image certificate p) b is also = absurd (other_command words (Run source image certificate p) b is also refl)
 one_request words (Build source image certificate p) b is also = absurd (other_command words (Build source image certificate p) b is also refl)
 one_request words (Check source image certificate) b is also = absurd (other_command words (Check source image certificate) b is also refl)
 one_request words (Graph source p) b is also = absurd (other_command words (Graph source p) b is also refl)
 one_request words (Demo number) b is also = absurd (other_command words (Demo number) b is also refl)
+one_request words (Budget source image certificate) b is also = absurd (other_command words (Budget source image certificate) b is also refl)

@@ -22,7 +22,7 @@ abbrev HaveNoDefaults : List Rule → Type 0
 HaveNoDefaults = AllByRecursion (λ a. a.defaults ≡ [])
 
 none_in_rules : HaveNoDefaults rules
-none_in_rules = (refl, (refl, (refl, (refl, (refl, (refl, (refl, (refl, (refl, (refl, (refl, (refl, (refl, (refl, (refl, tt)))))))))))))))
+none_in_rules = (refl, (refl, (refl, (refl, (refl, (refl, (refl, (refl, (refl, (refl, (refl, (refl, (refl, (refl, (refl, (refl, (refl, tt)))))))))))))))))
 
 no_default : (rows : List Row) (a : Rule) → a.defaults ≡ [] → with_default rows a ≡ rows
 no_default rows a none = go (has_row a.id rows)
@@ -109,7 +109,8 @@ plain_command first (inr (inr (inl e))) = plain_as first 98 (codes "uild") e ref
 plain_command first (inr (inr (inr (inl e)))) = plain_as first 99 (codes "heck") e refl
 plain_command first (inr (inr (inr (inr (inl e))))) = plain_as first 103 (codes "raph") e refl
 plain_command first (inr (inr (inr (inr (inr (inl e)))))) = plain_as first 100 (codes "emo") e refl
-plain_command first (inr (inr (inr (inr (inr (inr none)))))) = absurd none
+plain_command first (inr (inr (inr (inr (inr (inr (inl e))))))) = plain_as first 98 (codes "udget") e refl
+plain_command first (inr (inr (inr (inr (inr (inr (inr none))))))) = absurd none
 
 -- the words that reach the parser are values, positional words and options
 all_words : (words : List Text) → IsReadable words → AllByRecursion IsWord words
@@ -134,7 +135,7 @@ tells_options said few [] known = tt
 tells_options said few (option ∷ options) known = (option_told places said option bare_places (is_option option known.0) few, tells_options said few options known.1)
 
 all_known : AllByRecursion (IsOneOf all_options) all_options
-all_known = (inl refl, (inr (inl refl), (inr (inr (inl refl)), (inr (inr (inr (inl refl))), (inr (inr (inr (inr (inl refl)))), (inr (inr (inr (inr (inr (inl refl))))), (inr (inr (inr (inr (inr (inr (inl refl)))))), (inr (inr (inr (inr (inr (inr (inr (inl refl))))))), (inr (inr (inr (inr (inr (inr (inr (inr (inl refl)))))))), (inr (inr (inr (inr (inr (inr (inr (inr (inr (inl refl))))))))), (inr (inr (inr (inr (inr (inr (inr (inr (inr (inr (inl refl)))))))))), tt)))))))))))
+all_known = (inl refl, (inr (inl refl), (inr (inr (inl refl)), (inr (inr (inr (inl refl))), (inr (inr (inr (inr (inl refl)))), (inr (inr (inr (inr (inr (inl refl))))), (inr (inr (inr (inr (inr (inr (inl refl)))))), (inr (inr (inr (inr (inr (inr (inr (inl refl))))))), (inr (inr (inr (inr (inr (inr (inr (inr (inl refl)))))))), (inr (inr (inr (inr (inr (inr (inr (inr (inr (inl refl))))))))), (inr (inr (inr (inr (inr (inr (inr (inr (inr (inr (inl refl)))))))))), (inr (inr (inr (inr (inr (inr (inr (inr (inr (inr (inr (inl refl))))))))))), (inr (inr (inr (inr (inr (inr (inr (inr (inr (inr (inr (inr (inl refl)))))))))))), tt)))))))))))))
 
 tells : (said : List Said) → AllByRecursion (IsOneOf all_options) (options_of said) → length (positionals_of said) ≤ 4 → Tells (told said) said
 tells said known few = record {

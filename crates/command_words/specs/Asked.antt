@@ -1,10 +1,10 @@
 -- The command that texts by name ask for: those of the options, and of the positional words `command`, `first`,
 -- `second` and `third`.
-use Rattle.std.specs.Prelude.{ℕ, ◌≡◌, ◌*◌, ◌≤◌, List, codes, Option, Some, None}
+use Rattle.std.specs.Prelude.{ℕ, ◌≡◌, ◌+◌, ◌*◌, ◌≤◌, List, codes, Option, Some, None}
 use Rattle.std.specs.List.{AllByRecursion}
 use Rattle.cap_text.specs.Decimals.{canonical_decimal}
 use Rattle.command_words.specs.Values.{IsPlacement, IsPolicy}
-use Rattle.command_words.specs.WordList.{Request, Serve, Run, Build, Check, Graph, Demo, placement_options, policy_options}
+use Rattle.command_words.specs.WordList.{Request, Serve, Run, Build, Check, Graph, Demo, Budget, placement_options, policy_options}
 
 abbrev pub Texts : Type 0
 Texts = List ℕ → Option (List ℕ)
@@ -23,7 +23,7 @@ HasThree given name first second third = (given (codes "command") ≡ Some name)
 
 abbrev pub IsAsked : Texts → Request → Type 0
 IsAsked given (Serve source placement policy) = HasOne given (codes "serve") source
-    × IsPlacement given placement × IsPolicy given policy × (placement.chunk * policy.chunks ≤ 67108864)
+    × IsPlacement given placement × IsPolicy given policy × (placement.chunk * policy.chunks + policy.extra_bytes * policy.extra ≤ 67108864)
 IsAsked given (Run source image certificate policy) = HasThree given (codes "run") source image certificate
     × LacksAll given placement_options × IsPolicy given policy
 IsAsked given (Build source image certificate placement) = HasThree given (codes "build") source image certificate
@@ -34,3 +34,5 @@ IsAsked given (Graph source placement) = HasOne given (codes "graph") source
     × IsPlacement given placement × LacksAll given policy_options
 IsAsked given (Demo number) = HasOne given (codes "demo") (canonical_decimal number)
     × (1 ≤ number) × (number ≤ 1000) × LacksAll given placement_options × LacksAll given policy_options
+IsAsked given (Budget source image certificate) = HasThree given (codes "budget") source image certificate
+    × LacksAll given placement_options × LacksAll given policy_options

@@ -7,7 +7,7 @@ use Rattle.command_words.specs.Said.{Said, words_of, IsPlain, IsPlainSaid, posit
 use Rattle.command_words.specs.WordList.{placement_options, policy_options}
 
 abbrev pub command_names : List (List ℕ)
-command_names = codes "serve" ∷ codes "run" ∷ codes "build" ∷ codes "check" ∷ codes "graph" ∷ codes "demo" ∷ []
+command_names = codes "serve" ∷ codes "run" ∷ codes "build" ∷ codes "check" ∷ codes "graph" ∷ codes "demo" ∷ codes "budget" ∷ []
 
 abbrev pub all_options : List (List ℕ)
 all_options = placement_options ++ policy_options
@@ -56,7 +56,8 @@ with_placement app = with_option (codes "--max-path") (codes "max-path") (with_o
 abbrev pub with_policy : App → App
 with_policy app = with_option (codes "--knee") (codes "knee") (with_option (codes "--tickets") (codes "tickets") (with_option (codes "--rule") (codes "rule")
     (with_option (codes "--low") (codes "low") (with_option (codes "--high") (codes "high") (with_option (codes "--caps") (codes "caps")
-    (with_option (codes "--backlog") (codes "backlog") (with_option (codes "--fuel") (codes "fuel") (with_option (codes "--chunks") (codes "chunks") app))))))))
+    (with_option (codes "--backlog") (codes "backlog") (with_option (codes "--fuel") (codes "fuel")
+    (with_option (codes "--extra-size") (codes "extra-size") (with_option (codes "--extra") (codes "extra") (with_option (codes "--chunks") (codes "chunks") app))))))))))
 
 abbrev pub words_app : App
 words_app = with_policy (with_placement (with_positionals (on_top (λ top. record top { no_binary_name = true; disable_help_flag = true }) (new_app (codes "capriccio")))))

@@ -98,6 +98,9 @@ IsRule given tickets_given (Stride tickets) = (rule_name given ≡ codes "stride
 
 pub record IsPolicy (given : List ℕ → Option (List ℕ)) (policy : Policy) : Type 0 where
   pub chunks : IsNumber (given (codes "--chunks")) 1024 1 65536 policy.chunks
+  pub extra : IsNumber (given (codes "--extra")) 0 0 65536 policy.extra
+  pub extra_bytes : IsNumber (given (codes "--extra-size")) 64 32 65536 policy.extra_bytes
+  pub extra_whole : policy.extra_bytes % 16 ≡ 0
   pub fuel : IsNumber (given (codes "--fuel")) 10000000 0 1000000000 policy.fuel
   pub backlog : IsNumber (given (codes "--backlog")) 64 1 4096 policy.backlog
   pub caps : AreCaps (given (codes "--caps")) policy.caps

@@ -1,5 +1,5 @@
 -- What is a list of words for the program, and for which command.
-use Rattle.std.specs.Prelude.{ℕ, ◌≡◌, ◌*◌, ◌≤◌, List, [], ◌∷◌, ◌++◌, codes}
+use Rattle.std.specs.Prelude.{ℕ, ◌≡◌, ◌+◌, ◌*◌, ◌≤◌, List, [], ◌∷◌, ◌++◌, codes}
 use Rattle.std.specs.List.{flat_map, AllByRecursion}
 use Rattle.cap_text.specs.Decimals.{canonical_decimal}
 use Rattle.command_words.specs.Said.{Said, words_of, IsPlainSaid, positionals_of, options_of, value_of, IsOneOf, AreOnce}
@@ -17,6 +17,7 @@ pub data Request : Type 0 where
   Check : (source image certificate : List ℕ) → Request
   Graph : (source : List ℕ) → Placement → Request
   Demo : ℕ → Request
+  Budget : (source image certificate : List ℕ) → Request
 
 -- the same, of the value that is handed out
 abbrev pub request_of : Command → Request
@@ -26,12 +27,13 @@ request_of (command.Build source image certificate placement) = Build source.now
 request_of (command.Check source image certificate) = Check source.now image.now certificate.now
 request_of (command.Graph source placement) = Graph source.now placement
 request_of (command.Demo number) = Demo number
+request_of (command.Budget source image certificate) = Budget source.now image.now certificate.now
 
 abbrev pub placement_options : List (List ℕ)
 placement_options = codes "--chunk" ∷ codes "--max-path" ∷ []
 
 abbrev pub policy_options : List (List ℕ)
-policy_options = codes "--chunks" ∷ codes "--fuel" ∷ codes "--backlog" ∷ codes "--caps" ∷ codes "--high" ∷ codes "--low"
+policy_options = codes "--chunks" ∷ codes "--extra" ∷ codes "--extra-size" ∷ codes "--fuel" ∷ codes "--backlog" ∷ codes "--caps" ∷ codes "--high" ∷ codes "--low"
     ∷ codes "--rule" ∷ codes "--tickets" ∷ codes "--knee" ∷ []
 
 -- the words are the command's name and, in any order, just these positional words and some of these options, each at
@@ -46,7 +48,7 @@ pub record Says (words : List (List ℕ)) (name : List ℕ) (positionals options
 -- the words ask for the command
 abbrev pub IsWordList : List (List ℕ) → Request → Type 0
 IsWordList words (Serve source placement policy) = (said : List Said) × Says words (codes "serve") (source ∷ []) (placement_options ++ policy_options) said
-    × IsPlacement (value_of said) placement × IsPolicy (value_of said) policy × (placement.chunk * policy.chunks ≤ 67108864)
+    × IsPlacement (value_of said) placement × IsPolicy (value_of said) policy × (placement.chunk * policy.chunks + policy.extra_bytes * policy.extra ≤ 67108864)
 IsWordList words (Run source image certificate policy) = (said : List Said) × Says words (codes "run") (source ∷ image ∷ certificate ∷ []) policy_options said
     × IsPolicy (value_of said) policy
 IsWordList words (Build source image certificate placement) = (said : List Said) × Says words (codes "build") (source ∷ image ∷ certificate ∷ []) placement_options said
@@ -56,3 +58,4 @@ IsWordList words (Graph source placement) = (said : List Said) × Says words (co
     × IsPlacement (value_of said) placement
 IsWordList words (Demo number) = (said : List Said) × Says words (codes "demo") (canonical_decimal number ∷ []) [] said
     × (1 ≤ number) × (number ≤ 1000)
+IsWordList words (Budget source image certificate) = (said : List Said) × Says words (codes "budget") (source ∷ image ∷ certificate ∷ []) [] said

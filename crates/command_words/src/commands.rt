@@ -39,6 +39,12 @@ pub enum Command<'a> {
     Demo {
         number: u32,
     },
+    /// Checks a source with its image and certificate and tells how many chunks are enough.
+    Budget {
+        source: &'a str,
+        image: &'a str,
+        certificate: &'a str,
+    },
 }
 
 /// Why no command is read.

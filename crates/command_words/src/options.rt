@@ -31,8 +31,12 @@ pub enum Rule {
 /// The options of a run.
 #[derive(Clone, Copy, PartialEq, Eq)]
 pub struct Policy {
-    /// The number of chunks: from 1 to 65,536.
+    /// The number of chunks of the certificate's size: from 1 to 65,536.
     pub chunks: u32,
+    /// The number of chunks that are added: at most 65,536.
+    pub extra: u32,
+    /// The bytes of each of these: a multiple of 16 from 32 to 65,536.
+    pub extra_bytes: u32,
     /// The number of instructions after which the run stops: at most 1,000,000,000.
     pub fuel: u64,
     /// How many arrivals wait at most: from 1 to 4,096.

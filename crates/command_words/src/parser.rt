@@ -64,6 +64,8 @@ fn with_policy<'a>(alloc: Global, command: Built<'a>) -> Built<'a>
     ensures { (app : App) → IfOk command.entry (λ old. app_of old ≡ app) → IfOk result (λ new. app_of new ≡ with_policy app) }
 {
     let command = with_option(alloc, command, "--chunks", "chunks");
+    let command = with_option(alloc, command, "--extra", "extra");
+    let command = with_option(alloc, command, "--extra-size", "extra-size");
     let command = with_option(alloc, command, "--fuel", "fuel");
     let command = with_option(alloc, command, "--backlog", "backlog");
     let command = with_option(alloc, command, "--caps", "caps");

@@ -4,7 +4,7 @@ ghost use Rattle.clap.specs.Words.{first_value, found_of};
 ghost use Rattle.command_words.specs.declared.options.Placement.{Placement};
 ghost use Rattle.command_words.specs.declared.options.Policy.{Policy};
 ghost use Rattle.command_words.specs.Values.{IsPlacement, IsPolicy};
-ghost use Rattle.command_words.specs.WordList.{Request, Serve, Run, Build, Check, Graph, Demo, request_of, placement_options, policy_options};
+ghost use Rattle.command_words.specs.WordList.{Request, Serve, Run, Build, Check, Graph, Demo, Budget, request_of, placement_options, policy_options};
 ghost use Rattle.command_words.specs.Asked.{IsAsked, LacksAll, HasOne, HasThree};
 
 use crate::commands::Command;
@@ -28,6 +28,7 @@ pub(crate) fn command_of<'a>(matches: &ArgMatches<'a>) -> Option<Command<'a>>
         "check" => check(matches),
         "graph" => graph(matches),
         "demo" => demo(matches),
+        "budget" => budget(matches),
         _ => None,
     }
 }
@@ -41,7 +42,8 @@ fn serve<'a>(matches: &ArgMatches<'a>) -> Option<Command<'a>>
     let source = one_name(matches)?;
     let placement = placement(matches)?;
     let policy = policy(matches)?;
-    if u64::from(placement.chunk) * u64::from(policy.chunks) > MOST_BYTES {
+    let extra_bytes = u64::from(policy.extra_bytes) * u64::from(policy.extra);
+    if u64::from(placement.chunk) * u64::from(policy.chunks) + extra_bytes > MOST_BYTES {
         return None;
     }
     Some(Command::Serve {
@@ -119,6 +121,20 @@ fn demo<'a>(matches: &ArgMatches<'a>) -> Option<Command<'a>>
     (without_placement(matches) && without_policy(matches)).then_some(Command::Demo { number })
 }
 
+/// The command `budget`, where the words are one of it.
+fn budget<'a>(matches: &ArgMatches<'a>) -> Option<Command<'a>>
+    requires { first_value (found_of matches.now) (codes "command") ≡ Some (codes "budget") }
+    ensures found { IfSome result (λ command. IsAsked (λ name. first_value (found_of matches.now) name) (request_of command)) }
+    ensures none { IfNone result ((request : Request) → IsAsked (λ name. first_value (found_of matches.now) name) request → ⊥) }
+{
+    let (source, image, certificate) = three_names(matches)?;
+    (without_placement(matches) && without_policy(matches)).then_some(Command::Budget {
+        source,
+        image,
+        certificate,
+    })
+}
+
 /// The one positional word behind the command.
 fn one_name<'a>(matches: &ArgMatches<'a>) -> Option<&'a str>
     ensures found { IfSome result (λ word. (first_value (found_of matches.now) (codes "first") ≡ Some word.now) × (first_value (found_of matches.now) (codes "second") ≡ None)) }
@@ -154,6 +170,8 @@ fn without_policy(matches: &ArgMatches<'_>) -> bool
     ensures { IsTrue result ↔ LacksAll (λ name. first_value (found_of matches.now) name) policy_options }
 {
     is_absent(matches, "--chunks")
+        && is_absent(matches, "--extra")
+        && is_absent(matches, "--extra-size")
         && is_absent(matches, "--fuel")
         && is_absent(matches, "--backlog")
         && is_absent(matches, "--caps")
@@ -199,6 +217,11 @@ fn policy(matches: &ArgMatches<'_>) -> Option<Policy>
     ensures none { IfNone result ((policy : Policy) → IsPolicy (λ name. first_value (found_of matches.now) name) policy → ⊥) }
 {
     let chunks = number(matches.get_str("--chunks"), 1024, 1, 65_536)? as u32;
+    let extra = number(matches.get_str("--extra"), 0, 0, 65_536)? as u32;
+    let extra_bytes = number(matches.get_str("--extra-size"), 64, 32, 65_536)? as u32;
+    if extra_bytes % 16 != 0 {
+        return None;
+    }
     let fuel = number(matches.get_str("--fuel"), 10_000_000, 0, 1_000_000_000)?;
     let backlog = number(matches.get_str("--backlog"), 64, 1, 4096)? as u32;
     let caps = caps(matches.get_str("--caps"))?;
@@ -208,6 +231,8 @@ fn policy(matches: &ArgMatches<'_>) -> Option<Policy>
     let knee = number(matches.get_str("--knee"), 0, 0, 999)? as u32;
     Some(Policy {
         chunks,
+        extra,
+        extra_bytes,
         fuel,
         backlog,
         caps,

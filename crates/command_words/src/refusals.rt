@@ -38,7 +38,10 @@ fn is_word(word: &str) -> bool
 fn is_command(word: &str) -> bool
     ensures { IsTrue result ↔ IsOneOf command_names word.now }
 {
-    matches!(word, "serve" | "run" | "build" | "check" | "graph" | "demo")
+    matches!(
+        word,
+        "serve" | "run" | "build" | "check" | "graph" | "demo" | "budget"
+    )
 }
 
 /// Whether the word is an option's name.
@@ -50,6 +53,8 @@ fn is_option(word: &str) -> bool
         "--chunk"
             | "--max-path"
             | "--chunks"
+            | "--extra"
+            | "--extra-size"
             | "--fuel"
             | "--backlog"
             | "--caps"

@@ -89,6 +89,6 @@ module _ (g : Setup) (scoped : IsWellScoped g.program) (valid : IsValid (lowered
       let room = ((CallFacts-valid (lowered g.program) g.image g.certificate code valid).entries g.program.main code.main_defined).room in
       record {
         form = subst (IsWellFormedIf (checked_of g) (setting_of g)) e
-            (IsWellFormedIf-start (checked_of g) (setting_of g) (start_areas g) (fact_at g.certificate g.program.main).entry (fact_at g.certificate g.program.main).bound areas (all_free-new g.policy.chunks (g.certificate.chunk / 4)) fuel (omega (arith, room)));
+            (IsWellFormedIf-start (checked_of g) (setting_of g) (start_areas g) (fact_at g.certificate g.program.main).entry (fact_at g.certificate g.program.main).bound areas (all_free-new g.policy.chunks (g.certificate.chunk / 4) g.policy.extra (g.policy.extra_bytes / 4)) fuel (omega (arith, room)));
         settled = (starts_law g.program g.image g.certificate start (start_areas g) scoped valid refl areas e).settled;
       }

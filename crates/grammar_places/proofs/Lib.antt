@@ -1,4 +1,6 @@
 mod Walks
-mod Trees
+pub mod Trees
 mod Parts
 mod NestedCalls
+mod NestedFors
+pub mod RankLaws

@@ -16,7 +16,7 @@ earlier_first : (a b : List ℕ) → earlier (first_of a) (first_of b) ≡ first
 earlier_first [] b = refl
 earlier_first (x ∷ a) b = refl
 
-both : (x y : Option ℕ) (a b : List ℕ) → x ≡ first_of a → y ≡ first_of b → earlier x y ≡ first_of (a ++ b)
+pub both : (x y : Option ℕ) (a b : List ℕ) → x ≡ first_of a → y ≡ first_of b → earlier x y ≡ first_of (a ++ b)
 both x y a b e f = ap (λ (o : Option ℕ). earlier o y) e ∙ ap (λ (o : Option ℕ). earlier (first_of a) o) f ∙ earlier_first a b
 
 mutual
@@ -60,15 +60,15 @@ simple_first (RawSetElement n i v) = both _ _ (expr_places is_call i) (value_nes
 simple_first (RawCalling n es) = exprs_first es
 simple_first (RawTableCalling n i e) = both _ _ (expr_places is_call i) (expr_places is_call e) (expr_first i) (expr_first e)
 
-simples_first : (ss : List RawSimpleTree) → nested_in_simples ss ≡ first_of (simples_nested ss)
+pub simples_first : (ss : List RawSimpleTree) → nested_in_simples ss ≡ first_of (simples_nested ss)
 simples_first [] = refl
 simples_first (s ∷ ss) = both _ _ (simple_nested s) (simples_nested ss) (simple_first s) (simples_first ss)
 
-condition_first : (c : Option RawExprTree) → nested_in_condition c ≡ first_of (optional_places is_call c)
+pub condition_first : (c : Option RawExprTree) → nested_in_condition c ≡ first_of (optional_places is_call c)
 condition_first None = refl
 condition_first (Some e) = expr_first e
 
-step_first : (s : Option RawSimpleTree) → nested_in_step s ≡ first_of (step_nested s)
+pub step_first : (s : Option RawSimpleTree) → nested_in_step s ≡ first_of (step_nested s)
 step_first None = refl
 step_first (Some s) = simple_first s
 
@@ -131,11 +131,11 @@ simple_part (RawSetElement n i v) = part_append (all_of (expr_places is_call i))
 simple_part (RawCalling n es) = behind (n.at ∷ []) (all_of (exprs_places is_call es))
 simple_part (RawTableCalling n i e) = behind (n.at ∷ []) (all_of (expr_places is_call i ++ expr_places is_call e))
 
-simples_part : (ss : List RawSimpleTree) → IsPart (simples_nested ss) (simples_places is_call ss)
+pub simples_part : (ss : List RawSimpleTree) → IsPart (simples_nested ss) (simples_places is_call ss)
 simples_part [] = all_of []
 simples_part (s ∷ ss) = part_append (simple_part s) (simples_part ss)
 
-step_part : (s : Option RawSimpleTree) → IsPart (step_nested s) (step_places is_call s)
+pub step_part : (s : Option RawSimpleTree) → IsPart (step_nested s) (step_places is_call s)
 step_part None = all_of []
 step_part (Some s) = simple_part s
 

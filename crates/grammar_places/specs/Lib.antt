@@ -1,3 +1,5 @@
 pub mod Places
 pub mod Rising
 pub mod Nested
+pub mod NestedFors
+pub mod Ranks

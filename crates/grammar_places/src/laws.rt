@@ -1,11 +1,17 @@
-ghost use Rattle.std.specs.Prelude.{◌≡◌, Bool, List, Some, ℕ};
+ghost use Rattle.std.specs.Prelude.{◌≡◌, Bool, List, None, Some, ℕ};
 ghost use Rattle.c_grammar.specs.Grammar.{IsProgram};
 ghost use Rattle.c_lex.specs.Places.{StandInOrder};
 ghost use Rattle.c_lex.specs.declared.tokens.Token.{Token};
+ghost use Rattle.c_parse.specs.ForParts.{AreForPartsWhole, nested_in_fors};
 ghost use Rattle.c_parse.specs.NestedCalls.{nested_in_items};
 ghost use Rattle.c_tree.specs.RawTrees.{RawItemTree};
+ghost use Rattle.c_tree.specs.TextOrder.{counting};
+ghost use Rattle.c_tree.specs.WellScoped.{AreSiteNumbers};
+ghost use Rattle.c_tree.specs.WholeCalls.{AreCallsWhole};
 ghost use Rattle.grammar_places.specs.Nested.{IsFirstPlace, items_nested};
+ghost use Rattle.grammar_places.specs.NestedFors.{items_for_nested};
 ghost use Rattle.grammar_places.specs.Places.{Standing, items_places};
+ghost use Rattle.grammar_places.specs.Ranks.{ranks};
 ghost use Rattle.grammar_places.specs.Rising.{RiseWithin};
 
 /// Where the tokens of a program stand in order up to an end, the places of its names, of its calls, and of its `break`,
@@ -18,9 +24,27 @@ pub fn places_rise()
 {}
 
 /// The call that isn't whole for which a program is refused, found in the order of its tree, is the first of all that aren't
-/// whole by place. It does nothing: the law is the contract.
+/// whole by place; and none is found exactly where every call is whole. It does nothing: the law is the contract.
 pub fn first_nested_call()
-    ensures { (source : List ℕ) (tokens : List Token) (end : ℕ) (items : List RawItemTree)
+    ensures first { (source : List ℕ) (tokens : List Token) (end : ℕ) (items : List RawItemTree)
         (at : ℕ) → StandInOrder 0 tokens end → IsProgram source tokens items →
         nested_in_items items ≡ Some at → IsFirstPlace (items_nested items) at }
+    ensures none { (items : List RawItemTree) → AreCallsWhole items → nested_in_items items ≡ None }
+    ensures whole { (items : List RawItemTree) → nested_in_items items ≡ None → AreCallsWhole items }
+{}
+
+/// The same of the calls in the parentheses of a `for`. It does nothing: the law is the contract.
+pub fn first_nested_call_in_fors()
+    ensures first { (source : List ℕ) (tokens : List Token) (end : ℕ) (items : List RawItemTree)
+        (at : ℕ) → StandInOrder 0 tokens end → IsProgram source tokens items →
+        nested_in_fors items ≡ Some at → IsFirstPlace (items_for_nested items) at }
+    ensures none { (items : List RawItemTree) → AreForPartsWhole items → nested_in_fors items ≡ None }
+    ensures whole { (items : List RawItemTree) → nested_in_fors items ≡ None → AreForPartsWhole items }
+{}
+
+/// The ranks of places are numbers of calls, each its own and below their count; and of places that rise they are those of their
+/// order. It does nothing: the law is the contract.
+pub fn ranks_are_numbers()
+    ensures numbers { (places : List ℕ) → AreSiteNumbers (ranks places) }
+    ensures rising { (places : List ℕ) (end : ℕ) → RiseWithin 0 places end → counting 0 (ranks places) }
 {}

@@ -170,7 +170,7 @@ module _ (g : Setup) (state : State) where
   pub going_not_cut : (a : Entry) (s : State) (line : StopLine) (machine : World) → IsGoing a s → IsCutHere line machine → ⊥
   going_not_cut a s line machine p q =
       let same : (p.segment ≡ q.segment) × (p.steps ≡ q.steps) × (p.here ≡ q.here) =
-      one_way _ _ _ _ _ _ p.way (loud _ _ _ _ _ p.tells) q.way (loud_stop q.segment _ _ _ _ _ q.tells) in
+      one_way _ _ _ _ _ _ p.way (loud _ _ _ _ _ p.tells) q.way (loud_stop q.segment q.steps q.here (step (setting_of g) q.here) line machine q.tells) in
       not_both q.segment q.steps q.here (step (setting_of g) q.here) a s line machine (moved _ _ _ _ _ _ a s same p.tells) q.tells
 
   stop_one : (segment : Segment) (steps : ℕ) (here : World) (move : Move) (a b : StopLine) (s t : World) → TellsStop segment steps here move a s → TellsStop segment steps here move b t → (a ≡ b) × (s ≡ t)
@@ -185,7 +185,8 @@ module _ (g : Setup) (state : State) where
   pub one_cut : (a b : StopLine) (s t : World) → IsCutHere a s → IsCutHere b t → (a ≡ b) × (s ≡ t)
   one_cut a b s t p q =
       let same : (p.segment ≡ q.segment) × (p.steps ≡ q.steps) × (p.here ≡ q.here) =
-      one_way _ _ _ _ _ _ p.way (loud_stop p.segment _ _ _ _ _ p.tells) q.way (loud_stop q.segment _ _ _ _ _ q.tells) in
+      one_way _ _ _ _ _ _ p.way (loud_stop p.segment p.steps p.here (step (setting_of g) p.here) a s p.tells)
+      q.way (loud_stop q.segment q.steps q.here (step (setting_of g) q.here) b t q.tells) in
       stop_one q.segment q.steps q.here (step (setting_of g) q.here) a b s t (moved_stop _ _ _ _ _ _ a s same p.tells) q.tells
 
   -- ---- the rules say so

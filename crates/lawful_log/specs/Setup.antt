@@ -1,15 +1,14 @@
 -- What a run is given besides its trace: a program with its image and certificate, and a policy.
-use Rattle.std.specs.Prelude.{◌/◌, Option}
+use Rattle.std.specs.Prelude.{Option}
 use Rattle.c_tree.specs.Trees.{ProgramTree}
 use Rattle.choice_rules.specs.Policy.{Policy}
+use Rattle.machine_world.specs.Areas.{Areas, new_areas}
 use Rattle.machine_world.specs.Runs.{start_world}
 use Rattle.machine_world.specs.Threads.{World, Setting}
 use Rattle.stack_certificate.specs.declared.certificates.Certificate.{Certificate}
 use Rattle.stack_certificate.specs.declared.functions.FunctionFact.{FunctionFact}
 use Rattle.stack_certificate.specs.Certificates.{fact_at}
 use Rattle.stack_image.specs.declared.images.Image.{Image}
-use Rattle.chunk_pool.specs.Pool.{start_pool}
-use Rattle.machine_world.specs.Areas.{Areas}
 
 pub record Setup : Type 0 where
   pub program : ProgramTree
@@ -25,13 +24,10 @@ setting_of g = record { code = g.image.code; fuel = g.policy.fuel; backlog = g.p
 abbrev pub main_fact : Setup → FunctionFact
 main_fact g = fact_at g.certificate g.program.main
 
--- the areas in which the run starts: a new pool of the policy's chunks, and what the image has
+-- the areas in which the run starts: a new pool of the policy's chunks of both sizes, and what the image has
 abbrev pub start_areas : Setup → Areas
-start_areas g = record {
-  pool = start_pool g.policy.chunks (g.certificate.chunk / 4);
-  globals = g.image.globals;
-  tables = g.image.tables;
-}
+start_areas g =
+    new_areas g.policy.chunks g.certificate.chunk g.policy.extra g.policy.extra_bytes g.image.globals g.image.tables
 
 -- the machine world in which the run starts
 abbrev pub start_machine : Setup → Option World

@@ -1,2 +1,3 @@
+pub mod PoolRows
 pub mod Standing
 pub mod WordRows

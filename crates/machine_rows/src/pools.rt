@@ -1,4 +1,4 @@
-ghost use Rattle.std.specs.Prelude.{◌≡◌, ◌*◌, ◌%◌, ◌≤◌};
+ghost use Rattle.std.specs.Prelude.{◌≡◌, ◌*◌, ◌%◌, ◌<◌, ◌≤◌};
 
 use chunk_pool::ChunkPool;
 use std::alloc::{AllocError, Global};
@@ -31,31 +31,76 @@ const OF_LARGEST: [(u32, Option<u32>); 3] = [
     (0x8400_0000, None),
 ];
 
+// The same where two chunks of 48 bytes stand behind two of 80.
+const OF_TWO_SIZES: [(u32, Option<u32>); 8] = [
+    (0x8000_0000, Some(0)),
+    (0x8000_009f, Some(1)),
+    (0x8000_00a0, Some(2)),
+    (0x8000_00cf, Some(2)),
+    (0x8000_00d0, Some(3)),
+    (0x8000_00ff, Some(3)),
+    (0x8000_0100, None),
+    (0x7fff_ffff, None),
+];
+
+// The number that stands in the first word of a chunk.
+fn link(pool: &ChunkPool, id: u32) -> Option<u32>
+    requires { id < pool.now.count }
+{
+    if pool.bytes_of(id) == 0 {
+        return None;
+    }
+    Some(pool.read(id, 0))
+}
+
 // Whether two chunks are taken dry and given back in another order. The links are those of the machine's layout: the number
 // of the next free chunk, or 2 where there is none.
-#[tactic(auto, unfolding(chunk_pool::specs::Pool::words_in))]
 fn gives_back(alloc: Global) -> Result<bool, AllocError> {
-    let mut pool = ChunkPool::new(alloc, 2, 64)?;
-    let first = pool.take();
-    let second = pool.take();
-    let third = pool.take();
+    let mut pool = ChunkPool::new(alloc, 2, 64, 0, 64)?;
+    let first = pool.take(48);
+    let second = pool.take(48);
+    let third = pool.take(48);
     pool.give(0);
     pool.give(1);
-    let links = [pool.read(0, 0), pool.read(1, 0)];
-    let again = pool.take();
+    let links = [link(&pool, 0), link(&pool, 1)];
+    let again = pool.take(48);
     let free = pool.free();
     drop(pool);
     Ok(
         [first, second, third, again] == [Some(0), Some(1), None, Some(1)]
-            && links == [2, 0]
+            && links == [Some(2), Some(0)]
             && free == 1,
+    )
+}
+
+// Whether needs take the smaller of two sizes that has a free chunk which fits, and chunks go back to the list of their size.
+// The last free chunk of each size links to the count of all, 4.
+fn takes_by_need(alloc: Global) -> Result<bool, AllocError> {
+    let mut pool = ChunkPool::new(alloc, 2, 80, 2, 48)?;
+    let taken = [pool.take(32), pool.take(33), pool.take(65), pool.take(0)];
+    let more = [pool.take(64), pool.take(0)];
+    pool.give(0);
+    pool.give(3);
+    pool.give(2);
+    let links = [link(&pool, 0), link(&pool, 3), link(&pool, 2)];
+    let again = [pool.take(48), pool.take(16)];
+    let free = pool.free();
+    let is_found = finds(&pool, &OF_TWO_SIZES);
+    drop(pool);
+    Ok(
+        taken == [Some(2), Some(0), None, Some(3)]
+            && more == [Some(1), None]
+            && links == [Some(4), Some(4), Some(3)]
+            && again == [Some(0), Some(2)]
+            && free == 1
+            && is_found,
     )
 }
 
 // Whether a chunk keeps what is written.
 #[tactic(auto, unfolding(chunk_pool::specs::Pool::words_in))]
 fn keeps(alloc: Global) -> Result<bool, AllocError> {
-    let mut pool = ChunkPool::new(alloc, 2, 64)?;
+    let mut pool = ChunkPool::new(alloc, 2, 64, 0, 64)?;
     pool.write(1, 4, 41);
     pool.write(1, 15, 55);
     let want = [41, 0, 0, 0, 0, 0, 0, 0, 0, 0, 0, 55];
@@ -101,7 +146,7 @@ fn has_addresses(
     requires aligned { bytes % 16 ≡ 0 }
     requires size_bounded { count * bytes ≤ 67108864 }
 {
-    let pool = ChunkPool::new(alloc, count, bytes)?;
+    let pool = ChunkPool::new(alloc, count, bytes, 0, 64)?;
     let is_so = is_laid_out(&pool, count, bytes, last_place) && finds(&pool, rows);
     drop(pool);
     Ok(is_so)
@@ -110,7 +155,7 @@ fn has_addresses(
 #[test]
 fn pools(rt: HostRuntime) -> Result<(), Fail> {
     let alloc = rt.alloc();
-    let is_given = gives_back(alloc)? && keeps(alloc)?;
+    let is_given = gives_back(alloc)? && takes_by_need(alloc)? && keeps(alloc)?;
     let is_found = has_addresses(alloc, 3, 80, 0x8000_00a0, &OF_THREE)?
         && has_addresses(alloc, 65_536, 64, 0x803f_ffc0, &OF_MOST)?
         && has_addresses(alloc, 1_024, 65_536, 0x83ff_0000, &OF_LARGEST)?;

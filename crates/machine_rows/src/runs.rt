@@ -67,7 +67,7 @@ pub fn begin(alloc: Global, accepted: &Accepted, chunks: u32) -> Result<Option<B
     if main as usize >= accepted.certificate().functions.len() {
         return Ok(None);
     }
-    let pool = ChunkPool::new(alloc, chunks, bytes)?;
+    let pool = ChunkPool::new(alloc, chunks, bytes, 0, 64)?;
     let mut areas = Areas::new(alloc, accepted.image(), pool)?;
     match start(accepted, &mut areas, main, 0) {
         Some(context) => Ok(Some(Begun { areas, context })),

@@ -8,7 +8,8 @@ use Rattle.cap_word.specs.Runs as runs
 use Rattle.cap_word.specs.declared.stops.Stop.{Stop}
 use Rattle.cap_word.specs.declared.traps.TrapKind.{TrapKind}
 use Rattle.c_mean.specs.ModelledCalls.{blocking_row, immediate_row, is_dropped, with_delivery}
-use Rattle.chunk_pool.specs.Pool.{Taken, taken_for, start_pool, Shape, shape_of, all_free}
+use Rattle.chunk_pool.specs.declared.shape.Shape.{Shape}
+use Rattle.chunk_pool.specs.Pool.{Taken, taken_for, start_pool, shape_of, all_free}
 use Rattle.chunk_pool.proofs.NeedLaws.{taken_for-leaves, taken_for-shape}
 use Rattle.machine_world.specs.Areas.{Areas}
 use Rattle.machine_world.specs.Local as local
@@ -213,8 +214,20 @@ counted_started_on w entry need None counted e = tt
 counted_started_on w entry need (Some taken) counted e = counted_started w taken need entry 0 counted e
 
 -- in a new pool every chunk is free
-pub all_free-new : (chunks words : ℕ) → AreAllFree (start_pool chunks words)
-all_free-new chunks words chunk = free_once chunk chunks
+pub all_free-new : (chunks words extra extra_words : ℕ) → AreAllFree (start_pool chunks words extra extra_words)
+all_free-new chunks words extra extra_words chunk =
+    let behind : chunks ≡ 0 + chunks = omega arith in
+    ap (λ (k : ℕ). copies chunk (range_with_len 0 chunks ++ range_with_len k extra)) behind
+    ∙ ap (copies chunk) (range-append 0 chunks extra) ∙ free_once chunk (chunks + extra)
+  where
+    range-append : (a n m : ℕ) → range_with_len a n ++ range_with_len (a + n) m ≡ range_with_len a (n + m)
+    range-append a zero m =
+        let here : a + 0 ≡ a = omega arith in let all : m ≡ 0 + m = omega arith in
+        ap (λ (k : ℕ). range_with_len k m) here ∙ ap (range_with_len a) all
+    range-append a (suc n) m =
+        let next : a + suc n ≡ a + 1 + n = omega arith in let all : suc (n + m) ≡ suc n + m = omega arith in
+        ap (λ (k : ℕ). a ∷ (range_with_len (a + 1) n ++ range_with_len k m)) next
+        ∙ ap (λ (xs : List ℕ). a ∷ xs) (range-append (a + 1) n m) ∙ ap (range_with_len a) all
 
 pub counted_start : (areas : Areas) (entry need : ℕ) → AreAllFree areas.pool → IsCountedIf (start_world areas entry need)
 unfolding start_world

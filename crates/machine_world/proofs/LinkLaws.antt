@@ -3,14 +3,15 @@ use Rattle.std.proofs.Common.{◌≡◌, ◌≢◌, ℕ, ◌^◌, ◌<◌, ◌�
 use Rattle.std.proofs.lemmas.Bool.{cond_both, cases_eq, cases_lt, eq-eqb, ne_eqb}
 use Rattle.std.proofs.lemmas.List.{length-set, drop-set-lt, set_past}
 use Rattle.cap_word.specs.Runs.{Goes, Stops}
-use Rattle.chunk_pool.specs.Pool.{Pool, Taken, taken_for, with_word, chunk_of, payload_of, end_of, payload_place_of, after_give, HasAddress, IsPool, IsHeld, words_of}
+use Rattle.chunk_pool.specs.Pool.{Pool, Taken, taken_for, with_word, chunk_of, payload_of, end_of, payload_place_of, all_free, after_give, HasAddress, IsPool, IsHeld, words_of}
 use Rattle.chunk_pool.proofs.AddressLaws.{chunk_at-some}
 use Rattle.chunk_pool.proofs.NeedLaws.{taken_for-sound, taken_for-keeps, taken_for-leaves}
 use Rattle.chunk_pool.proofs.PoolLaws.{word_of-with_word_same, word_of-with_word_other, KeepsOthers-with_word, payload_of-after_give, IsPool-with_word}
 use Rattle.rv_machine.specs.Registers.{read, write}
 use Rattle.machine_world.specs.Local.{Local, Wrong, sp, tp, t1, with_header, saved_tp, saved_sp, after_call, linked_on, linked, unlinked_on, unlinked, begins_at, chunk_with_payload}
 use Rattle.machine_world.specs.Links.{IsUndone}
-use Rattle.chunk_pool.proofs.ShapeLaws.{words_of-payload}
+use Rattle.chunk_pool.proofs.ShapeLaws.{words_of-payload, copies-after_give}
+use Rattle.machine_world.proofs.HeldLaws.{copies-cons}
 
 -- ---- headers
 
@@ -135,7 +136,9 @@ unlinked-undoes l m sound long fits e = through (taken_for l.areas.pool (read l.
           registers = λ r. twice l.core.x _ _ _ _ r long back_tp back_sp;
           globals = refl;
           tables = refl;
-          free = λ chunk. sym (taken_for-leaves l.areas.pool (read l.core.x t1) taken some chunk);
+          free = λ chunk. copies-after_give (with_header taken.pool c (read l.core.x tp) (read l.core.x sp)) c chunk
+              ∙ sym (copies-cons chunk c (all_free taken.pool))
+              ∙ sym (taken_for-leaves l.areas.pool (read l.core.x t1) taken some chunk);
           payloads = λ chunk. payload_of-after_give (with_header taken.pool c (read l.core.x tp) (read l.core.x sp)) c chunk
               ∙ payload_of-with_header taken.pool c (read l.core.x tp) (read l.core.x sp) chunk
               ∙ ap (λ (p : Pool). payload_of p chunk) keeps;

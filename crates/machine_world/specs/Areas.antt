@@ -6,13 +6,19 @@
 --
 -- Every other byte, and so every header, is neither. The free list is no memory.
 use Rattle.std.specs.Prelude.{ℕ, ◌+◌, ◌-◌, ◌*◌, ◌/◌, ◌%◌, ◌&&◌, Bool, true, false, List, length, Option, Some, None, if◌then◌else◌, nat_le, nat_lt}
-use Rattle.chunk_pool.specs.Pool.{Pool, chunk_of, word_of, with_word, place_of, payload_place_of, chunk_at}
+use Rattle.chunk_pool.specs.Pool.{Pool, start_pool, chunk_of, word_of, with_word, place_of, payload_place_of, chunk_at}
 use Rattle.rv_machine.specs.WordBytes.{word_with, byte_in, words_with}
 
 pub record Areas : Type 0 where
   pub pool : Pool
   pub globals : List ℕ
   pub tables : List ℕ
+
+-- the areas in which a run starts: a new pool of chunks of both sizes, each so many bytes, and the words of the globals
+-- and the tables
+abbrev pub new_areas : (chunks bytes extra extra_bytes : ℕ) → (globals tables : List ℕ) → Areas
+new_areas chunks bytes extra extra_bytes globals tables =
+    record { pool = start_pool chunks (bytes / 4) extra (extra_bytes / 4); globals = globals; tables = tables }
 
 -- the addresses of the first global word and of the first table word
 abbrev pub globals_place : ℕ

@@ -11,7 +11,7 @@ use Rattle.std.specs.List.{range_with_len}
 use Rattle.cap_word.specs.declared.stops.Stop.{Stop}
 use Rattle.rv_code.specs.Table.{encoding}
 use Rattle.rv_code.specs.declared.instructions.Instr.{Instr}
-use Rattle.chunk_pool.specs.Pool.{Pool, start_pool, all_free}
+use Rattle.chunk_pool.specs.Pool.{Pool, all_free}
 use Rattle.flat_code.specs.Codes.{function_at}
 use Rattle.flat_code.specs.Samples.{descending}
 use Rattle.stack_certificate.specs.declared.sites.LinkKind.{LinkKind}
@@ -22,7 +22,7 @@ use Rattle.machine_world.specs.Places.{Checked}
 use Rattle.machine_world.specs.InPlace.{Frame}
 use Rattle.machine_world.specs.Threads.{Thread, World, Setting, Move, Goes, Puts, Spawns, Blocks, Ends, Stops, Wrong, step}
 use Rattle.machine_world.specs.Runs.{start_world, Pick, and_then, after_actions, after_steps}
-use Rattle.machine_world.specs.Areas.{Areas}
+use Rattle.machine_world.specs.Areas.{new_areas}
 
 -- ---- checked code
 
@@ -74,8 +74,7 @@ setting = record { code = code; fuel = 1000; backlog = 64; caps = [] }
 -- the world of so many chunks when main has begun, and so many steps on
 abbrev pub begun : ℕ → Option World
 begun chunks =
-    let areas : Areas = record { pool = start_pool chunks 20; globals = []; tables = [] } in
-    and_then (start_world areas 4372 48) (after_actions setting (Pick 0 ∷ []))
+    and_then (start_world (new_areas chunks 80 0 64 [] []) 4372 48) (after_actions setting (Pick 0 ∷ []))
 
 abbrev pub world_at : ℕ → ℕ → Option World
 world_at chunks n = and_then (begun chunks) (after_steps setting n)
@@ -131,7 +130,15 @@ seen (Some w) = seen_first w w.threads
 -- ---- where the thread is
 
 abbrev pub pool_of : List ℕ → List ℕ → Pool
-pool_of first second = record { count = 2; words = 20; contents = first ∷ second ∷ []; free = [] }
+pool_of first second = record {
+  count = 2;
+  first_count = 2;
+  words = 20;
+  extra_words = 16;
+  contents = first ∷ second ∷ [];
+  free = [];
+  extra_free = [];
+}
 
 abbrev pub first_chunk : List ℕ
 first_chunk = 0 ∷ 0 ∷ 0 ∷ 0 ∷ 0 ∷ 0 ∷ 0 ∷ 0 ∷ 1 ∷ 0 ∷ 0 ∷ 1 ∷ 0 ∷ 0 ∷ 0 ∷ 0x113c ∷ 0 ∷ 1 ∷ 0 ∷ 0x1000 ∷ []

@@ -18,9 +18,17 @@ one_put =
     0x000002b7 ∷ 0x00028293 ∷ 0x00512023 ∷
     0x00012503 ∷ 0x00c12083 ∷ 0x01010113 ∷ 0x00008067 ∷ []
 
--- chunks of 64 bytes whose words are all 0, with this free list
+-- chunks of 64 bytes, and none of a second size, whose words are all 0, with this free list
 abbrev pub blank_pool : ℕ → List ℕ → Pool
-blank_pool count free = record { count = count; words = 16; contents = replicate count (replicate 16 0); free = free }
+blank_pool count free = record {
+  count = count;
+  first_count = count;
+  words = 16;
+  extra_words = 8;
+  contents = replicate count (replicate 16 0);
+  free = free;
+  extra_free = [];
+}
 
 abbrev pub blank : ℕ → List ℕ → Areas
 blank count free = record { pool = blank_pool count free; globals = []; tables = [] }
@@ -73,7 +81,7 @@ at_ecall tp a7 chain free = record {
 abbrev pub linked_thread : Local
 linked_thread = record {
   areas = record {
-    pool = record { count = 2; words = 16; contents = replicate 16 0 ∷ (0x8000_0010 ∷ 0x8000_0020 ∷ replicate 14 0) ∷ []; free = [] };
+    pool = record (blank_pool 2 []) { contents = replicate 16 0 ∷ (0x8000_0010 ∷ 0x8000_0020 ∷ replicate 14 0) ∷ [] };
     globals = [];
     tables = [];
   };

@@ -46,13 +46,14 @@ abbrev pub HoldsCallIn : Checked → Pool → Core → List Frame → Op → Typ
 HoldsCallIn c pool core [] op = ⊥
 HoldsCallIn c pool core (frame ∷ below) op = HoldsCall c pool core frame op
 
--- at the ECALL of operation i of function f, or just after it
+-- at the ECALL of operation i of function f, with the call in the registers
 pub record IsAtCall (c : Checked) (pool : Pool) (core : Core) (f i : ℕ) (op : Op) (word : ℕ) (frames : List Frame) : Type 0 where
   pub operation : operation_at c.flat f i ≡ Some op
   pub ecall : ecall_word op ≡ Some word
   pub frames_are : HasFrames c pool core (InOperation f i word) frames
   pub registers : HoldsCallIn c pool core frames op
 
+-- at the word behind that ECALL
 pub record IsPastCall (c : Checked) (pool : Pool) (core : Core) (f i : ℕ) (op : Op) (word : ℕ) (place : Place) (frames : List Frame) : Type 0 where
   pub operation : operation_at c.flat f i ≡ Some op
   pub ecall : ecall_word op ≡ Some word

@@ -24,7 +24,7 @@ abbrev pub IsFramedNext : Checked → Setting → World → Option ℕ → Type 
 IsFramedNext c s w None = ⊥
 IsFramedNext c s w (Some number) = IsFramedStep c s w (thread_of w number)
 
--- what holds of the world that a move leads to; at a stop nothing retires, and nothing is wrong
+-- this holds of the world that a move leads to; a stop leads to none, nor does a step that is wrong
 abbrev pub OnWorld : Move → (World → Type 0) → Type 0
 OnWorld (Goes after) P = P after
 OnWorld (Puts value after) P = P after

@@ -14,7 +14,7 @@ ghost use Rattle.machine_world.specs.Chains.{AreAllFree};
 /// exactly the pool, and so it is after each step, be it a LINK, an UNLINK, a SPAWN, an END or any other, and after any
 /// actions. It does nothing.
 pub fn partition_laws()
-    ensures new_pool { (chunks words : ℕ) → AreAllFree (start_pool chunks words) }
+    ensures new_pool { (chunks words extra extra_words : ℕ) → AreAllFree (start_pool chunks words extra extra_words) }
     ensures start { (areas : Areas) (entry need : ℕ) → AreAllFree areas.pool → IsCountedIf (start_world areas entry need) }
     ensures step { (s : Setting) (w : World) → IsCounted w → KeepsCounted (step s w) }
     ensures actions { (s : Setting) (actions : List Action) (w : World) → IsCounted w → IsCountedIf (after_actions s actions w) }

@@ -1,8 +1,6 @@
 -- The start of a valid pair, and the log from there.
-use Rattle.std.proofs.Common.{◌≡◌, ℕ, zero, suc, ◌+◌, ◌-◌, ◌*◌, ◌/◌, ◌≤◌, ◌||◌, Bool, true, false, List, [], ◌∷◌, ◌++◌, Some, None, refl, ap, subst, arith}
-use Rattle.std.specs.Prelude.{nat_eq, nat_le, IsSome, if◌then◌else◌}
-use Rattle.std.specs.List.{range_with_len}
-use Rattle.std.proofs.lemmas.Bool.Decides.{nat_tests}
+use Rattle.std.proofs.Common.{◌≡◌, ℕ, ◌+◌, ◌*◌, ◌/◌, ◌≤◌, ◌||◌, Bool, true, false, List, [], ◌∷◌, ◌++◌, Some, None, refl, ap, subst, arith}
+use Rattle.std.specs.Prelude.{nat_eq, IsSome, if◌then◌else◌}
 use Rattle.c_lower.specs.ProgramCode.{lowered}
 use Rattle.c_tree.specs.WellScoped.{IsWellScoped}
 use Rattle.certificate_rules.specs.Validity.{IsValid}
@@ -58,10 +56,10 @@ module _ (g : Setup) (scoped : IsWellScoped g.program) (valid : IsValid (lowered
       let bound = (valid.holds 11 g.program.main 2).v11 refl in
       let within = bound.bound refl code.main_defined in
       let path = ((valid.holds 11 g.program.main 3).v11 refl).path refl in
-      omega (arith, within, path, well.chunk, first_bytes-start g.policy.chunks (g.certificate.chunk / 4))
+      omega (arith, within, path, well.chunk, first_bytes-start g.policy.chunks (g.certificate.chunk / 4) g.policy.extra (g.policy.extra_bytes / 4))
 
   first : (taken : Taken) × (taken_for areas.pool (main_fact g).bound ≡ Some taken)
-  first = taken_for-start g.policy.chunks (g.certificate.chunk / 4) (main_fact g).bound well.pool.some_chunks need_fits
+  first = taken_for-start g.policy.chunks (g.certificate.chunk / 4) g.policy.extra (g.policy.extra_bytes / 4) (main_fact g).bound well.pool need_fits
 
   abbrev start : World
   start = with_thread (empty_world areas) first.0 (main_fact g).entry 0
@@ -75,7 +73,7 @@ module _ (g : Setup) (scoped : IsWellScoped g.program) (valid : IsValid (lowered
       let code = formed g.program g.image g.certificate scoped valid in
       let room = ((CallFacts-valid (lowered g.program) g.image g.certificate code valid).entries g.program.main code.main_defined).room in
       subst (IsWellFormedIf (checked_of g) (setting_of g)) starts
-      (IsWellFormedIf-start (checked_of g) (setting_of g) areas (fact_at g.certificate g.program.main).entry (fact_at g.certificate g.program.main).bound well (all_free-new g.policy.chunks (g.certificate.chunk / 4)) fuel (omega (arith, room)))
+      (IsWellFormedIf-start (checked_of g) (setting_of g) areas (fact_at g.certificate g.program.main).entry (fact_at g.certificate g.program.main).bound well (all_free-new g.policy.chunks (g.certificate.chunk / 4) g.policy.extra (g.policy.extra_bytes / 4)) fuel (omega (arith, room)))
 
   start_stands : StandsSettled (checked_of g) g.program start (source.start_world g.program)
   start_stands = starts_law g.program g.image g.certificate start areas scoped valid refl well starts

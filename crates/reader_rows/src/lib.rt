@@ -19,6 +19,8 @@ mod limits;
 #[cfg(test)]
 mod lines;
 #[cfg(test)]
+mod nested;
+#[cfg(test)]
 mod programs;
 #[cfg(test)]
 mod tokens;

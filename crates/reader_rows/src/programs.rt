@@ -66,8 +66,8 @@ Kind at 11: void f() { return 1; } int main() { return 0; }
 Kind at 13: int main() { break; return 0; }
 program: int main() { while (1) { if (1) continue; break; } return 0; }";
 
-// Whether the refusal is printed so.
-fn is_printed(alloc: Global, error: &SourceError, want: &str) -> bool {
+/// Whether the refusal is printed so.
+pub(crate) fn is_printed(alloc: Global, error: &SourceError, want: &str) -> bool {
     match error.to_string(alloc) {
         Ok(text) => {
             let same = text.as_str() == want;

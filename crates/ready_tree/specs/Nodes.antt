@@ -6,7 +6,7 @@ use Rattle.ready_tree.specs.Needs.{IsJoin}
 
 -- nobody waits
 abbrev pub no_needs : Needs
-no_needs = record { nothing = false; arrival = false; channels = 0; from = 2 ^ 64 - 1; amounts = replicate 8 (2 ^ 64 - 1) }
+no_needs = record { nothing = false; arrival = false; channels = 0; from = 2 ^ 64 - 1; amounts = replicate 8 (2 ^ 32 - 1) }
 
 abbrev pub node_at : List Needs → ℕ → Needs
 node_at nodes i = slice_index_or nodes i no_needs

@@ -3,18 +3,18 @@ ghost use Rattle.std.specs.Prelude.{◌≡◌, ℕ, ◌<◌, min, slice_index};
 ghost use Rattle.ready_tree.specs.Needs.{fits_first};
 
 /// Whether of some resource the amount is unused.
-pub(crate) fn fits_some(amounts: &[u64; 8], unused: &[u32; 8]) -> bool
+pub(crate) fn fits_some(amounts: &[u32; 8], unused: &[u32; 8]) -> bool
     ensures { result ≡ fits_first amounts.now unused.now 8 }
 {
     let mut fits = false;
     for resource in 0..8 {
-        fits = fits || amounts[resource] <= u64::from(unused[resource]);
+        fits = fits || amounts[resource] <= unused[resource];
     }
     fits
 }
 
 /// For each resource the lesser of two amounts.
-pub(crate) fn lesser(amounts: &[u64; 8], others: &[u64; 8]) -> [u64; 8]
+pub(crate) fn lesser(amounts: &[u32; 8], others: &[u32; 8]) -> [u32; 8]
     ensures { (r : ℕ) → r < 8 → slice_index result r ≡ min (slice_index amounts.now r) (slice_index others.now r) }
 {
     let mut least = *amounts;
@@ -25,12 +25,12 @@ pub(crate) fn lesser(amounts: &[u64; 8], others: &[u64; 8]) -> [u64; 8]
 }
 
 /// An amount of one resource, and of no other.
-pub(crate) fn only(resource: u32, amount: u32) -> [u64; 8]
+pub(crate) fn only(resource: u32, amount: u32) -> [u32; 8]
     ensures { resource < 8 → slice_index result resource ≡ amount }
 {
-    let mut amounts = [u64::MAX; 8];
+    let mut amounts = [u32::MAX; 8];
     if resource < 8 {
-        amounts[resource as usize] = u64::from(amount);
+        amounts[resource as usize] = amount;
     }
     amounts
 }

@@ -33,8 +33,9 @@ pub(crate) struct Needs {
     pub channels: u64,
     /// The earliest time for which one waits.
     pub from: u64,
-    /// The least amount of each resource for which one waits.
-    pub amounts: [u64; 8],
+    /// The least amount of each resource for which one waits, and the greatest number where nobody does. As an amount that
+    /// number would be looked for in vain where all of it were unused, which costs steps and answers the same.
+    pub amounts: [u32; 8],
 }
 
 impl Needs {
@@ -44,7 +45,7 @@ impl Needs {
         arrival: false,
         channels: 0,
         from: Need::NEVER,
-        amounts: [u64::MAX; 8],
+        amounts: [u32::MAX; 8],
     };
 
     /// What some of those of the one or of the other wait for.

@@ -190,14 +190,15 @@ fn gathered(
     Ok((kept, nodes))
 }
 
-/// Whether there is no room for one more.
-fn is_full(places: &[Option<Entry>], nodes: &[Needs]) -> bool
-    ensures { result ≡ false → HasRoom nodes.now places.now }
+/// Whether there is no room for one more. Where there is a tree the places never take more memory than was made for them, so
+/// that they don't double.
+fn is_full(places: &Vec<Option<Entry>>, nodes: &[Needs]) -> bool
+    ensures { result ≡ false → HasRoom nodes.now places.now.items }
 {
     if nodes.is_empty() {
         places.len() >= BLOCK
     } else {
-        places.len() / BLOCK >= nodes.len() / 2
+        places.len() >= places.capacity() || places.len() / BLOCK >= nodes.len() / 2
     }
 }
 

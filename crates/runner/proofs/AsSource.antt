@@ -1,5 +1,5 @@
 -- A segment does what the source's run of its thread does.
-use Rattle.std.proofs.Common.{◌≡◌, ℕ, List, [], Option, Some, refl, sym, subst}
+use Rattle.std.proofs.Common.{◌≡◌, ℕ, [], Some, refl, sym, subst}
 use Rattle.lawful_log.specs.Good.{checked_of}
 use Rattle.lawful_log.specs.Setup.{Setup, setting_of}
 use Rattle.lawful_log.specs.State.{State}
@@ -12,6 +12,7 @@ use Rattle.world_source.specs.Reached.{IsReached}
 use Rattle.world_source.proofs.Laws.{picks, steps}
 use Rattle.runner.specs.Kept.{Kept}
 use Rattle.runner.specs.Stands.{IsOf, StandsBetween, StepsAsSource}
+use Rattle.runner.specs.Rest.{Rest}
 
 pub source_steps : (g : Setup) (state : State) (held : Held) → IsOf g held → (number : ℕ) → StepsAsSource g state number
 source_steps g state held of number = λ puts w formed reached. steps g.program g.image g.certificate (setting_of g) w state.source number puts of.scoped of.valid refl formed reached
@@ -27,7 +28,7 @@ formed_advanced g w clock f = record {
   next = f.next;
 }
 
-module _ (g : Setup) (state : State) (k : Kept) (held : Held) (left : Option (List ℕ)) (stands : StandsBetween g state k held left) where
+module _ (g : Setup) (state : State) (k : Kept) (held : Held) (left : Rest) (stands : StandsBetween g state k held left) where
   pub formed_now : IsWellFormed (checked_of g) (setting_of g) held.machine
   formed_now = subst (IsWellFormed (checked_of g) (setting_of g)) (sym stands.between.machine_is) (formed_advanced g state.machine held.machine.clock stands.between.formed)
 

@@ -38,6 +38,7 @@ use Rattle.cap_word.specs.declared.threads.ThreadId.{ThreadId}
 use Rattle.runner.specs.Rules.{AreKeptBeside, HasAccounts}
 use Rattle.runner.proofs.Rules.{accounts_taken, kept_beside, kept_taken, noted_taken, rule_choice_told, told_along, told_picked, told_taken}
 use Rattle.runner.specs.Stands.{StandsBetween, StandsWithin, StepsAsSource}
+use Rattle.runner.specs.Rest.{Rest}
 use Rattle.runner.proofs.Going.{Along, along}
 use Rattle.runner.proofs.Ready.{ready_told, accept_told, any_ready_told, any_elsewhere_told}
 use Rattle.runner.proofs.Times.{timely_picked, timely_turn}
@@ -47,7 +48,7 @@ use Rattle.runner.proofs.Turned.{of_kept, told_live}
 abbrev pub observed : MonitorState → List ℕ → MonitorState
 observed m uses = record m { uses = uses; is_open = gate_after m.high m.low m.is_open (pressures m.curves uses m.caps) }
 
-module _ (g : Setup) (state : State) (k : Kept) (held : Held) (left : Option (List ℕ)) (stands : StandsBetween g state k held left) (next : Option Event) (known_is : known k.next ≡ Some next)
+module _ (g : Setup) (state : State) (k : Kept) (held : Held) (left : Rest) (stands : StandsBetween g state k held left) (next : Option Event) (known_is : known k.next ≡ Some next)
     (ready : any_ready_in held ≡ true) (uses : List ℕ) (uses_is : uses ≡ uses_of state) (within_caps : NoneAbove uses (all_caps g.policy)) where
   pub between : IsBetween g state (Some next) held.machine
   between = subst (λ (o : Option (Option Event)). IsBetween g state o held.machine) known_is stands.between

@@ -1,5 +1,5 @@
 -- What comes at a choice point, and how the clock goes on.
-use Rattle.std.proofs.Common.{◌≡◌, ◌≢◌, ℕ, ◌-◌, ◌≤◌, Bool, true, false, List, [], ◌∷◌, Option, Some, None, refl, sym, ap, ◌∙◌, subst, arith}
+use Rattle.std.proofs.Common.{◌≡◌, ◌≢◌, ℕ, ◌-◌, ◌≤◌, Bool, true, false, List, [], ◌∷◌, Some, None, refl, sym, ap, ◌∙◌, subst, arith}
 use Rattle.std.specs.Prelude.{drop, if◌then◌else◌}
 use Rattle.std.proofs.lemmas.Bool.Decides.{nat_tests}
 use Rattle.c_mean.specs.ModelledCalls.{Delivery, Arrival, Message, Exchange, is_dropped, with_delivery}
@@ -28,8 +28,8 @@ use Rattle.thread_core.specs.Worlds.{Held}
 use Rattle.runner.specs.declared.looking.Next.{Next}
 use Rattle.runner.specs.Kept.{Kept, known}
 use Rattle.runner.specs.Stands.{IsTraceOf, FitsNext, HasPast, StandsBetween}
+use Rattle.runner.specs.Rest.{Rest, HasBytes, Unasked, Told, Made}
 use Rattle.runner.proofs.Rules.{told_same}
-use Rattle.runner.specs.Steps.{IsTold}
 use Rattle.runner.proofs.Times.{timely_delivered}
 use Rattle.chunk_pool.specs.Pool.{free_count}
 
@@ -66,7 +66,7 @@ received_uses : (b : Bool) (w : source.World) (delivery : Delivery) → (receive
 received_uses true w delivery = refl
 received_uses false w delivery = same_uses w.exchange delivery
 
-module _ (g : Setup) (state : State) (k : Kept) (held : Held) (left : Option (List ℕ)) (stands : StandsBetween g state k held left) (event : Event) (next_is : k.next ≡ Next.Event event) where
+module _ (g : Setup) (state : State) (k : Kept) (held : Held) (left : Rest) (stands : StandsBetween g state k held left) (event : Event) (next_is : k.next ≡ Next.Event event) where
   fits : FitsEvent event
   fits = subst FitsNext next_is stands.read.fits
 
@@ -93,15 +93,17 @@ module _ (g : Setup) (state : State) (k : Kept) (held : Held) (left : Option (Li
       ∙ ap (λ (l : List ℕ). (state.machine.areas.pool.count - free_count state.machine.areas.pool) ∷ drop 1 l)
       (received_uses (drops g state event held.machine between words) state.source (delivery_of event.kind))
 
-  trace_on : (left : Option (List ℕ)) → IsTraceOf state.trace k.reader (Next.Event event) left → IsTraceOf (behind state.trace event) k.reader Next.Unread left
-  trace_on None t = tt
-  trace_on (Some l) t = t.1
+  trace_on : (left : Rest) → IsTraceOf state.trace k.reader (Next.Event event) left → IsTraceOf (behind state.trace event) k.reader Next.Unread left
+  trace_on Unasked t = tt
+  trace_on (Told l) t = t.1
+  trace_on (Made l) t = t.1
 
-  next_told : (left : Option (List ℕ)) → IsTold left → IsTraceOf state.trace k.reader (Next.Event event) left → IsNext state.trace (Some event)
-  next_told None told t = absurd told
-  next_told (Some l) told t = t.0
+  next_told : (left : Rest) → HasBytes left → IsTraceOf state.trace k.reader (Next.Event event) left → IsNext state.trace (Some event)
+  next_told Unasked told t = absurd told
+  next_told (Told l) told t = t.0
+  next_told (Made l) told t = t.0
 
-  pub came_allowed : held.machine.threads ≢ [] → event.time ≤ held.machine.clock → IsTold left → IsComing g state held.machine.clock (item_of event.kind) (drops g state event held.machine between words) came_state
+  pub came_allowed : held.machine.threads ≢ [] → event.time ≤ held.machine.clock → HasBytes left → IsComing g state held.machine.clock (item_of event.kind) (drops g state event held.machine between words) came_state
   came_allowed live due told =
       coming g state event held.machine between words live (next_told left told (subst (λ (n : Next). IsTraceOf state.trace k.reader n left) next_is stands.read.trace_is))
       (let h : event.time ≤ held.machine.clock = due in grind (arith, nat_tests, h))

@@ -21,8 +21,9 @@ use Rattle.runner.specs.declared.looking.Next.{Next}
 use Rattle.runner.specs.Kept.{Kept, known}
 use Rattle.runner.specs.Output.{Output, PutsText}
 use Rattle.runner.specs.Ranks.{turn_rank, under_rank, long_rank}
-use Rattle.runner.specs.Stands.{IsTraceOf, StandsBetween, StandsWithin, Stands, StepsAsSource, IsAtChoice}
-use Rattle.runner.specs.Steps.{IsTold, ActsTo, PartEnds}
+use Rattle.runner.specs.Stands.{IsTraceIn, IsTraceOf, StandsBetween, StandsWithin, Stands, StepsAsSource, IsAtChoice}
+use Rattle.runner.specs.Steps.{ActsTo, PartEnds}
+use Rattle.runner.specs.Rest.{Rest, HasBytes, Unasked, Told, Made}
 use Rattle.schedule_log.specs.EntryText.{entry_text}
 use Rattle.schedule_log.specs.declared.entries.Entry.{Entry}
 use Rattle.rule_state.specs.Rules.{HasTaken, IsLawfulOf, IsUnderWay}
@@ -50,16 +51,20 @@ first_of_both : (a b : Bool) → (a && b) ≡ true → IsTrue a
 first_of_both true b e = refl
 first_of_both false b e = absurd (cc)
 
-next_by : (trace : Trace) (reader : ReaderState) (n : Next) (left : Option (List ℕ)) (next : Option Event) → IsTold left → IsTraceOf trace reader n left → known n ≡ Some next → IsNext trace next
-next_by trace reader n None next told is e = absurd told
-next_by trace reader Next.Unread (Some bytes) next told is e = absurd (cc)
-next_by trace reader (Next.Event event) (Some bytes) next told is e = let same : Some event ≡ next = cc in subst (IsNext trace) same is.0
-next_by trace reader Next.Over (Some bytes) next told is e = let same : None ≡ next = cc in subst (IsNext trace) same is
+next_in : (trace : Trace) (reader : ReaderState) (n : Next) (bytes : List ℕ) (next : Option Event) → IsTraceIn trace reader n bytes → known n ≡ Some next → IsNext trace next
+next_in trace reader Next.Unread bytes next is e = absurd (cc)
+next_in trace reader (Next.Event event) bytes next is e = let same : Some event ≡ next = cc in subst (IsNext trace) same is.0
+next_in trace reader Next.Over bytes next is e = let same : None ≡ next = cc in subst (IsNext trace) same is
 
-pub next_known : (g : Setup) (state : State) (k : Kept) (held : Held) (left : Option (List ℕ)) (next : Option Event) → StandsBetween g state k held left → known k.next ≡ Some next → IsTold left → IsNext state.trace next
+next_by : (trace : Trace) (reader : ReaderState) (n : Next) (left : Rest) (next : Option Event) → HasBytes left → IsTraceOf trace reader n left → known n ≡ Some next → IsNext trace next
+next_by trace reader n Unasked next told is e = absurd told
+next_by trace reader n (Told left) next told is e = next_in trace reader n (reader.held ++ left) next is e
+next_by trace reader n (Made bytes) next told is e = next_in trace reader n bytes next is e
+
+pub next_known : (g : Setup) (state : State) (k : Kept) (held : Held) (left : Rest) (next : Option Event) → StandsBetween g state k held left → known k.next ≡ Some next → HasBytes left → IsNext state.trace next
 next_known g state k held left next stands known_is told = next_by state.trace k.reader k.next left next told stands.read.trace_is known_is
 
-pub within_under : (g : Setup) (state : State) (k : Kept) (held : Held) (left : Option (List ℕ)) (of_it : Under) (under : Option Under) → StandsWithin g state k held left of_it → StandsWithin g state (record k { under = under }) held left of_it
+pub within_under : (g : Setup) (state : State) (k : Kept) (held : Held) (left : Rest) (of_it : Under) (under : Option Under) → StandsWithin g state k held left of_it → StandsWithin g state (record k { under = under }) held left of_it
 within_under g state k held left of_it under is = record {
   of = is.of;
   segment = is.segment;
@@ -81,7 +86,7 @@ within_under g state k held left of_it under is = record {
   read = is.read;
 }
 
-module _ (g : Setup) (state : State) (k : Kept) (held : Held) (left : Option (List ℕ)) (next : Option Event) (at : IsAtChoice g state k held left next) where
+module _ (g : Setup) (state : State) (k : Kept) (held : Held) (left : Rest) (next : Option Event) (at : IsAtChoice g state k held left next) where
   pub stands : StandsBetween g state k held left
   stands = at.point.stands
 

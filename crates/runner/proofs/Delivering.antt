@@ -1,5 +1,5 @@
 -- What a run writes of what comes.
-use Rattle.std.proofs.Common.{◌≡◌, ◌≢◌, ℕ, ◌≤◌, Bool, true, false, List, [], ◌∷◌, ◌++◌, Option, Some, None, Result, refl, sym, ap, ◌∙◌, subst}
+use Rattle.std.proofs.Common.{◌≡◌, ◌≢◌, ℕ, ◌≤◌, Bool, true, false, [], ◌∷◌, ◌++◌, Option, Some, None, Result, refl, sym, ap, ◌∙◌, subst}
 use Rattle.std.specs.Prelude.{if◌then◌else◌}
 use Rattle.c_mean.specs.ModelledCalls.{Exchange, is_dropped, with_delivery}
 use Rattle.event_trace.specs.declared.events.Event.{Event}
@@ -18,7 +18,8 @@ use Rattle.runner.specs.Kept.{Kept}
 use Rattle.runner.specs.Output.{Output, PutsText}
 use Rattle.runner.specs.Lines.{coming_line}
 use Rattle.runner.specs.Stands.{StandsBetween, StandsBy}
-use Rattle.runner.specs.Steps.{IsTold, ActsTo, PartEnds}
+use Rattle.runner.specs.Steps.{ActsTo, PartEnds}
+use Rattle.runner.specs.Rest.{Rest, HasBytes}
 use Rattle.runner.proofs.Acting.{acts_on}
 use Rattle.runner.proofs.Parts.{acts_between, same_ticks, deliver_acts, part_of}
 use Rattle.schedule_log.specs.EntryText.{entry_text}
@@ -35,7 +36,7 @@ same_clock : (b : Bool) (w : World) (x : Exchange) → (if b then w else record 
 same_clock true w x = refl
 same_clock false w x = refl
 
-module _ (g : Setup) (state : State) (k : Kept) (held : Held) (left : Option (List ℕ)) (stands : StandsBetween g state k held left) (event : Event) (next_is : k.next ≡ Next.Event event) (delivered : Delivered)
+module _ (g : Setup) (state : State) (k : Kept) (held : Held) (left : Rest) (stands : StandsBetween g state k held left) (event : Event) (next_is : k.next ≡ Next.Event event) (delivered : Delivered)
     (delivered_is : delivered ≡ delivery_answer held event.kind) where
   drops_same : is_dropped held.setting.backlog held.machine.exchange (delivery_of event.kind) ≡ drops g state event held.machine (between g state k held left stands event next_is) (words g state k held left stands event next_is)
   drops_same =
@@ -48,7 +49,7 @@ module _ (g : Setup) (state : State) (k : Kept) (held : Held) (left : Option (Li
   clock_is : (after_event held event.kind).machine.clock ≡ held.machine.clock
   clock_is = same_clock (is_dropped held.setting.backlog held.machine.exchange (delivery_of event.kind)) held.machine (with_delivery held.machine.exchange (delivery_of event.kind))
 
-  pub entry_allowed : held.machine.threads ≢ [] → event.time ≤ held.machine.clock → IsTold left →
+  pub entry_allowed : held.machine.threads ≢ [] → event.time ≤ held.machine.clock → HasBytes left →
       IsAllowed g state (coming_line (after_event held event.kind).machine.clock event.kind delivered) (came_state g state k held left stands event next_is)
   entry_allowed live due told =
       subst (λ (n : ℕ). IsAllowed g state (coming_line n event.kind delivered) (came_state g state k held left stands event next_is)) (sym clock_is)

@@ -1,5 +1,5 @@
 -- What a run writes of a segment that has ended: at a blocking call, or with its thread.
-use Rattle.std.proofs.Common.{◌≡◌, ℕ, ◌+◌, ◌<◌, ◌≤◌, ◌^◌, List, [], ◌∷◌, ◌++◌, length, Option, None, Result, refl, ap, ◌∙◌, subst, arith}
+use Rattle.std.proofs.Common.{◌≡◌, ℕ, ◌+◌, ◌<◌, ◌≤◌, ◌^◌, List, [], ◌∷◌, ◌++◌, length, None, Result, refl, ap, ◌∙◌, subst, arith}
 use Rattle.blocking_graph.specs.Edges.{edges_with, count_of}
 use Rattle.blocking_graph.specs.Graph.{GraphState}
 use Rattle.blocking_graph.specs.Nodes.{keys_with, node_number}
@@ -22,6 +22,7 @@ use Rattle.ready_tree.specs.declared.needs.Need.{Need}
 use Rattle.thread_core.specs.Needs.{IsWaitingIn, Vouches}
 use Rattle.runner.proofs.Needs.{needed_from, waiting_in}
 use Rattle.runner.specs.Steps.{ActsTo, PartEnds}
+use Rattle.runner.specs.Rest.{Rest}
 use Rattle.schedule_log.specs.EntryText.{entry_text}
 use Rattle.schedule_log.specs.declared.entries.Entry.{Entry}
 use Rattle.thread_core.specs.Turns.{Tells}
@@ -37,7 +38,7 @@ use Rattle.runner.proofs.Over.{TellsBlock, tells_block}
 use Rattle.runner.proofs.Parts.{acts_within, by_none, part_of, same_ticks}
 use Rattle.chunk_pool.specs.Pool.{free_count}
 
-module _ (g : Setup) (state : State) (k : Kept) (held : Held) (left : Option (List ℕ)) (under : Under) (stands : StandsWithin g state k held left under) where
+module _ (g : Setup) (state : State) (k : Kept) (held : Held) (left : Rest) (under : Under) (stands : StandsWithin g state k held left under) where
   -- ---- the ranges
 
   pub formed_held : IsWellFormed (checked_of g) (setting_of g) held.machine

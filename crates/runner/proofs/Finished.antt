@@ -1,5 +1,5 @@
 -- The end of a segment with its thread.
-use Rattle.std.proofs.Common.{◌≡◌, ℕ, zero, suc, ◌+◌, ◌-◌, ◌<◌, ◌≤◌, Bool, false, List, [], ◌∷◌, ◌++◌, length, Option, Some, None, refl, sym, ap, ◌∙◌, subst, arith, append-nil}
+use Rattle.std.proofs.Common.{◌≡◌, ℕ, zero, suc, ◌+◌, ◌-◌, ◌<◌, ◌≤◌, Bool, false, List, [], ◌∷◌, ◌++◌, length, Some, None, refl, sym, ap, ◌∙◌, subst, arith, append-nil}
 use Rattle.std.specs.Prelude.{IsSome, drop, slice_get}
 use Rattle.blocking_graph.specs.Edges.{edges_of, edges_with, count_of}
 use Rattle.blocking_graph.specs.Graph.{GraphState}
@@ -31,6 +31,7 @@ use Rattle.runner.specs.Stands.{StandsBetween, StandsWithin, StepsAsSource}
 use Rattle.machine_world.specs.Alone.{KeepsThread}
 use Rattle.machine_world.proofs.OtherThreads.{KeepsThread-step}
 use Rattle.runner.specs.Rules.{AreKept, AreTold}
+use Rattle.runner.specs.Rest.{Rest}
 use Rattle.rule_state.specs.Rules.{HasLeft}
 use Rattle.rule_state.specs.declared.rules.RuleState.{RuleState}
 use Rattle.stride_steps.specs.Clients.{waiter_of}
@@ -60,7 +61,7 @@ tells_end (Spawns started after) cost number at new t = absurd t
 tells_end (Stops stop) cost number at new t = absurd t
 tells_end Wrong cost number at new t = absurd t
 
-module _ (g : Setup) (state : State) (k : Kept) (held : Held) (left : Option (List ℕ)) (under : Under) (stands : StandsWithin g state k held left under) (law : StepsAsSource g state stands.segment.thread)
+module _ (g : Setup) (state : State) (k : Kept) (held : Held) (left : Rest) (under : Under) (stands : StandsWithin g state k held left under) (law : StepsAsSource g state stands.segment.thread)
     (cost : ℕ) (told : TellsEnd (step (setting_of g) stands.here) cost held) where
   pub reaches : IsFinishedIn (checked_of g) g.program (setting_of g) state.source stands.segment.thread stands.segment.puts told.after
   reaches = subst (StepReaches (checked_of g) g.program (setting_of g) state.source stands.segment.thread stands.segment.puts) told.step_is (law stands.segment.puts stands.here stands.within.formed stands.reached)

@@ -23,12 +23,12 @@ use Rattle.cap_word.specs.declared.stops.Stop.{Stop}
 use Rattle.cap_word.specs.declared.threads.ThreadId.{ThreadId}
 use Rattle.runner.specs.Kept.{Kept}
 use Rattle.runner.specs.Lines.{halt_end, end_lines, edge_line}
-use Rattle.runner.specs.Looks.{Knows}
 use Rattle.runner.specs.Output.{Output, unheld, Grows}
 use Rattle.runner.specs.Sound.{IsSound}
 use Rattle.runner.specs.Ways.{IsOnWay, HasTicked, IsOnRun}
-use Rattle.runner.specs.Stands.{StandsBetween, Stands, bytes_of}
-use Rattle.runner.specs.Steps.{IsTold, ActsTo, GoesTo, HaltsAt, HasThread, FailsIn, stop_line}
+use Rattle.runner.specs.Stands.{StandsBetween, Stands}
+use Rattle.runner.specs.Steps.{ActsTo, GoesTo, HaltsAt, HasThread, FailsIn, stop_line}
+use Rattle.runner.specs.Rest.{Rest, HasBytes, bytes_of, Knows, Unasked, Told, Made}
 use Rattle.schedule_log.specs.EntryText.{entry_text, log_text}
 use Rattle.schedule_log.specs.Writing.{TakesPrefix}
 use Rattle.schedule_log.specs.declared.entries.Entry.{Entry}
@@ -61,7 +61,7 @@ lines_same : (g : Setup) (caps : List ℕ) (edges : List EdgeLine) → caps ≡ 
 lines_same g caps [] e = refl
 lines_same g caps (edge ∷ edges) e = ap (λ (c : List ℕ). edge_line c edge ∷ map (edge_line caps) edges) e ∙ ap (λ (l : List Entry). edge_entry g.policy.caps edge ∷ l) (lines_same g caps edges e)
 
-pub end_same : (g : Setup) (state : State) (k : Kept) (held : Held) (halt : Halt) (taken written : Output) (before : Option (List ℕ)) → HaltsAt g state before k held halt taken written → (stop : StopLine) →
+pub end_same : (g : Setup) (state : State) (k : Kept) (held : Held) (halt : Halt) (taken written : Output) (before : Rest) → HaltsAt g state before k held halt taken written → (stop : StopLine) →
     end_lines held.setting.caps k.graph.edges stop ≡ ending g state stop
 end_same g state k held halt taken written before is stop =
     ap (λ (es : List EdgeLine). end_lines held.setting.caps es stop) is.graph.edges
@@ -91,32 +91,52 @@ thread_at held Halt.Idle is = tt
 thread_at held (Halt.BadTrace line) is = tt
 thread_at held (Halt.Cut thread stop cost) is = thread_cut held thread stop cost is
 
+-- ---- what a trace tells, where it tells its bytes
+
+told_bytes : (left : Rest) (told : Option (List ℕ)) → Knows left told → HasBytes left → IfSome told (λ its. its ≡ bytes_of left)
+told_bytes Unasked told knows has = absurd has
+told_bytes (Told left) None knows has = tt
+told_bytes (Told left) (Some its) knows has = cc
+told_bytes (Made bytes) None knows has = tt
+told_bytes (Made bytes) (Some its) knows has = absurd (cc)
+
+-- what holds of these bytes
+if_told : (P : List ℕ → Type 0) (left : Option (List ℕ)) (bytes : List ℕ) → IfSome left (λ its. its ≡ bytes) → P bytes → IfSome left P
+if_told P None bytes told p = tt
+if_told P (Some its) bytes told p = subst P (sym told) p
+
 -- ---- a run that fell short
 
 module _ (g : Setup) (first : Held) {rule : Rule} (monitor : MonitorState) (at : IsAtStartBy rule g first monitor) (sound : IsSound first.accepted) where
-  good_if : (left : Option (List ℕ)) (entries : List Entry) (stop : StopLine) (end : World) → IfSome left (λ b. IsLawfulLog g b entries stop end) → IfSome left (λ b. IsGoodLog g entries)
-  good_if None entries stop end lawful = tt
-  good_if (Some b) entries stop end lawful = good g b entries stop end (scoped g first monitor at sound) (valid g first monitor at sound) (well g first monitor at sound) (fuel_most g first monitor at sound) lawful
+  good_on : (bytes : List ℕ) (entries : List Entry) (stop : StopLine) (end : World) → IsLawfulLog g bytes entries stop end → IsGoodLog g entries
+  good_on bytes entries stop end lawful = good g bytes entries stop end (scoped g first monitor at sound) (valid g first monitor at sound) (well g first monitor at sound) (fuel_most g first monitor at sound) lawful
 
   -- a part of a log was written
-  pub fell_at : (left taken written : Option (List ℕ)) (held : Held) (entries : List Entry) (stop : StopLine) (end : World) → IfSome left (λ b. IsLawfulLog g b entries stop end) → (count : ℕ) → count ≤ length (log_text entries) →
-      Appends taken written (take count (log_text entries)) → ActsTo (setting_of g) first.machine held.machine → stretches.IsSound (checked_of g) held.machine → IfSome left (λ b. IsOnRun g b first.machine entries held.machine) → FellShort g held left taken written
-  fell_at left taken written held entries stop end lawful count part writes acts sound_now on_run = record {
-    entries = entries;
-    stop = stop;
-    end = end;
-    lawful = lawful;
-    good = good_if left entries stop end lawful;
-    count = count;
-    part = part;
-    writes = writes;
-    start = first.machine;
-    starts = starts g first monitor at sound;
-    actions = acts.actions;
-    machine = acts.leads;
-    sound = sound_now;
-    on_run = on_run;
-  }
+  pub fell_at : (left taken written : Option (List ℕ)) (held : Held) (bytes : List ℕ) → IfSome left (λ its. its ≡ bytes) → (entries : List Entry) (stop : StopLine) (end : World) → IsLawfulLog g bytes entries stop end → (count : ℕ) → count ≤ length (log_text entries) →
+      Appends taken written (take count (log_text entries)) → ActsTo (setting_of g) first.machine held.machine → stretches.IsSound (checked_of g) held.machine → IsOnRun g bytes first.machine entries held.machine → FellShort g held left taken written
+  fell_at left taken written held bytes told entries stop end lawful count part writes acts sound_now on_run =
+      let good_now = good_on bytes entries stop end lawful in
+      record {
+        entries = entries;
+        stop = stop;
+        end = end;
+        lawful = if_told (λ b. IsLawfulLog g b entries stop end) left bytes told lawful;
+        good = if_told (λ b. IsGoodLog g entries) left bytes told good_now;
+        bytes = bytes;
+        told = told;
+        lawful_of = lawful;
+        good_of = good_now;
+        count = count;
+        part = part;
+        writes = writes;
+        start = first.machine;
+        starts = starts g first monitor at sound;
+        actions = acts.actions;
+        machine = acts.leads;
+        sound = sound_now;
+        on_run = if_told (λ b. IsOnRun g b first.machine entries held.machine) left bytes told on_run;
+        on_run_of = on_run;
+      }
 
   longer : (a rest whole : List Entry) (count : ℕ) → whole ≡ a ++ rest → count ≤ length (log_text a) → count ≤ length (log_text whole)
   longer a rest whole count e part =
@@ -128,56 +148,53 @@ module _ (g : Setup) (first : Held) {rule : Rule} (monitor : MonitorState) (at :
   begins a rest whole count e part = ap (take count) (ap log_text e ∙ text_append a rest) ∙ take_in (log_text a) (log_text rest) count part
 
   -- a part of entries was written that are allowed from the start: they begin the lawful log
-  pub fell_leads : (left taken written : Option (List ℕ)) (held : Held) (state : State) (entries : List Entry) → (IsTold left → Leads g (start_of g (bytes_of left) first.machine) entries state) → (count : ℕ) → count ≤ length (log_text entries) →
+  pub fell_leads : (left taken written : Option (List ℕ)) (held : Held) (bytes : List ℕ) → IfSome left (λ its. its ≡ bytes) → (state : State) (entries : List Entry) → Leads g (start_of g bytes first.machine) entries state → (count : ℕ) → count ≤ length (log_text entries) →
       Appends taken written (take count (log_text entries)) → ActsTo (setting_of g) first.machine held.machine → IsOnWay (setting_of g) state.machine held.machine → HasTicked state.machine held.machine → stretches.IsSound (checked_of g) held.machine →
       FellShort g held left taken written
-  fell_leads None taken written held state entries leads count part writes acts way ticked in_place = fell_at None taken written held entries StopLine.Done held.machine tt count part writes acts in_place tt
-  fell_leads (Some b) taken written held state entries leads count part writes acts way ticked in_place =
+  fell_leads left taken written held b told state entries leads count part writes acts way ticked in_place =
       let whole : HasOneLog g b = one_log g (scoped g first monitor at sound) (valid g first monitor at sound) (well g first monitor at sound) (fuel_most g first monitor at sound) b in
-      let rest = begins_each g b first.machine entries whole.entries state whole.stop whole.end (starts g first monitor at sound) (leads tt) whole.lawful in
-      fell_at (Some b) taken written held whole.entries whole.stop whole.end whole.lawful count (longer entries rest.0 whole.entries count rest.1 part)
+      let rest = begins_each g b first.machine entries whole.entries state whole.stop whole.end (starts g first monitor at sound) leads whole.lawful in
+      fell_at left taken written held b told whole.entries whole.stop whole.end whole.lawful count (longer entries rest.0 whole.entries count rest.1 part)
       (subst (λ (l : List ℕ). Appends taken written l) (sym (begins entries rest.0 whole.entries count rest.1 part)) writes) acts in_place
-      (record { done = entries; rest = rest.0; joined = rest.1; state = state; leads = leads tt; way = way; clock = ticked })
+      (record { done = entries; rest = rest.0; joined = rest.1; state = state; leads = leads; way = way; clock = ticked })
 
 -- ---- a run so far
 
-pub record Follows (g : Setup) (first : Held) (left_first taken_first : Option (List ℕ)) (k : Kept) (held : Held) (told_left : Option (List ℕ)) (now : Output) : Type 0 where
+-- whatever is left of the trace: what was left of it at the start agrees with what the source told then, and the entries are allowed on
+-- those bytes
+pub record Follows (g : Setup) (first : Held) (left_first taken_first : Option (List ℕ)) (k : Kept) (held : Held) (left : Rest) (now : Output) : Type 0 where
+  pub first_left : Rest
+  pub knows : Knows first_left left_first
+  pub had : HasBytes left → HasBytes first_left
   pub state : State
   pub entries : List Entry
-  pub left : Option (List ℕ)
-  pub knows : Knows left told_left
-  pub told : IsTold left_first → IsTold left
-  pub leads : IsTold left_first → Leads g (start_of g (bytes_of left_first) first.machine) entries state
+  pub leads : HasBytes left → Leads g (start_of g (bytes_of first_left) first.machine) entries state
   pub acts : ActsTo (setting_of g) first.machine state.machine
   pub stands : Stands g state k held left
   pub writes : Grows (unheld taken_first) now (log_text entries)
 
-knows_all : (left : Option (List ℕ)) → Knows left left
-knows_all None = tt
-knows_all (Some bytes) = refl
-
-pub follows_first : (g : Setup) (first : Held) (left taken : Option (List ℕ)) (k : Kept) → k.under ≡ None → StandsBetween g (start_of g (bytes_of left) first.machine) k first left → Follows g first left taken k first left (unheld taken)
-follows_first g first left taken k under stands = record {
+pub follows_first : (g : Setup) (first : Held) (left_first taken : Option (List ℕ)) (k : Kept) (left : Rest) → Knows left left_first → k.under ≡ None → StandsBetween g (start_of g (bytes_of left) first.machine) k first left → Follows g first left_first taken k first left (unheld taken)
+follows_first g first left_first taken k left knows under stands = record {
+  first_left = left;
+  knows = knows;
+  had = λ has. has;
   state = start_of g (bytes_of left) first.machine;
   entries = [];
-  left = left;
-  knows = knows_all left;
-  told = λ told. told;
-  leads = λ told. nowhere;
+  leads = λ has. nowhere;
   acts = no_acts (setting_of g) first.machine first.machine refl;
   stands = by_none g (start_of g (bytes_of left) first.machine) k first left under stands;
   writes = subst (λ (l : List ℕ). Grows (unheld taken) (unheld taken) l) (sym no_line) (grows_none (unheld taken));
 }
 
-module _ (g : Setup) (first : Held) (left_first taken_first : Option (List ℕ)) (k : Kept) (held : Held) (told_left : Option (List ℕ)) (now : Output) (so_far : Follows g first left_first taken_first k held told_left now) where
-  pub follows_on : (new : Kept) (after : Held) (left told_after : Option (List ℕ)) (then_ : Output) → Knows left told_after → GoesTo g so_far.state so_far.left new after left now then_ → Follows g first left_first taken_first new after told_after then_
-  follows_on new after left told_after then_ knows goes = record {
+module _ (g : Setup) (first : Held) (left_first taken_first : Option (List ℕ)) (k : Kept) (held : Held) (left : Rest) (now : Output) (so_far : Follows g first left_first taken_first k held left now) where
+  pub follows_on : (new : Kept) (after : Held) (left_after : Rest) (then_ : Output) → (HasBytes left_after → HasBytes left) → GoesTo g so_far.state left new after left_after now then_ → Follows g first left_first taken_first new after left_after then_
+  follows_on new after left_after then_ had goes = record {
+    first_left = so_far.first_left;
+    knows = so_far.knows;
+    had = λ has. so_far.had (had has);
     state = goes.new;
     entries = so_far.entries ++ goes.entries;
-    left = left;
-    knows = knows;
-    told = λ told. goes.told (so_far.told told);
-    leads = λ told. leads_append g (start_of g (bytes_of left_first) first.machine) so_far.state goes.new so_far.entries goes.entries (so_far.leads told) (goes.leads (so_far.told told));
+    leads = λ has. leads_append g (start_of g (bytes_of so_far.first_left) first.machine) so_far.state goes.new so_far.entries goes.entries (so_far.leads (had has)) (goes.leads (had has));
     acts = acts_on (setting_of g) first.machine so_far.state.machine goes.new.machine so_far.acts goes.acts;
     stands = goes.stands;
     writes = subst (λ (l : List ℕ). Grows (unheld taken_first) then_ l) (sym (text_append so_far.entries goes.entries)) (grows_on (unheld taken_first) now then_ (log_text so_far.entries) (log_text goes.entries) so_far.writes goes.writes);
@@ -192,44 +209,48 @@ module _ (g : Setup) (first : Held) (left_first taken_first : Option (List ℕ))
 
   -- ---- its end
 
-  module _ {rule : Rule} (monitor : MonitorState) (at : IsAtStartBy rule g first monitor) (sound : IsSound first.accepted) where
+  module _ {rule : Rule} (monitor : MonitorState) (at : IsAtStartBy rule g first monitor) (sound : IsSound first.accepted) (has : HasBytes left) where
+    abbrev its_bytes : List ℕ
+    its_bytes = bytes_of so_far.first_left
+
+    told_first : IfSome left_first (λ its. its ≡ its_bytes)
+    told_first = told_bytes so_far.first_left left_first so_far.knows (so_far.had has)
+
     -- a step fails
-    pub fails_now : (after : Held) (then_ : Output) → FailsIn g so_far.state so_far.left after now then_ → FellShort g after left_first taken_first then_.taken
+    pub fails_now : (after : Held) (then_ : Output) → FailsIn g so_far.state left after now then_ → FellShort g after left_first taken_first then_.taken
     fails_now after then_ fails =
         let part = part_from then_.taken fails.entries fails.writes in
-        fell_leads g first monitor at sound left_first taken_first then_.taken after fails.new (so_far.entries ++ fails.entries)
-        (λ told. leads_append g (start_of g (bytes_of left_first) first.machine) so_far.state fails.new so_far.entries fails.entries (so_far.leads told) (fails.leads (so_far.told told)))
+        fell_leads g first monitor at sound left_first taken_first then_.taken after its_bytes told_first fails.new (so_far.entries ++ fails.entries)
+        (leads_append g (start_of g its_bytes first.machine) so_far.state fails.new so_far.entries fails.entries (so_far.leads has) (fails.leads has))
         part.0 part.1 part.2 (acts_on (setting_of g) first.machine so_far.state.machine after.machine so_far.acts fails.acts) fails.way fails.clock fails.sound
 
     -- it stops
-    module _ (halt : Halt) (new : Kept) (after : Held) (mid : Output) (halts : HaltsAt g so_far.state so_far.left new after halt now mid) where
+    module _ (halt : Halt) (new : Kept) (after : Held) (mid : Output) (halts : HaltsAt g so_far.state left new after halt now mid) where
       abbrev stop : StopLine
       stop = stop_line halt (free_count after.machine.areas.pool)
 
       abbrev whole : List Entry
       whole = so_far.entries ++ ending g so_far.state stop
 
-      lawful_if : (left : Option (List ℕ)) → (IsTold left → IsTold so_far.left) → (IsTold left → Leads g (start_of g (bytes_of left) first.machine) so_far.entries so_far.state) → IfSome left (λ b. IsLawfulLog g b whole stop after.machine)
-      lawful_if None told leads = tt
-      lawful_if (Some b) told leads = record {
+      lawful : IsLawfulLog g its_bytes whole stop after.machine
+      lawful = record {
         start = first.machine;
         starts = starts g first monitor at sound;
         before_end = so_far.entries;
         last = so_far.state;
-        leads = leads tt;
-        stops = halts.stops (told tt);
+        leads = so_far.leads has;
+        stops = halts.stops has;
         entries_are = refl;
       }
 
-      on_run_if : (left : Option (List ℕ)) → (IsTold left → Leads g (start_of g (bytes_of left) first.machine) so_far.entries so_far.state) → IfSome left (λ b. IsOnRun g b first.machine whole after.machine)
-      on_run_if None leads = tt
-      on_run_if (Some b) leads = record { done = so_far.entries; rest = ending g so_far.state stop; joined = refl; state = so_far.state; leads = leads tt; way = halts.way; clock = halts.clock }
+      good_now : IsGoodLog g whole
+      good_now = good_on g first monitor at sound its_bytes whole stop after.machine lawful
 
-      lawful : IfSome left_first (λ b. IsLawfulLog g b whole stop after.machine)
-      lawful = lawful_if left_first so_far.told so_far.leads
+      on_run : IsOnRun g its_bytes first.machine whole after.machine
+      on_run = record { done = so_far.entries; rest = ending g so_far.state stop; joined = refl; state = so_far.state; leads = so_far.leads has; way = halts.way; clock = halts.clock }
 
       end_is : log_text (end_lines after.setting.caps new.graph.edges stop) ≡ log_text (ending g so_far.state stop)
-      end_is = ap log_text (end_same g so_far.state new after halt now mid so_far.left halts stop)
+      end_is = ap log_text (end_same g so_far.state new after halt now mid left halts stop)
 
       acted : ActsTo (setting_of g) first.machine after.machine
       acted = acts_on (setting_of g) first.machine so_far.state.machine after.machine so_far.acts halts.acts
@@ -238,8 +259,12 @@ module _ (g : Setup) (first : Held) (left_first taken_first : Option (List ℕ))
       comes_to written puts = record {
         entries = whole;
         stop = stop;
-        lawful = lawful;
-        good = good_if g first monitor at sound left_first whole stop after.machine lawful;
+        lawful = if_told (λ b. IsLawfulLog g b whole stop after.machine) left_first its_bytes told_first lawful;
+        good = if_told (λ b. IsGoodLog g whole) left_first its_bytes told_first good_now;
+        bytes = its_bytes;
+        told = told_first;
+        lawful_of = lawful;
+        good_of = good_now;
         end_is = end_at halt (free_count after.machine.areas.pool);
         thread = thread_at after halt halts.thread;
         writes = whole_from written (ending g so_far.state stop)
@@ -255,5 +280,4 @@ module _ (g : Setup) (first : Held) (left_first taken_first : Option (List ℕ))
       stops_short written puts =
           let part = part_from written (ending g so_far.state stop)
           (subst (λ (l : List ℕ). TakesPrefix now.taken written (now.held ++ l)) end_is (subst (λ (o : Output). TakesPrefix o.taken written (o.held ++ log_text (end_lines after.setting.caps new.graph.edges stop))) halts.writes puts)) in
-          fell_at g first monitor at sound left_first taken_first written after whole stop after.machine lawful part.0 part.1 part.2
-          acted halts.sound (on_run_if left_first so_far.leads)
+          fell_at g first monitor at sound left_first taken_first written after its_bytes told_first whole stop after.machine lawful part.0 part.1 part.2 acted halts.sound on_run

@@ -35,3 +35,4 @@ pub mod Queued
 pub mod Rules
 pub mod Joined
 pub mod Soundness
+pub mod Spelled

@@ -1,9 +1,9 @@
 -- What the next line of the trace is to the run.
-use Rattle.std.proofs.Common.{◌≡◌, ℕ, ◌+◌, List, ◌++◌, Option, Some, None, Ok, Err, inl, inr, refl, sym, ap, ◌∙◌, subst}
+use Rattle.std.proofs.Common.{◌≡◌, ℕ, ◌+◌, ◌≤◌, List, [], ◌++◌, Option, Some, None, Ok, Err, inl, inr, refl, sym, ap, ◌∙◌, subst, arith}
 use Rattle.event_trace.specs.declared.events.Event.{Event}
 use Rattle.event_trace.specs.declared.refusals.TraceError.{TraceError}
 use Rattle.event_trace.specs.Lines.{FitsEvent, rest_of}
-use Rattle.event_trace.specs.Reader.{ReaderState, GivesEvent, RefusesLine, RefusesOrder, NextTold}
+use Rattle.event_trace.specs.Reader.{ReaderState, GivesEvent, RefusesLine, RefusesOrder, NextAnswers, NextTold}
 use Rattle.choice_rules.specs.Trace.{Trace, IsRefused, behind}
 use Rattle.lawful_log.specs.Setup.{Setup}
 use Rattle.lawful_log.specs.State.{State}
@@ -12,9 +12,10 @@ use Rattle.lawful_steps.proofs.Between.{between_read}
 use Rattle.thread_core.specs.Worlds.{Held}
 use Rattle.runner.specs.declared.looking.Next.{Next}
 use Rattle.runner.specs.Kept.{Kept, known}
-use Rattle.runner.specs.Looks.{Knows, Sees, Refuses}
-use Rattle.runner.specs.Stands.{IsTraceOf, IsRead, StandsBetween}
-use Rattle.runner.specs.Steps.{IsTold}
+use Rattle.runner.specs.Looks.{Sees, Refuses}
+use Rattle.runner.specs.Stands.{IsTraceIn, IsTraceOf, IsRead, StandsBetween}
+use Rattle.runner.specs.Rest.{Rest, HasBytes, Knows, Unasked, Told, Made}
+use Rattle.runner.proofs.Spelled.{line_and, gives_line, behind_line, bad_line, refuses_bad_line}
 use Rattle.runner.proofs.Waited.{clock_same}
 
 abbrev trace_of : List ℕ → ℕ → ℕ → Trace
@@ -26,68 +27,122 @@ same_trace b c l m t u p q r = ap (λ x. trace_of x l t) p ∙ ap (λ x. trace_o
 some_same : (a b : List ℕ) → Some a ≡ Some b → a ≡ b
 some_same a b e = cc
 
--- what is known of the trace behind a look, and of what is left
-record KnowsOf (trace : Trace) (reader : ReaderState) (next : Next) (before told : Option (List ℕ)) : Type 0 where
-  left : Option (List ℕ)
-  knows : Knows left told
-  still_told : IsTold before → IsTold left
-  trace_is : IsTraceOf trace reader next left
+-- ---- what was left before a line was read
+
+-- the bytes that are left
+abbrev pub rest_in : ReaderState → Rest → List ℕ
+rest_in reader Unasked = []
+rest_in reader (Told left) = reader.held ++ left
+rest_in reader (Made bytes) = bytes
+
+-- those that the source told, or else these
+abbrev made_by : Option (List ℕ) → List ℕ → Rest
+made_by None bytes = Made bytes
+made_by (Some left) bytes = Told left
+
+abbrev pub back : Rest → Option (List ℕ) → List ℕ → Rest
+back Unasked told bytes = Unasked
+back (Told left) told bytes = made_by told bytes
+back (Made rest) told bytes = made_by told bytes
+
+knows_made : (told : Option (List ℕ)) (bytes : List ℕ) → Knows (made_by told bytes) told
+knows_made None bytes = refl
+knows_made (Some left) bytes = refl
+
+pub knows_back : (after : Rest) (told : Option (List ℕ)) (bytes : List ℕ) → Knows (back after told bytes) told
+knows_back Unasked told bytes = tt
+knows_back (Told left) told bytes = knows_made told bytes
+knows_back (Made rest) told bytes = knows_made told bytes
+
+has_made : (told : Option (List ℕ)) (bytes : List ℕ) → HasBytes (made_by told bytes)
+has_made None bytes = tt
+has_made (Some left) bytes = tt
+
+pub has_back : (after : Rest) (told : Option (List ℕ)) (bytes : List ℕ) → HasBytes after → HasBytes (back after told bytes)
+has_back Unasked told bytes has = has
+has_back (Told left) told bytes has = has_made told bytes
+has_back (Made rest) told bytes has = has_made told bytes
+
+pub had_back : (after : Rest) (told : Option (List ℕ)) (bytes : List ℕ) → HasBytes (back after told bytes) → HasBytes after
+had_back Unasked told bytes has = has
+had_back (Told left) told bytes has = tt
+had_back (Made rest) told bytes has = tt
+
+-- ---- the next line of the trace
+
+-- it is refused
+abbrev pub IsRefusal : TraceError → Type 0
+IsRefusal (TraceError.Line number) = Unit {0}
+IsRefusal (TraceError.Order number time earlier) = Unit {0}
+IsRefusal TraceError.ReadFault = ⊥
 
 module _ (trace : Trace) (old reader : ReaderState) where
-  -- the trace by what the source tells
-  source_is : (l b : List ℕ) → Some b ≡ Some l → trace ≡ trace_of (old.held ++ l) old.lines old.last → trace ≡ trace_of (old.held ++ b) old.lines old.last
-  source_is l b knows is = is ∙ ap (λ x. trace_of (old.held ++ x) old.lines old.last) (sym (some_same b l knows))
+  over_made : (told told' : Option (List ℕ)) → IsTraceOf trace old Next.Unread (made_by told []) → NextTold old reader told told' (Ok None) → trace.bytes ≡ []
+  over_made None told' is next = ap (λ (t : Trace). t.bytes) is
+  over_made (Some b) None is next = absurd next
+  over_made (Some b) (Some a) is next = ap (λ (t : Trace). t.bytes) is ∙ next.0
 
-  over_known : (left before told : Option (List ℕ)) → Knows left before → IsTraceOf trace old Next.Unread left → NextTold old reader before told (Ok None) → KnowsOf trace reader Next.Over left told
-  over_known None before told knows is next = record { left = None; knows = tt; still_told = λ t. t; trace_is = tt }
-  over_known (Some l) None told knows is next = absurd (cc)
-  over_known (Some l) (Some b) None knows is next = absurd next
-  over_known (Some l) (Some b) (Some a) knows is next = record {
-    left = Some a;
-    knows = refl;
-    still_told = λ t. tt;
-    trace_is = ap (λ (t : Trace). t.bytes) (source_is l b knows is) ∙ next.0;
-  }
+  over_known : (after : Rest) (told told' : Option (List ℕ)) → IsTraceOf trace old Next.Unread (back after told []) → NextTold old reader told told' (Ok None) → IsTraceOf trace reader Next.Over after
+  over_known Unasked told told' is next = tt
+  over_known (Told left) told told' is next = over_made told told' is next
+  over_known (Made bytes) told told' is next = over_made told told' is next
 
-  event_known : (event : Event) (left before told : Option (List ℕ)) → Knows left before → IsTraceOf trace old Next.Unread left → NextTold old reader before told (Ok (Some event)) →
-      reader.lines ≡ old.lines + 1 → reader.last ≡ event.time → KnowsOf trace reader (Next.Event event) left told
-  event_known event None before told knows is next lines last = record { left = None; knows = tt; still_told = λ t. t; trace_is = tt }
-  event_known event (Some l) None told knows is next lines last = absurd (cc)
-  event_known event (Some l) (Some b) None knows is next lines last = absurd next
-  event_known event (Some l) (Some b) (Some a) knows is next lines last =
-      let here = source_is l b knows is in
-      record {
-        left = Some a;
-        knows = refl;
-        still_told = λ t. tt;
-        trace_is = (
-          subst (λ (t : Trace). GivesEvent t.bytes t.lines t.last event) (sym here) next.0,
-          ap (λ (t : Trace). behind t event) here
-              ∙ same_trace (rest_of (old.held ++ b)) (reader.held ++ a) (old.lines + 1) reader.lines event.time reader.last (sym next.1) (sym lines) (sym last),
-        );
-      }
+  module _ (event : Event) (fits : FitsEvent event) (rises : old.last ≤ event.time) (counted : reader.lines ≤ 1000000) (lines : reader.lines ≡ old.lines + 1) (last : reader.last ≡ event.time) where
+    -- the line of the event comes first, and then these
+    event_in : (bytes rest : List ℕ) → trace ≡ trace_of bytes old.lines old.last → GivesEvent bytes old.lines old.last event → rest ≡ rest_of bytes → IsTraceIn trace reader (Next.Event event) rest
+    event_in bytes rest here gives is = (
+      subst (λ (t : Trace). GivesEvent t.bytes t.lines t.last event) (sym here) gives,
+      ap (λ (t : Trace). behind t event) here
+          ∙ same_trace (rest_of bytes) rest (old.lines + 1) reader.lines event.time reader.last (sym is) (sym lines) (sym last),
+    )
 
-  line_refused : (number : ℕ) (left before told : Option (List ℕ)) → Knows left before → IsTraceOf trace old Next.Unread left → NextTold old reader before told (Err (TraceError.Line number)) → IsTold left → IsRefused trace number
-  line_refused number None before told knows is next t = absurd t
-  line_refused number (Some l) None told knows is next t = absurd (cc)
-  line_refused number (Some l) (Some b) None knows is next t = absurd next
-  line_refused number (Some l) (Some b) (Some a) knows is next t = inl (subst (λ (t : Trace). RefusesLine t.bytes t.lines number) (sym (source_is l b knows is)) next.0)
+    event_line : (rest : List ℕ) → trace ≡ trace_of (line_and event rest) old.lines old.last → IsTraceIn trace reader (Next.Event event) rest
+    event_line rest here = event_in (line_and event rest) rest here (gives_line event rest old.lines old.last fits (let most = counted in let more = lines in omega (arith, most, more)) rises) (sym (behind_line event rest))
 
-  order_refused : (number time earlier : ℕ) (left before told : Option (List ℕ)) → Knows left before → IsTraceOf trace old Next.Unread left → NextTold old reader before told (Err (TraceError.Order number time earlier)) → IsTold left → IsRefused trace number
-  order_refused number time earlier None before told knows is next t = absurd t
-  order_refused number time earlier (Some l) None told knows is next t = absurd (cc)
-  order_refused number time earlier (Some l) (Some b) None knows is next t = absurd next
-  order_refused number time earlier (Some l) (Some b) (Some a) knows is next t =
-      inr (time, earlier, subst (λ (t : Trace). RefusesOrder t.bytes t.lines t.last number time earlier) (sym (source_is l b knows is)) next.0)
+    event_known : (after : Rest) (told told' : Option (List ℕ)) → Knows after told' → IsTraceOf trace old Next.Unread (back after told (line_and event (rest_in reader after))) → NextTold old reader told told' (Ok (Some event)) →
+        IsTraceOf trace reader (Next.Event event) after
+    event_known Unasked told told' knows is next = tt
+    event_known (Told left) None told' knows is next = event_line (reader.held ++ left) is
+    event_known (Told left) (Some b) None knows is next = absurd next
+    event_known (Told left) (Some b) (Some a) knows is next =
+        event_in (old.held ++ b) (reader.held ++ left) is next.0 (ap (λ (l : List ℕ). reader.held ++ l) (sym (some_same a left knows)) ∙ next.1)
+    event_known (Made bytes) None told' knows is next = event_line bytes is
+    event_known (Made bytes) (Some b) None knows is next = absurd next
+    event_known (Made bytes) (Some b) (Some a) knows is next = absurd (cc)
 
-module _ (g : Setup) (state : State) (k : Kept) (held : Held) (left : Option (List ℕ)) (stands : StandsBetween g state k held left) (unread : k.next ≡ Next.Unread) where
+  -- a line is refused, of this number
+  module _ (number : ℕ) (number_is : number ≡ old.lines + 1) where
+    refused_told : (error : TraceError) (bytes : List ℕ) → trace ≡ trace_of bytes old.lines old.last → IsRefusal error → NextAnswers bytes old.lines old.last (Err error) → IsRefused trace number
+    refused_told (TraceError.Line n) bytes here is next =
+        inl (subst (λ (t : Trace). RefusesLine t.bytes t.lines number) (sym here) (record { some = next.some; number_is = number_is; spells_none = next.spells_none }))
+    refused_told (TraceError.Order n time earlier) bytes here is next =
+        inr (
+          time,
+          earlier,
+          subst (λ (t : Trace). RefusesOrder t.bytes t.lines t.last number time earlier) (sym here)
+              (record { some = next.some; counted = next.counted; number_is = number_is; earlier_is = next.earlier_is; falls = next.falls; kind = next.kind; line = next.line }),
+        )
+    refused_told TraceError.ReadFault bytes here is next = absurd is
+
+    refused_made : (error : TraceError) (told told' : Option (List ℕ)) → IsTraceOf trace old Next.Unread (made_by told bad_line) → IsRefusal error → NextTold old reader told told' (Err error) → IsRefused trace number
+    refused_made error None told' here is next = inl (subst (λ (t : Trace). RefusesLine t.bytes t.lines number) (sym here) (refuses_bad_line old.lines number number_is))
+    refused_made error (Some b) None here is next = absurd next
+    refused_made error (Some b) (Some a) here is next = refused_told error (old.held ++ b) here is next.0
+
+    refused_known : (error : TraceError) (after : Rest) (told told' : Option (List ℕ)) → IsTraceOf trace old Next.Unread (back after told bad_line) → IsRefusal error → NextTold old reader told told' (Err error) →
+        HasBytes (back after told bad_line) → IsRefused trace number
+    refused_known error Unasked told told' here is next has = absurd has
+    refused_known error (Told left) told told' here is next has = refused_made error told told' here is next
+    refused_known error (Made bytes) told told' here is next has = refused_made error told told' here is next
+
+module _ (g : Setup) (state : State) (k : Kept) (held : Held) (left : Rest) (stands : StandsBetween g state k held left) (unread : k.next ≡ Next.Unread) where
   between_unread : IsBetween g state None held.machine
   between_unread = subst (λ (n : Next). IsBetween g state (known n) held.machine) unread stands.between
 
   trace_unread : IsTraceOf state.trace k.reader Next.Unread left
   trace_unread = subst (λ (n : Next). IsTraceOf state.trace k.reader n left) unread stands.read.trace_is
 
-  stands_read : (reader : ReaderState) (next : Next) (event : Option Event) (now : Option (List ℕ)) → known next ≡ Some event → IsRead state.trace reader next now → StandsBetween g state (record k { reader = reader; next = next }) held now
+  stands_read : (reader : ReaderState) (next : Next) (event : Option Event) (now : Rest) → known next ≡ Some event → IsRead state.trace reader next now → StandsBetween g state (record k { reader = reader; next = next }) held now
   stands_read reader next event now e read = record {
     of = stands.of;
     going = stands.going;
@@ -104,36 +159,40 @@ module _ (g : Setup) (state : State) (k : Kept) (held : Held) (left : Option (Li
   pub machine_same : held.machine ≡ state.machine
   machine_same = clock_same state held.machine between_unread.machine_is between_unread.clock_is
 
-  module _ (reader : ReaderState) (before told : Option (List ℕ)) (knows : Knows left before) where
-    pub over_seen : NextTold k.reader reader before told (Ok None) → reader ≡ k.reader → Sees g state left (record k { reader = reader; next = Next.Over }) held told None
-    over_seen next kept =
-        let here = over_known state.trace k.reader reader left before told knows trace_unread next in
-        record {
-          left = here.left;
-          knows = here.knows;
-          still_told = here.still_told;
-          stands = stands_read reader Next.Over None here.left refl (record { trace_is = here.trace_is; unrefused = ap (λ (r : ReaderState). r.refused) kept ∙ stands.read.unrefused; fits = tt });
-          next_is = refl;
-        }
+-- ---- what a reader's answer is to the run
 
-    pub event_seen : (event : Event) → NextTold k.reader reader before told (Ok (Some event)) → reader.lines ≡ k.reader.lines + 1 → reader.last ≡ event.time → reader.refused ≡ k.reader.refused → FitsEvent event →
-        Sees g state left (record k { reader = reader; next = Next.Event event }) held told (Some event)
-    event_seen event next lines last kept fits =
-        let here = event_known state.trace k.reader reader event left before told knows trace_unread next lines last in
-        record {
-          left = here.left;
-          knows = here.knows;
-          still_told = here.still_told;
-          stands = stands_read reader (Next.Event event) (Some event) here.left refl (record { trace_is = here.trace_is; unrefused = kept ∙ stands.read.unrefused; fits = fits });
-          next_is = refl;
-        }
+-- nothing was read of the trace that the reader held already: a look at a line that was looked at before
+pub seen_before : (g : Setup) (state : State) (k : Kept) (held : Held) (left : Rest) (event : Option Event) → StandsBetween g state k held left → known k.next ≡ Some event → Sees g state k held left event
+seen_before g state k held left event stands e = record { stands = stands; next_is = e }
 
-    pub line_seen : (number : ℕ) → NextTold k.reader reader before told (Err (TraceError.Line number)) → Refuses g state left held number
-    line_seen number next = record { refused = line_refused state.trace k.reader reader number left before told knows trace_unread next; machine_is = machine_same }
+module _ (g : Setup) (state : State) (k : Kept) (held : Held) (unread : k.next ≡ Next.Unread) (reader : ReaderState) (told told' : Option (List ℕ)) (after : Rest) where
+  pub over_seen : StandsBetween g state k held (back after told []) → NextTold k.reader reader told told' (Ok None) → reader ≡ k.reader → Sees g state (record k { reader = reader; next = Next.Over }) held after None
+  over_seen stands next kept = record {
+    stands = stands_read g state k held (back after told []) stands unread reader Next.Over None after refl (record {
+      trace_is = over_known state.trace k.reader reader after told told' (trace_unread g state k held (back after told []) stands unread) next;
+      unrefused = ap (λ (r : ReaderState). r.refused) kept ∙ stands.read.unrefused;
+      fits = tt;
+    });
+    next_is = refl;
+  }
 
-    pub order_seen : (number time earlier : ℕ) → NextTold k.reader reader before told (Err (TraceError.Order number time earlier)) → Refuses g state left held number
-    order_seen number time earlier next = record { refused = order_refused state.trace k.reader reader number time earlier left before told knows trace_unread next; machine_is = machine_same }
+  pub event_seen : (event : Event) → Knows after told' → StandsBetween g state k held (back after told (line_and event (rest_in reader after))) → NextTold k.reader reader told told' (Ok (Some event)) →
+      (reader.lines ≡ k.reader.lines + 1) × (reader.last ≡ event.time) × (reader.refused ≡ k.reader.refused) → FitsEvent event × (k.reader.last ≤ event.time) → reader.lines ≤ 1000000 →
+      Sees g state (record k { reader = reader; next = Next.Event event }) held after (Some event)
+  event_seen event knows stands next kept fits counted =
+      let before : Rest = back after told (line_and event (rest_in reader after)) in
+      record {
+        stands = stands_read g state k held before stands unread reader (Next.Event event) (Some event) after refl (record {
+          trace_is = event_known state.trace k.reader reader event fits.0 fits.1 counted kept.0 kept.1 after told told' knows (trace_unread g state k held before stands unread) next;
+          unrefused = kept.2 ∙ stands.read.unrefused;
+          fits = fits.0;
+        });
+        next_is = refl;
+      }
 
--- a line that was looked at before
-pub seen_before : (g : Setup) (state : State) (k : Kept) (held : Held) (left told : Option (List ℕ)) (event : Option Event) → StandsBetween g state k held left → Knows left told → known k.next ≡ Some event → Sees g state left k held told event
-seen_before g state k held left told event stands knows e = record { left = left; knows = knows; still_told = λ t. t; stands = stands; next_is = e }
+  pub refused_seen : (error : TraceError) (number : ℕ) → StandsBetween g state k held (back after told bad_line) → IsRefusal error → NextTold k.reader reader told told' (Err error) → reader.lines ≡ k.reader.lines → number ≡ reader.lines + 1 →
+      Refuses g state (back after told bad_line) held number
+  refused_seen error number stands is next same number_is = record {
+    refused = refused_known state.trace k.reader reader number (number_is ∙ ap (λ (n : ℕ). n + 1) same) error after told told' (trace_unread g state k held (back after told bad_line) stands unread) is next;
+    machine_is = machine_same g state k held (back after told bad_line) stands unread;
+  }

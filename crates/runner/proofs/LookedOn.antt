@@ -23,13 +23,14 @@ use Rattle.runner.specs.Output.{Output}
 use Rattle.runner.specs.Looks.{Sees, Refuses, Nears}
 use Rattle.runner.specs.Ranks.{due_at, long_rank, lines_rank, stuck_rank, rank, FallsTo}
 use Rattle.runner.specs.Stands.{StandsBetween, StandsSomehow, IsAtPoint}
-use Rattle.runner.specs.Steps.{IsTold, HaltsAt, FailsIn, StepEnds}
+use Rattle.runner.specs.Steps.{HaltsAt, FailsIn, StepEnds}
+use Rattle.runner.specs.Rest.{Rest, HasBytes, Unasked, Told, Made}
 use Rattle.runner.proofs.Parts.{acts_between, way_between, same_ticks, onward_between, no_part, to_between}
 use Rattle.runner.proofs.Soundness.{sound_between}
 use Rattle.runner.proofs.Waited.{clock_same}
 
 -- what is known of the trace may be left out
-pub forget : (g : Setup) (state : State) (k : Kept) (held : Held) (left : Option (List ℕ)) → StandsBetween g state k held left → StandsBetween g state k held None
+pub forget : (g : Setup) (state : State) (k : Kept) (held : Held) (left : Rest) → StandsBetween g state k held left → StandsBetween g state k held Unasked
 forget g state k held left is = record {
   of = is.of;
   going = is.going;
@@ -46,7 +47,7 @@ forget g state k held left is = record {
 pub unrefused : (k : Kept) (held : Held) → k.under ≡ None → StandsSomehow k held → k.reader.refused ≡ None
 unrefused k held e s = (to_between s.0 s.1 k held s.2 e s.3).read.unrefused
 
-module _ (g : Setup) (state : State) (k : Kept) (held : Held) (left : Option (List ℕ)) (stands : StandsBetween g state k held left) where
+module _ (g : Setup) (state : State) (k : Kept) (held : Held) (left : Rest) (stands : StandsBetween g state k held left) where
   threads_same : held.machine.threads ≡ state.machine.threads
   threads_same = ap (λ (w : World). w.threads) stands.between.machine_is
 
@@ -88,17 +89,21 @@ module _ (g : Setup) (state : State) (k : Kept) (held : Held) (left : Option (Li
   pub read_fails : (taken : Output) → held.machine ≡ state.machine → FailsIn g state left held taken taken
   read_fails taken same = no_part g state left held taken stands.of (onward_between g state k held left stands same)
 
-pub at_point : (g : Setup) (state : State) (left : Option (List ℕ)) (k : Kept) (held : Held) (told : Option (List ℕ)) (event : Option Event) (sees : Sees g state left k held told event) → k.under ≡ None → held.machine.threads ≢ [] →
-    IsAtPoint g state k held sees.left event
-at_point g state left k held told event sees under live = record { stands = sees.stands; between = under; known_is = sees.next_is; live = live }
+pub at_point : (g : Setup) (state : State) (left : Rest) (k : Kept) (held : Held) (event : Option Event) → Sees g state k held left event → k.under ≡ None → held.machine.threads ≢ [] → IsAtPoint g state k held left event
+at_point g state left k held event sees under live = record { stands = sees.stands; between = under; known_is = sees.next_is; live = live }
+
+-- nothing is said of what was left, where nothing is said of what is left
+pub unasked : (before : Rest) → (HasBytes before → ⊥) → before ≡ Unasked
+unasked Unasked none = refl
+unasked (Told left) none = absurd (none tt)
+unasked (Made bytes) none = absurd (none tt)
 
 -- the step behind a look, from where it was looked
-pub from_before : (g : Setup) (state : State) (before here : Option (List ℕ)) (k : Kept) (held : Held) (left : Option (List ℕ)) (taken written : Output) (result : Result (Option Halt) Failure) → (IsTold before → IsTold here) →
+pub from_before : (g : Setup) (state : State) (before here : Rest) (k : Kept) (held : Held) (left : Rest) (taken written : Output) (result : Result (Option Halt) Failure) → (HasBytes before → HasBytes here) →
     StepEnds g state here k held left taken written result → StepEnds g state before k held left taken written result
 from_before g state before here k held left taken written (Ok None) told is = record {
   new = is.new;
   entries = is.entries;
-  told = λ t. is.told (told t);
   leads = λ t. is.leads (told t);
   acts = is.acts;
   stands = is.stands;

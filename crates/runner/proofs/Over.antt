@@ -50,6 +50,7 @@ use Rattle.machine_world.specs.Alone.{KeepsThread}
 use Rattle.machine_world.proofs.OtherThreads.{KeepsThread-step}
 use Rattle.runner.specs.Needs.{IsNeeded}
 use Rattle.runner.specs.Rules.{AreKept, AreTold}
+use Rattle.runner.specs.Rest.{Rest}
 use Rattle.runner.proofs.Rules.{accounts_rejoined, kept_rejoined, noted_rejoined, told_rejoined, told_step}
 use Rattle.ready_tree.specs.declared.needs.Need.{Need}
 use Rattle.runner.proofs.Turned.{some_live}
@@ -95,7 +96,7 @@ gate_more g state uses = fold-append (λ was_open u. gate_after g.policy.high g.
 pub edges_more : (records : List SegmentRecord) (r : SegmentRecord) → edges_of (records ++ r ∷ []) ≡ edges_with (edges_of records) r
 edges_more records r = fold-append edges_with [] records (r ∷ [])
 
-module _ (g : Setup) (state : State) (k : Kept) (held : Held) (left : Option (List ℕ)) (under : Under) (stands : StandsWithin g state k held left under) (law : StepsAsSource g state stands.segment.thread)
+module _ (g : Setup) (state : State) (k : Kept) (held : Held) (left : Rest) (under : Under) (stands : StandsWithin g state k held left under) (law : StepsAsSource g state stands.segment.thread)
     (key : List ℕ) (cost : ℕ) (told : TellsBlock (step (setting_of g) stands.here) key cost stands.segment.thread held) where
   pub reaches : IsFinishedIn (checked_of g) g.program (setting_of g) state.source stands.segment.thread stands.segment.puts told.after
   reaches = subst (StepReaches (checked_of g) g.program (setting_of g) state.source stands.segment.thread stands.segment.puts) told.step_is (law stands.segment.puts stands.here stands.within.formed stands.reached)

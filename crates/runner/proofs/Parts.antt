@@ -17,13 +17,14 @@ use Rattle.runner.specs.declared.ends.Failure.{Failure}
 use Rattle.runner.specs.Kept.{Kept}
 use Rattle.runner.specs.Output.{Output, Grows, PutsText, TakesPart}
 use Rattle.runner.specs.Stands.{IsOf, StandsBetween, StandsWithin, StandsBy, Stands}
-use Rattle.runner.specs.Steps.{IsTold, ActsTo, GoesTo, FailsIn, PartEnds}
+use Rattle.runner.specs.Steps.{ActsTo, GoesTo, FailsIn, PartEnds}
 use Rattle.schedule_log.specs.EntryText.{entry_text, log_text}
 use Rattle.schedule_log.specs.declared.entries.Entry.{Entry}
 use Rattle.thread_core.specs.Turns.{Tells}
 use Rattle.thread_core.specs.Worlds.{Held}
 use Rattle.thread_core.specs.declared.turns.Turn.{Turn}
 use Rattle.runner.specs.Ways.{IsOnWay, has_waited, has_run, has_told, HasTicked}
+use Rattle.runner.specs.Rest.{Rest, HasBytes}
 use Rattle.runner.proofs.Acting.{acts_on, one_step, told_acts}
 use Rattle.runner.proofs.Joined.{grows_none, part_none}
 use Rattle.runner.proofs.Soundness.{sound_between, sound_within, sound_now}
@@ -125,7 +126,7 @@ pub record Onward (g : Setup) (from after : World) : Type 0 where
   pub clock : HasTicked from after
   pub sound : IsSound (checked_of g) after
 
-module _ (g : Setup) (state : State) (k : Kept) (held : Held) (left : Option (List ℕ)) where
+module _ (g : Setup) (state : State) (k : Kept) (held : Held) (left : Rest) where
   pub acts_between : StandsBetween g state k held left → ActsTo (setting_of g) state.machine held.machine
   acts_between stands = subst (λ (w : World). ActsTo (setting_of g) state.machine w) (sym stands.between.machine_is)
       (advance_acts (setting_of g) state.machine held.machine.clock stands.between.stands.between stands.between.later)
@@ -199,18 +200,17 @@ unfolding log_text
 no_line = refl
 
 -- nothing was put
-pub silent : (g : Setup) (state : State) (left : Option (List ℕ)) (k : Kept) (held : Held) (after : Option (List ℕ)) (taken : Output) → (IsTold left → IsTold after) → Stands g state k held after → GoesTo g state left k held after taken taken
-silent g state left k held after taken told stands = record {
+pub silent : (g : Setup) (state : State) (left : Rest) (k : Kept) (held : Held) (after : Rest) (taken : Output) → Stands g state k held after → GoesTo g state left k held after taken taken
+silent g state left k held after taken stands = record {
   new = state;
   entries = [];
-  told = told;
   leads = λ t. nowhere;
   acts = no_acts (setting_of g) state.machine state.machine refl;
   stands = stands;
   writes = subst (λ (l : List ℕ). Grows taken taken l) (sym no_line) (grows_none taken);
 }
 
-pub no_part : (g : Setup) (state : State) (left : Option (List ℕ)) (held : Held) (taken : Output) → IsOf g held → Onward g state.machine held.machine → FailsIn g state left held taken taken
+pub no_part : (g : Setup) (state : State) (left : Rest) (held : Held) (taken : Output) → IsOf g held → Onward g state.machine held.machine → FailsIn g state left held taken taken
 no_part g state left held taken of onward = record {
   new = state;
   entries = [];
@@ -224,12 +224,11 @@ no_part g state left held taken of onward = record {
 }
 
 -- a line was put, or a beginning of it and of what was held was taken
-pub part_of : (g : Setup) (state new : State) (left : Option (List ℕ)) (k : Kept) (held : Held) (taken written : Output) (entry : Entry) (result : Result (Unit {0}) Failure) → (IsTold left → IsAllowed g state entry new) →
+pub part_of : (g : Setup) (state new : State) (left : Rest) (k : Kept) (held : Held) (taken written : Output) (entry : Entry) (result : Result (Unit {0}) Failure) → (HasBytes left → IsAllowed g state entry new) →
     ActsTo (setting_of g) state.machine new.machine → HasTicked new.machine held.machine → Stands g new k held left → PutsText taken written (entry_text entry ++ 10 ∷ []) result → PartEnds g state left k held left taken written result
 part_of g state new left k held taken written entry (Ok v) allowed acts ticked stands puts = record {
   new = new;
   entries = entry ∷ [];
-  told = λ told. told;
   leads = λ told. by_entry (allowed told) nowhere;
   acts = acts;
   stands = stands;

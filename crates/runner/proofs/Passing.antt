@@ -1,5 +1,5 @@
 -- What was told of a segment is a step.
-use Rattle.std.proofs.Common.{◌≡◌, ℕ, List, Option, refl, sym, ap, ◌∙◌}
+use Rattle.std.proofs.Common.{◌≡◌, ℕ, refl, sym, ap, ◌∙◌}
 use Rattle.cap_word.specs.declared.stops.Stop.{Stop}
 use Rattle.lawful_log.specs.Setup.{Setup}
 use Rattle.lawful_log.specs.State.{State}
@@ -10,6 +10,7 @@ use Rattle.runner.specs.Output.{Output}
 use Rattle.runner.specs.Stands.{StandsWithin}
 use Rattle.machine_world.specs.Threads.{World, thread_of}
 use Rattle.runner.specs.Steps.{HaltsAt}
+use Rattle.runner.specs.Rest.{Rest}
 use Rattle.thread_core.specs.Worlds.{Held, IsThread}
 use Rattle.thread_core.specs.declared.turns.Turn.{Turn}
 use Rattle.runner.proofs.AsSource.{source_steps}
@@ -19,7 +20,7 @@ use Rattle.runner.proofs.Told.{cut_is, cut_told}
 use Rattle.runner.proofs.Turned.{some_live}
 
 -- the thread of the segment lives, and its record stands at its place
-cut_thread : (g : Setup) (state : State) (k : Kept) (held : Held) (left : Option (List ℕ)) (under : Under) (stands : StandsWithin g state k held left under) (stop : Stop) (cost : ℕ) → under.turn ≡ Turn.Cut stop cost →
+cut_thread : (g : Setup) (state : State) (k : Kept) (held : Held) (left : Rest) (under : Under) (stands : StandsWithin g state k held left under) (stop : Stop) (cost : ℕ) → under.turn ≡ Turn.Cut stop cost →
     IsThread held under.choice.thread
 cut_thread g state k held left under stands stop cost turn_is =
     let told = cut_told g state k held left under stands (source_steps g state held stands.of stands.segment.thread) stop cost turn_is in
@@ -27,7 +28,7 @@ cut_thread g state k held left under stands stop cost turn_is =
     (ap (λ (w : World). thread_of w under.choice.thread.number) told.machine
     ∙ ap (λ (n : ℕ). thread_of stands.here n) (stands.thread_is ∙ sym stands.reached.of_thread) ∙ stands.reached.under_way.live))
 
-pub cut_halts : (g : Setup) (state : State) (k : Kept) (held : Held) (left : Option (List ℕ)) (under : Under) (stands : StandsWithin g state k held left under) (stop : Stop) (cost : ℕ) → under.turn ≡ Turn.Cut stop cost → (taken : Output) →
+pub cut_halts : (g : Setup) (state : State) (k : Kept) (held : Held) (left : Rest) (under : Under) (stands : StandsWithin g state k held left under) (stop : Stop) (cost : ℕ) → under.turn ≡ Turn.Cut stop cost → (taken : Output) →
     HaltsAt g state left k held (Halt.Cut under.choice.thread stop cost) taken taken
 cut_halts g state k held left under stands stop cost turn_is taken = record {
   of = stands.of;

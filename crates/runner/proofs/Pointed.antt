@@ -1,5 +1,5 @@
 -- A choice point that goes on: what its parts are given.
-use Rattle.std.proofs.Common.{◌≡◌, ℕ, ◌+◌, ◌-◌, ◌*◌, ◌<◌, ◌≤◌, Bool, true, false, List, Option, Some, None, Ok, refl, sym, ap, ◌∙◌, subst, arith, if◌then◌else◌}
+use Rattle.std.proofs.Common.{◌≡◌, ℕ, ◌+◌, ◌-◌, ◌*◌, ◌<◌, ◌≤◌, Bool, true, false, Option, Some, None, Ok, refl, sym, ap, ◌∙◌, subst, arith, if◌then◌else◌}
 use Rattle.std.specs.Prelude.{nat_le}
 use Rattle.std.proofs.lemmas.Bool.Decides.{nat_tests}
 use Rattle.event_trace.specs.Lines.{FitsEvent, FitsKind}
@@ -20,6 +20,7 @@ use Rattle.runner.specs.Ranks.{long_rank, lines_rank, next_rank, under_rank}
 use Rattle.runner.specs.Stands.{FitsNext, IsAtPoint}
 use Rattle.runner.specs.Steps.{HaltsAt, StepEnds}
 use Rattle.runner.specs.Waits.{WaitEnds}
+use Rattle.runner.specs.Rest.{Rest}
 use Rattle.thread_core.specs.Making.{IsEventInRange, after_event}
 use Rattle.thread_core.specs.Worlds.{Held}
 use Rattle.runner.proofs.Parts.{acts_between, way_between, same_ticks, by_none, silent}
@@ -40,7 +41,7 @@ due_by event clock none = by (nat_le event.time clock) refl where
   by false e = e
   by true e = absurd (none (grind (arith, nat_tests, e)))
 
-module _ (g : Setup) (state : State) (k : Kept) (held : Held) (left : Option (List ℕ)) (next : Option Event) (at : IsAtPoint g state k held left next) where
+module _ (g : Setup) (state : State) (k : Kept) (held : Held) (left : Rest) (next : Option Event) (at : IsAtPoint g state k held left next) where
   pub resting : held.machine.running ≡ None
   resting = ap (λ (w : World). w.running) at.stands.between.machine_is ∙ at.stands.between.stands.between
 
@@ -58,7 +59,7 @@ module _ (g : Setup) (state : State) (k : Kept) (held : Held) (left : Option (Li
 
   -- the clock has moved, or the run is idle
   pub waited : (new : Held) (result : Option Halt) (taken : Output) → WaitEnds g state k held new left result → StepEnds g state left k new left taken taken (Ok result)
-  waited new None taken is = silent g state left k new left taken (λ told. told) (by_none g state k new left at.between is.stands)
+  waited new None taken is = silent g state left k new left taken (by_none g state k new left at.between is.stands)
   waited new (Some halt) taken is = subst (λ (h : Held). HaltsAt g state left k h halt taken taken) (sym is.same) (subst (λ (stop : Halt). HaltsAt g state left k held stop taken taken) (sym is.halt_is) idle) where
     idle : HaltsAt g state left k held Halt.Idle taken taken
     idle = record {

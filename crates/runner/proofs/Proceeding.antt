@@ -12,11 +12,12 @@ use Rattle.machine_world.specs.Threads.{Setting}
 use Rattle.runner.specs.Kept.{Kept}
 use Rattle.runner.specs.Ranks.{turn_rank}
 use Rattle.runner.specs.Stands.{StandsInside, StandsWithin}
+use Rattle.runner.specs.Rest.{Rest}
 use Rattle.runner.proofs.AsSource.{source_steps}
 use Rattle.runner.proofs.Costs.{goes_cost, told_cost, told_formed, falls}
 use Rattle.runner.proofs.Turned.{turned, there, tells_now}
 
-pub inside_under : (g : Setup) (state : State) (k : Kept) (held : Held) (left : Option (List ℕ)) (choice : Choice) (before : List ℕ) (under : Option Under) → StandsInside g state k held left choice before →
+pub inside_under : (g : Setup) (state : State) (k : Kept) (held : Held) (left : Rest) (choice : Choice) (before : List ℕ) (under : Option Under) → StandsInside g state k held left choice before →
     StandsInside g state (record k { under = under }) held left choice before
 inside_under g state k held left choice before under is = record {
   of = is.of;
@@ -38,7 +39,7 @@ inside_under g state k held left choice before under is = record {
   read = is.read;
 }
 
-pub proceeded : (g : Setup) (state : State) (k : Kept) (old new : Held) (left : Option (List ℕ)) (choice : Choice) (before : List ℕ) (turn : Turn) → StandsInside g state k old left choice before → KeepsSetting old new → KeepsPlaces old new →
+pub proceeded : (g : Setup) (state : State) (k : Kept) (old new : Held) (left : Rest) (choice : Choice) (before : List ℕ) (turn : Turn) → StandsInside g state k old left choice before → KeepsSetting old new → KeepsPlaces old new →
     Proceeds old turn new → StandsWithin g state (record k { under = Some (record { choice = choice; before = before; turn = turn }) }) new left (record { choice = choice; before = before; turn = turn })
 unfolding inside_under
 proceeded g state k old new left choice before turn is keeps places did =
@@ -47,7 +48,7 @@ proceeded g state k old new left choice before turn is keeps places did =
     turned g state (record k { under = under }) old left choice before inside (source_steps g state old is.of is.segment.thread) new keeps places turn did
 
 -- what is still to do falls
-pub proceeded_falls : (g : Setup) (state : State) (k : Kept) (old new : Held) (left : Option (List ℕ)) (choice : Choice) (before : List ℕ) (turn : Turn) (r : ℕ) → StandsInside g state k old left choice before → KeepsSetting old new →
+pub proceeded_falls : (g : Setup) (state : State) (k : Kept) (old new : Held) (left : Rest) (choice : Choice) (before : List ℕ) (turn : Turn) (r : ℕ) → StandsInside g state k old left choice before → KeepsSetting old new →
     KeepsPlaces old new → Proceeds old turn new → 1 ≤ r → 3 * (new.setting.fuel - new.machine.cost) + turn_rank turn < 3 * (old.setting.fuel - old.machine.cost) + r
 proceeded_falls g state k old new left choice before turn r inside keeps places did some =
     let law = source_steps g state old inside.of inside.segment.thread in

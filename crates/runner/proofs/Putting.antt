@@ -16,6 +16,7 @@ use Rattle.runner.specs.Output.{Output, PutsText}
 use Rattle.runner.specs.Stands.{Stands, StandsInside, StandsWithin}
 use Rattle.runner.specs.Steps.{ActsTo, PartEnds}
 use Rattle.runner.specs.Ways.{HasTicked}
+use Rattle.runner.specs.Rest.{Rest}
 use Rattle.schedule_log.specs.EntryText.{entry_text}
 use Rattle.schedule_log.specs.declared.entries.Entry.{Entry}
 use Rattle.thread_core.specs.Turns.{MayProceed}
@@ -34,10 +35,10 @@ some_by : (o : Option ℕ) (n : ℕ) → o ≡ Some n → IsSome o
 some_by None n e = absurd (cc)
 some_by (Some m) n e = refl
 
-pub may_proceed : (g : Setup) (state : State) (k : Kept) (held : Held) (left : Option (List ℕ)) (choice : Choice) (before : List ℕ) → StandsInside g state k held left choice before → MayProceed held held.stopped
+pub may_proceed : (g : Setup) (state : State) (k : Kept) (held : Held) (left : Rest) (choice : Choice) (before : List ℕ) → StandsInside g state k held left choice before → MayProceed held held.stopped
 may_proceed g state k held left choice before is = may_by held held.stopped is.going (some_by held.machine.running is.segment.thread is.within.running)
 
-module _ (g : Setup) (state : State) (k : Kept) (held : Held) (left : Option (List ℕ)) (under : Under) (stands : StandsWithin g state k held left under) where
+module _ (g : Setup) (state : State) (k : Kept) (held : Held) (left : Rest) (under : Under) (stands : StandsWithin g state k held left under) where
   module _ (value : ℕ) (turn_is : under.turn ≡ Turn.Out value) where
     abbrev pub put_next : State
     put_next = out_state g state k held left under stands (source_steps g state held stands.of stands.segment.thread) value turn_is

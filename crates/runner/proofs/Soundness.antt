@@ -9,6 +9,7 @@ use Rattle.machine_world.specs.WellFormed.{IsWellFormed}
 use Rattle.runner.specs.declared.course.Under.{Under}
 use Rattle.runner.specs.Kept.{Kept}
 use Rattle.runner.specs.Stands.{StandsBetween, StandsWithin, StandsBy, Stands}
+use Rattle.runner.specs.Rest.{Rest}
 use Rattle.thread_core.specs.Turns.{Tells}
 use Rattle.thread_core.specs.Worlds.{Held}
 use Rattle.thread_core.specs.declared.turns.Turn.{Turn}
@@ -42,7 +43,7 @@ module _ (g : Setup) (state : State) where
   sound_by at number puts (Stops stop) (Turn.Cut told cost) new here is formed reached t = to_new at new t.2 (reached_sound number puts at here is)
   sound_by at number puts _ _ new here is formed reached t = absurd t
 
-  module _ (k : Kept) (held : Held) (left : Option (List ℕ)) where
+  module _ (k : Kept) (held : Held) (left : Rest) where
     pub sound_between : StandsBetween g state k held left → IsSound (checked_of g) held.machine
     sound_between stands = settled_sound (checked_of g) (setting_of g) held.machine (formed_now g state k held left stands) stands.settled
 

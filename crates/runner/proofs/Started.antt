@@ -1,5 +1,5 @@
 -- The start of a run.
-use Rattle.std.proofs.Common.{◌≡◌, ℕ, zero, suc, ◌*◌, ◌/◌, ◌%◌, ◌<◌, ◌≤◌, ◌||◌, Bool, true, false, List, [], ◌∷◌, drop, Option, Some, None, if◌then◌else◌, nat_eq, refl, sym, ap, ◌∙◌, subst, arith}
+use Rattle.std.proofs.Common.{◌≡◌, ℕ, zero, suc, ◌+◌, ◌*◌, ◌/◌, ◌%◌, ◌<◌, ◌≤◌, ◌||◌, Bool, true, false, List, [], ◌∷◌, drop, Option, Some, None, if◌then◌else◌, nat_eq, refl, sym, ap, ◌∙◌, subst, arith}
 use Rattle.std.specs.Prelude.{IsTrue, IsSome, slice_index}
 use Rattle.blocking_graph.specs.Graph.{empty_graph}
 use Rattle.c_lower.specs.ProgramCode.{lowered}
@@ -16,7 +16,7 @@ use Rattle.lawful_log.specs.Setup.{Setup, setting_of, main_fact, start_machine, 
 use Rattle.lawful_log.specs.State.{State, start_of, uses_of}
 use Rattle.lawful_steps.specs.Waiting.{AreWaiting}
 use Rattle.lawful_steps.proofs.Between.{between_after}
-use Rattle.machine_world.specs.Areas.{Areas}
+use Rattle.machine_world.specs.Areas.{Areas, new_areas}
 use Rattle.machine_world.specs.Places.{Checked}
 use Rattle.machine_world.specs.Runs.{start_world, started_on, empty_world}
 use Rattle.machine_world.specs.StandsForWorld.{StandsForWorld}
@@ -30,12 +30,13 @@ use Rattle.runner.specs.Answers.{IsAtStartBy}
 use Rattle.runner.specs.declared.looking.Next.{Next}
 use Rattle.runner.specs.Kept.{Kept}
 use Rattle.runner.specs.Sound.{IsSound}
-use Rattle.runner.specs.Stands.{IsOf, IsTraceOf, StandsBetween, bytes_of}
+use Rattle.runner.specs.Stands.{IsOf, IsTraceOf, StandsBetween}
 use Rattle.ready_tree.specs.declared.needs.Need.{Need}
 use Rattle.runner.specs.Needs.{IsNeeded}
 use Rattle.rule_state.specs.Rules.{HasStarted}
 use Rattle.rule_state.specs.declared.rules.RuleState.{RuleState}
 use Rattle.runner.specs.Rules.{HasAccounts, HasNothing, rule_of}
+use Rattle.runner.specs.Rest.{Rest, bytes_of, Unasked, Told, Made}
 use Rattle.runner.proofs.Rules.{accounts_first, kept_first, noted_first, told_first}
 use Rattle.segment_run.proofs.Forming.{areas_formed}
 use Rattle.stack_certificate.specs.Certificates.{fact_at}
@@ -100,7 +101,7 @@ module _ (g : Setup) (held : Held) {rule : Rule} (monitor : MonitorState) (at : 
       (subst (λ (p : ProgramTree). IsValid (lowered p) held.accepted.image held.accepted.certificate) at.program sound.valid))
 
   abbrev areas_with : Certificate → Image → Areas
-  areas_with c i = record { pool = start_pool g.policy.chunks (c.chunk / 4); globals = i.globals; tables = i.tables }
+  areas_with c i = new_areas g.policy.chunks c.chunk g.policy.extra g.policy.extra_bytes i.globals i.tables
 
   pub starts : start_machine g ≡ Some held.machine
   starts = subst (λ (p : ProgramTree). start_world (start_areas g) (fact_at g.certificate p.main).entry (fact_at g.certificate p.main).bound ≡ Some held.machine) at.program
@@ -136,11 +137,13 @@ module _ (g : Setup) (held : Held) {rule : Rule} (monitor : MonitorState) (at : 
   fours : 4 * (g.certificate.chunk / 4) ≡ g.certificate.chunk
   fours = let aligned = sound.aligned in let same = chunk_is in omega (arith, aligned, same)
 
-  pool_sound : IsPool (start_pool g.policy.chunks (g.certificate.chunk / 4))
+  pool_sound : IsPool (start_pool g.policy.chunks (g.certificate.chunk / 4) g.policy.extra (g.policy.extra_bytes / 4))
   pool_sound =
       let p = at.ranges in
-      let size : g.policy.chunks * g.certificate.chunk ≤ 67108864 = subst (λ (n : ℕ). g.policy.chunks * n ≤ 67108864) chunk_is p.pool in
-      IsPool-start_bytes g.policy.chunks g.certificate.chunk p.some_chunks p.chunks (subst (λ (n : ℕ). 64 ≤ n) chunk_is sound.least) (subst (λ (n : ℕ). n ≤ 65536) chunk_is sound.most) (subst (λ (n : ℕ). n % 16 ≡ 0) chunk_is sound.aligned) size
+      let size : g.policy.chunks * g.certificate.chunk + g.policy.extra * g.policy.extra_bytes ≤ 67108864 =
+      subst (λ (n : ℕ). g.policy.chunks * n + g.policy.extra * g.policy.extra_bytes ≤ 67108864) chunk_is p.pool in
+      IsPool-start_bytes g.policy.chunks g.certificate.chunk g.policy.extra g.policy.extra_bytes p.some_chunks p.chunks (subst (λ (n : ℕ). 64 ≤ n) chunk_is sound.least) (subst (λ (n : ℕ). n ≤ 65536) chunk_is sound.most) (subst (λ (n : ℕ). n % 16 ≡ 0) chunk_is sound.aligned)
+      p.extra p.extra_least p.extra_most p.extra_whole size
 
   globals_same : held.machine.areas.globals ≡ g.image.globals
   globals_same = ap (λ (w : World). w.areas.globals) shape.is
@@ -148,7 +151,7 @@ module _ (g : Setup) (held : Held) {rule : Rule} (monitor : MonitorState) (at : 
   -- the areas at the start are well formed
   pub well : AreWellFormed (checked_of g) (start_areas g)
   well = areas_formed (lowered g.program) g.image g.certificate areas valid pool_sound (subst AreWords globals_same start_formed.areas.global_words)
-      (first_bytes-start g.policy.chunks (g.certificate.chunk / 4) ∙ fours) refl refl
+      (first_bytes-start g.policy.chunks (g.certificate.chunk / 4) g.policy.extra (g.policy.extra_bytes / 4) ∙ fours) refl refl
 
   pub fuel_most : g.policy.fuel ≤ most_fuel
   fuel_most = at.ranges.most
@@ -160,7 +163,7 @@ module _ (g : Setup) (held : Held) {rule : Rule} (monitor : MonitorState) (at : 
   start_sound = settled_sound (checked_of g) (setting_of g) held.machine start_formed settled
 
   small_by : (r : ℕ) → r < 8 → slice_index (all_caps g.policy) r ≤ 1000000
-  small_by zero below = let most = at.ranges.chunks in omega (arith, most)
+  small_by zero below = let most = at.ranges.chunks in let extra = at.ranges.extra in omega (arith, most, extra)
   small_by (suc r) below = subst (λ (n : ℕ). n ≤ 1000000) (sym (at_drop g.policy.caps r)) (at.ranges.caps (suc r) (omega arith) below)
 
   pub of_start : IsOf g held
@@ -179,11 +182,12 @@ module _ (g : Setup) (held : Held) {rule : Rule} (monitor : MonitorState) (at : 
   threads_wait : AreWaiting held.machine (record { thread = 0; node = 0; since = 0 } ∷ [])
   threads_wait = subst (λ (w : World). AreWaiting w (record { thread = 0; node = 0; since = 0 } ∷ [])) (sym shape.is) (first_waits areas shape.taken (main_fact g).entry)
 
-  read_by : (left : Option (List ℕ)) → IsTraceOf (record { bytes = bytes_of left; lines = 0; last = 0 }) (record { held = []; lines = 0; last = 0; refused = None }) Next.Unread left
-  read_by None = tt
-  read_by (Some bytes) = refl
+  read_by : (left : Rest) → IsTraceOf (record { bytes = bytes_of left; lines = 0; last = 0 }) (record { held = []; lines = 0; last = 0; refused = None }) Next.Unread left
+  read_by Unasked = tt
+  read_by (Told bytes) = refl
+  read_by (Made bytes) = refl
 
-  module _ (left : Option (List ℕ)) (before after : RuleState) (rule_is : rule ≡ rule_of before) (nothing : HasNothing before) (starts : HasStarted before after (record { slot = 0; number = 0 })) where
+  module _ (left : Rest) (before after : RuleState) (rule_is : rule ≡ rule_of before) (nothing : HasNothing before) (starts : HasStarted before after (record { slot = 0; number = 0 })) where
     abbrev start_state : State
     start_state = start_of g (bytes_of left) held.machine
 

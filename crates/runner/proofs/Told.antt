@@ -1,5 +1,5 @@
 -- What is told within a segment: a value, a thread that started, and a cut.
-use Rattle.std.proofs.Common.{◌≡◌, ◌≢◌, ℕ, ◌+◌, ◌-◌, ◌<◌, ◌≤◌, List, [], ◌∷◌, ◌++◌, Option, Some, None, sym, ap, ◌∙◌, subst, arith}
+use Rattle.std.proofs.Common.{◌≡◌, ◌≢◌, ℕ, ◌+◌, ◌-◌, ◌<◌, ◌≤◌, [], ◌∷◌, ◌++◌, Some, None, sym, ap, ◌∙◌, subst, arith}
 use Rattle.std.specs.Prelude.{length}
 use Rattle.cap_word.specs.Word.{signed}
 use Rattle.cap_word.specs.declared.stops.Stop.{Stop}
@@ -30,6 +30,7 @@ use Rattle.runner.proofs.Rules.{accounts_started, kept_started, may_start_within
 use Rattle.lawful_steps.proofs.Own.{LeavesOwn, StandsFresh, found_below, own_step}
 use Rattle.thread_core.specs.Needs.{need_of_blocked}
 use Rattle.runner.specs.Stands.{StandsInside, StandsWithin, StepsAsSource}
+use Rattle.runner.specs.Rest.{Rest}
 use Rattle.chunk_pool.specs.Pool.{free_count}
 
 -- ---- which step a turn tells
@@ -80,7 +81,7 @@ tells_cut (Blocks after) stop cost number at new t = absurd t
 tells_cut (Ends after) stop cost number at new t = absurd t
 tells_cut Wrong stop cost number at new t = absurd t
 
-module _ (g : Setup) (state : State) (k : Kept) (held : Held) (left : Option (List ℕ)) (under : Under) (stands : StandsWithin g state k held left under) (law : StepsAsSource g state stands.segment.thread) where
+module _ (g : Setup) (state : State) (k : Kept) (held : Held) (left : Rest) (under : Under) (stands : StandsWithin g state k held left under) (law : StepsAsSource g state stands.segment.thread) where
   -- ---- a value
 
   module _ (value : ℕ) (turn_is : under.turn ≡ Turn.Out value) where

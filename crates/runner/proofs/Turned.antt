@@ -18,6 +18,7 @@ use Rattle.thread_core.specs.declared.turns.Turn.{Turn}
 use Rattle.runner.specs.Kept.{Kept}
 use Rattle.runner.specs.Stands.{IsOf, HasPast, StandsInside, StandsWithin, StepsAsSource}
 use Rattle.runner.specs.Times.{IsTimely}
+use Rattle.runner.specs.Rest.{Rest}
 use Rattle.runner.proofs.Times.{timely_turn}
 use Rattle.runner.proofs.Going.{Along, along}
 use Rattle.runner.proofs.Rules.{kept_beside, told_along}
@@ -55,7 +56,7 @@ some_live w number t e = by (thread_of w number) e where
   by None f = absurd (cc)
   by (Some u) f = refl
 
-module _ (g : Setup) (state : State) (k : Kept) (old : Held) (left : Option (List ℕ)) (choice : Choice) (before : List ℕ) (inside : StandsInside g state k old left choice before)
+module _ (g : Setup) (state : State) (k : Kept) (old : Held) (left : Rest) (choice : Choice) (before : List ℕ) (inside : StandsInside g state k old left choice before)
     (law : StepsAsSource g state inside.segment.thread) (new : Held) (keeps : KeepsSetting old new) (places : KeepsPlaces old new) (turn : Turn) (did : Proceeds old turn new) where
   number_is : did.number ≡ inside.segment.thread
   number_is = let both : Some did.number ≡ Some inside.segment.thread = sym did.running ∙ inside.within.running in cc

@@ -26,12 +26,12 @@ use Rattle.runner.specs.declared.ends.Halt.{Halt}
 use Rattle.runner.specs.declared.looking.Next.{Next}
 use Rattle.runner.specs.Kept.{Kept, known}
 use Rattle.runner.specs.Ranks.{due_at, long_rank, lines_rank, stuck_rank}
-use Rattle.runner.specs.Stands.{IsTraceOf, FitsNext, StandsBetween, IsAtPoint}
+use Rattle.runner.specs.Stands.{IsTraceIn, IsTraceOf, FitsNext, StandsBetween, IsAtPoint}
 use Rattle.runner.proofs.Rules.{told_same}
 use Rattle.runner.specs.Answers.{KeepsRun}
-use Rattle.runner.specs.Steps.{IsTold}
 use Rattle.runner.specs.Times.{latest}
 use Rattle.runner.specs.Waits.{earlier, time_of, MovesOn, StaysIdle}
+use Rattle.runner.specs.Rest.{Rest, HasBytes, Unasked, Told, Made}
 use Rattle.runner.proofs.Ready.{any_ready_told}
 use Rattle.runner.proofs.Times.{possible, timely_advanced}
 use Rattle.runner.proofs.Waking.{AreWakes, time_within, time_least, none_earlier}
@@ -82,7 +82,7 @@ due_alike Next.Over next e clock = let same : None ≡ next = cc in ap (λ (o : 
 falls_by : (long lines a b : ℕ) → a ≡ 0 → b ≡ 1 → 6000010 * long + (2 * lines + a) < 6000010 * long + (2 * lines + b)
 falls_by long lines a b p q = omega (arith, p, q)
 
-module _ (g : Setup) (state : State) (k : Kept) (held : Held) (left : Option (List ℕ)) (stands : StandsBetween g state k held left) (next : Option Event) (known_is : known k.next ≡ Some next)
+module _ (g : Setup) (state : State) (k : Kept) (held : Held) (left : Rest) (stands : StandsBetween g state k held left) (next : Option Event) (known_is : known k.next ≡ Some next)
     (none_ready : any_ready_in held ≡ false) (due : is_due next held.machine.clock ≡ false) (live : held.machine.threads ≢ []) where
   is_between : IsBetween g state (Some next) held.machine
   is_between = subst (λ (o : Option (Option Event)). IsBetween g state o held.machine) known_is stands.between
@@ -157,11 +157,15 @@ module _ (g : Setup) (state : State) (k : Kept) (held : Held) (left : Option (Li
           (subst (IsWake held.setting held.machine) (none_earlier next wake e).1 wake_is);
       machine_is = machine_same;
     } where
-      over_at : (n : Next) (l : Option (List ℕ)) → IsTold l → known n ≡ Some None → IsTraceOf state.trace k.reader n l → IsNext state.trace None
-      over_at n None told f is = absurd told
-      over_at Next.Unread (Some l) told f is = absurd (cc)
-      over_at (Next.Event event) (Some l) told f is = absurd (cc)
-      over_at Next.Over (Some l) told f is = is
+      over_in : (n : Next) (bytes : List ℕ) → known n ≡ Some None → IsTraceIn state.trace k.reader n bytes → IsNext state.trace None
+      over_in Next.Unread bytes f is = absurd (cc)
+      over_in (Next.Event event) bytes f is = absurd (cc)
+      over_in Next.Over bytes f is = is
+
+      over_at : (n : Next) (l : Rest) → HasBytes l → known n ≡ Some None → IsTraceOf state.trace k.reader n l → IsNext state.trace None
+      over_at n Unasked told f is = absurd told
+      over_at n (Told l) told f is = over_in n (k.reader.held ++ l) f is
+      over_at n (Made l) told f is = over_in n l f is
 
 -- ---- at a choice point
 
@@ -170,7 +174,7 @@ fits_next Next.Unread next e fits = absurd (cc)
 fits_next (Next.Event event) next e fits = let same : Some event ≡ next = cc in subst (λ (o : Option Event). IfSome o FitsEvent) same fits
 fits_next Next.Over next e fits = let same : None ≡ next = cc in subst (λ (o : Option Event). IfSome o FitsEvent) same tt
 
-module _ (g : Setup) (state : State) (k : Kept) (held : Held) (left : Option (List ℕ)) (next : Option Event) (at : IsAtPoint g state k held left next) where
+module _ (g : Setup) (state : State) (k : Kept) (held : Held) (left : Rest) (next : Option Event) (at : IsAtPoint g state k held left next) where
   few : held.machine.cost ≤ 1000000000
   few =
       let same : held.machine.cost ≡ state.machine.cost = ap (λ (w : World). w.cost) at.stands.between.machine_is in

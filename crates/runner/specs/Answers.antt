@@ -25,7 +25,13 @@ use Rattle.runner.specs.declared.ends.RunEnd.{RunEnd}
 use Rattle.runner.specs.declared.ends.RunEnd.TheVariants as end
 
 abbrev pub world_policy : Setup → WorldPolicy
-world_policy g = record { chunks = g.policy.chunks; backlog = g.policy.backlog; caps = g.policy.caps }
+world_policy g = record {
+  chunks = g.policy.chunks;
+  extra = g.policy.extra;
+  extra_bytes = g.policy.extra_bytes;
+  backlog = g.policy.backlog;
+  caps = g.policy.caps;
+}
 
 -- the world was just made from the program, image and certificate under the policy, which chooses by this rule, and the
 -- monitor is that of the policy, with its gate open
@@ -62,12 +68,18 @@ IsOfThread after (end.Threads thread) = IsThread after thread
 IsOfThread after answer = Unit {0}
 
 -- a run that came to its stop: the whole of its log was written, the log is good, and the world is as it was at the stop; some
--- actions lead from its start to it, and in it every live thread is in place and the chunks are partitioned
+-- actions lead from its start to it, and in it every live thread is in place and the chunks are partitioned. Of a trace that
+-- doesn't tell its bytes that is so for some bytes: it could have had them.
 pub record CameTo (g : Setup) (after : Held) (left taken taken' : Option (List ℕ)) (answer : RunEnd) : Type 0 where
   pub entries : List Entry
   pub stop : StopLine
   pub lawful : IfSome left (λ bytes. IsLawfulLog g bytes entries stop after.machine)
   pub good : IfSome left (λ bytes. IsGoodLog g entries)
+  -- the log is lawful on these bytes, which are the trace's own where it tells them
+  pub bytes : List ℕ
+  pub told : IfSome left (λ its. its ≡ bytes)
+  pub lawful_of : IsLawfulLog g bytes entries stop after.machine
+  pub good_of : IsGoodLog g entries
   pub end_is : IsEndAt stop answer
   pub thread : IsOfThread after answer
   pub writes : Appends taken taken' (log_text entries)
@@ -78,13 +90,19 @@ pub record CameTo (g : Setup) (after : Held) (left taken taken' : Option (List �
   pub sound : IsSound (checked_of g) after.machine
 
 -- a run that could not go on: a beginning of its log was written, the whole of which is good, and the world is on that log's
--- run; some actions lead from its start to it, and it is sound too
+-- run; some actions lead from its start to it, and it is sound too. Of a trace that doesn't tell its bytes that is so for some
+-- bytes: it could have had them.
 pub record FellShort (g : Setup) (after : Held) (left taken taken' : Option (List ℕ)) : Type 0 where
   pub entries : List Entry
   pub stop : StopLine
   pub end : World
   pub lawful : IfSome left (λ bytes. IsLawfulLog g bytes entries stop end)
   pub good : IfSome left (λ bytes. IsGoodLog g entries)
+  -- the whole of the log is lawful on these bytes, which are the trace's own where it tells them
+  pub bytes : List ℕ
+  pub told : IfSome left (λ its. its ≡ bytes)
+  pub lawful_of : IsLawfulLog g bytes entries stop end
+  pub good_of : IsGoodLog g entries
   pub count : ℕ
   pub part : count ≤ length (log_text entries)
   pub writes : Appends taken taken' (take count (log_text entries))
@@ -94,6 +112,7 @@ pub record FellShort (g : Setup) (after : Held) (left taken taken' : Option (Lis
   pub machine : after_actions (setting_of g) actions start ≡ Some after.machine
   pub sound : IsSound (checked_of g) after.machine
   pub on_run : IfSome left (λ bytes. IsOnRun g bytes start entries after.machine)
+  pub on_run_of : IsOnRun g bytes start entries after.machine
 
 -- a count rose, or stands at its end
 pub record HasRisen (old new : ℕ) : Type 0 where

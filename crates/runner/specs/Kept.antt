@@ -1,5 +1,5 @@
 -- What a run keeps beside its world.
-use Rattle.std.specs.Prelude.{Option, None, Some}
+use Rattle.std.specs.Prelude.{ℕ, Option, None, Some, Result, Ok, Err}
 use Rattle.blocking_graph.specs.Graph.{GraphState}
 use Rattle.event_trace.specs.Reader.{ReaderState}
 use Rattle.event_trace.specs.declared.events.Event.{Event}
@@ -21,3 +21,9 @@ abbrev pub known : Next → Option (Option Event)
 known Next.Unread = None
 known (Next.Event event) = Some (Some event)
 known Next.Over = Some None
+
+-- how many lines an answer of a reader gives
+abbrev pub given_by : {E : Type 0} → Result (Option Event) E → ℕ
+given_by (Ok None) = 0
+given_by (Ok (Some event)) = 1
+given_by (Err refusal) = 0

@@ -14,3 +14,4 @@ pub mod Recorded
 pub mod Waits
 pub mod Sound
 pub mod Ways
+pub mod Rest

@@ -40,6 +40,7 @@ use Rattle.world_source.specs.UnderWay.{IsSettled}
 use Rattle.runner.specs.Kept.{Kept, known}
 use Rattle.runner.specs.Rules.{AreKept, AreKeptBeside, AreTold, HasAccounts}
 use Rattle.runner.specs.Times.{IsTimely}
+use Rattle.runner.specs.Rest.{Rest, Unasked, Told, Made}
 
 -- the world is one of this program, image, certificate and policy, and its times are possible
 pub record IsOf (g : Setup) (held : Held) : Type 0 where
@@ -47,27 +48,32 @@ pub record IsOf (g : Setup) (held : Held) : Type 0 where
   pub image : held.accepted.image ≡ g.image
   pub certificate : held.accepted.certificate ≡ g.certificate
   pub setting : held.setting ≡ setting_of g
-  pub chunks : held.machine.areas.pool.count ≡ g.policy.chunks
+  pub chunks : held.machine.areas.pool.count ≡ g.policy.chunks + g.policy.extra
   -- each cap is at most 1,000,000
   pub small : SmallCaps (all_caps g.policy)
   pub scoped : IsWellScoped g.program
   pub valid : IsValid (lowered g.program) g.image g.certificate
   pub timely : IsTimely held.machine
 
--- the rest of the trace is what the reader holds and the source has left; an event that was looked at comes before it
-abbrev pub IsTraceOf : Trace → ReaderState → Next → Option (List ℕ) → Type 0
-IsTraceOf trace reader next None = Unit {0}
-IsTraceOf trace reader Next.Unread (Some left) = trace ≡ record { bytes = reader.held ++ left; lines = reader.lines; last = reader.last }
-IsTraceOf trace reader (Next.Event event) (Some left) =
-    IsNext trace (Some event) × (behind trace event ≡ record { bytes = reader.held ++ left; lines = reader.lines; last = reader.last })
-IsTraceOf trace reader Next.Over (Some left) = IsNext trace None
+-- what is left of the trace are these bytes, behind the lines that the reader gave; an event that was looked at comes before them
+abbrev pub IsTraceIn : Trace → ReaderState → Next → List ℕ → Type 0
+IsTraceIn trace reader Next.Unread bytes = trace ≡ record { bytes = bytes; lines = reader.lines; last = reader.last }
+IsTraceIn trace reader (Next.Event event) bytes =
+    IsNext trace (Some event) × (behind trace event ≡ record { bytes = bytes; lines = reader.lines; last = reader.last })
+IsTraceIn trace reader Next.Over bytes = IsNext trace None
+
+-- where the source tells its bytes, they are what the reader holds and the source has left
+abbrev pub IsTraceOf : Trace → ReaderState → Next → Rest → Type 0
+IsTraceOf trace reader next Unasked = Unit {0}
+IsTraceOf trace reader next (Told left) = IsTraceIn trace reader next (reader.held ++ left)
+IsTraceOf trace reader next (Made bytes) = IsTraceIn trace reader next bytes
 
 abbrev pub FitsNext : Next → Type 0
 FitsNext Next.Unread = Unit {0}
 FitsNext (Next.Event event) = FitsEvent event
 FitsNext Next.Over = Unit {0}
 
-pub record IsRead (trace : Trace) (reader : ReaderState) (next : Next) (left : Option (List ℕ)) : Type 0 where
+pub record IsRead (trace : Trace) (reader : ReaderState) (next : Next) (left : Rest) : Type 0 where
   pub trace_is : IsTraceOf trace reader next left
   pub unrefused : reader.refused ≡ None
   pub fits : FitsNext next
@@ -84,7 +90,7 @@ pub record HasPast (g : Setup) (past : Past) (rule : RuleState) (graph : GraphSt
 
 -- ---- at a choice point
 
-pub record StandsBetween (g : Setup) (state : State) (k : Kept) (held : Held) (left : Option (List ℕ)) : Type 0 where
+pub record StandsBetween (g : Setup) (state : State) (k : Kept) (held : Held) (left : Rest) : Type 0 where
   pub of : IsOf g held
   pub going : held.stopped ≡ None
   pub between : IsBetween g state (known k.next) held.machine
@@ -99,7 +105,7 @@ pub record StandsBetween (g : Setup) (state : State) (k : Kept) (held : Held) (l
 
 -- ---- within a segment: what its thread did last is still to be told
 
-pub record StandsWithin (g : Setup) (state : State) (k : Kept) (held : Held) (left : Option (List ℕ)) (under : Under) : Type 0 where
+pub record StandsWithin (g : Setup) (state : State) (k : Kept) (held : Held) (left : Rest) (under : Under) : Type 0 where
   pub of : IsOf g held
   pub segment : Segment
   pub waiting : List Waiter
@@ -120,28 +126,23 @@ pub record StandsWithin (g : Setup) (state : State) (k : Kept) (held : Held) (le
   pub gate : k.monitor.is_open ≡ is_open g state.past
   pub read : IsRead state.trace k.reader k.next left
 
-abbrev pub StandsBy : Setup → State → Kept → Held → Option (List ℕ) → Option Under → Type 0
+abbrev pub StandsBy : Setup → State → Kept → Held → Rest → Option Under → Type 0
 StandsBy g state k held left None = StandsBetween g state k held left
 StandsBy g state k held left (Some under) = StandsWithin g state k held left under
 
-abbrev pub Stands : Setup → State → Kept → Held → Option (List ℕ) → Type 0
+abbrev pub Stands : Setup → State → Kept → Held → Rest → Type 0
 Stands g state k held left = StandsBy g state k held left k.under
 
 -- beside some log of some run
 abbrev pub StandsSomehow : Kept → Held → Type 0
-StandsSomehow k held = (g : Setup) × (state : State) × (left : Option (List ℕ)) × Stands g state k held left
+StandsSomehow k held = (g : Setup) × (state : State) × (left : Rest) × Stands g state k held left
 
 abbrev pub SegmentStands : Kept → Held → Under → Type 0
-SegmentStands k held under = (g : Setup) × (state : State) × (left : Option (List ℕ)) × StandsWithin g state k held left under
-
--- the bytes of a trace, none where it isn't told
-abbrev pub bytes_of : Option (List ℕ) → List ℕ
-bytes_of None = []
-bytes_of (Some bytes) = bytes
+SegmentStands k held under = (g : Setup) × (state : State) × (left : Rest) × StandsWithin g state k held left under
 
 -- ---- where a segment goes on: what its thread did last has been told
 
-pub record StandsInside (g : Setup) (state : State) (k : Kept) (held : Held) (left : Option (List ℕ)) (choice : Choice) (before : List ℕ) : Type 0 where
+pub record StandsInside (g : Setup) (state : State) (k : Kept) (held : Held) (left : Rest) (choice : Choice) (before : List ℕ) : Type 0 where
   pub of : IsOf g held
   pub going : held.stopped ≡ None
   pub segment : Segment
@@ -170,23 +171,23 @@ StepsAsSource g state number =
 
 -- a segment is under way, and its thread did this
 abbrev pub HasTurn : Kept → Held → Under → Turn → Type 0
-HasTurn k held under turn = (g : Setup) × (state : State) × (left : Option (List ℕ)) × StandsWithin g state k held left under × (under.turn ≡ turn)
+HasTurn k held under turn = (g : Setup) × (state : State) × (left : Rest) × StandsWithin g state k held left under × (under.turn ≡ turn)
 
 -- a choice point goes on: some thread is live, and the next line of the trace is known
-pub record IsAtPoint (g : Setup) (state : State) (k : Kept) (held : Held) (left : Option (List ℕ)) (next : Option Event) : Type 0 where
+pub record IsAtPoint (g : Setup) (state : State) (k : Kept) (held : Held) (left : Rest) (next : Option Event) : Type 0 where
   pub stands : StandsBetween g state k held left
   pub between : k.under ≡ None
   pub known_is : known k.next ≡ Some next
   pub live : held.machine.threads ≢ []
 
 abbrev pub PointStands : Kept → Held → Option Event → Type 0
-PointStands k held next = (g : Setup) × (state : State) × (left : Option (List ℕ)) × IsAtPoint g state k held left next
+PointStands k held next = (g : Setup) × (state : State) × (left : Rest) × IsAtPoint g state k held left next
 
 -- a thread is to be chosen: no event is due, and some thread is ready
-pub record IsAtChoice (g : Setup) (state : State) (k : Kept) (held : Held) (left : Option (List ℕ)) (next : Option Event) : Type 0 where
+pub record IsAtChoice (g : Setup) (state : State) (k : Kept) (held : Held) (left : Rest) (next : Option Event) : Type 0 where
   pub point : IsAtPoint g state k held left next
   pub not_due : is_due next held.machine.clock ≡ false
   pub ready : any_ready_in held ≡ true
 
 abbrev pub ChoiceStands : Kept → Held → Type 0
-ChoiceStands k held = (g : Setup) × (state : State) × (left : Option (List ℕ)) × (next : Option Event) × IsAtChoice g state k held left next
+ChoiceStands k held = (g : Setup) × (state : State) × (left : Rest) × (next : Option Event) × IsAtChoice g state k held left next

@@ -19,12 +19,8 @@ use Rattle.runner.specs.Kept.{Kept}
 use Rattle.runner.specs.Output.{Output, Grows, TakesPart}
 use Rattle.runner.specs.Ways.{IsOnWay, HasTicked}
 use Rattle.runner.specs.Stands.{IsOf, Stands}
+use Rattle.runner.specs.Rest.{Rest, HasBytes}
 use Rattle.chunk_pool.specs.Pool.{free_count}
-
--- the trace is told
-abbrev pub IsTold : Option (List ℕ) → Type 0
-IsTold None = ⊥
-IsTold (Some left) = Unit {0}
 
 -- the line of a stop, with so many chunks free
 abbrev pub stop_line : Halt → ℕ → StopLine
@@ -46,19 +42,18 @@ pub record ActsTo (s : Setting) (w after : World) : Type 0 where
   pub leads : after_actions s actions w ≡ Some after
 
 -- entries were allowed and put, and the run stands beside the state after them
-pub record GoesTo (g : Setup) (state : State) (before : Option (List ℕ)) (k : Kept) (held : Held) (left : Option (List ℕ)) (taken written : Output) : Type 0 where
+pub record GoesTo (g : Setup) (state : State) (before : Rest) (k : Kept) (held : Held) (left : Rest) (taken written : Output) : Type 0 where
   pub new : State
   pub entries : List Entry
-  pub told : IsTold before → IsTold left
-  pub leads : IsTold before → Leads g state entries new
+  pub leads : HasBytes before → Leads g state entries new
   pub acts : ActsTo (setting_of g) state.machine new.machine
   pub stands : Stands g new k held left
   pub writes : Grows taken written (log_text entries)
 
 -- the run stops here, in the machine world as it is now
-pub record HaltsAt (g : Setup) (state : State) (before : Option (List ℕ)) (k : Kept) (held : Held) (halt : Halt) (taken written : Output) : Type 0 where
+pub record HaltsAt (g : Setup) (state : State) (before : Rest) (k : Kept) (held : Held) (halt : Halt) (taken written : Output) : Type 0 where
   pub of : IsOf g held
-  pub stops : IsTold before → IsStop g state (stop_line halt (free_count held.machine.areas.pool)) held.machine
+  pub stops : HasBytes before → IsStop g state (stop_line halt (free_count held.machine.areas.pool)) held.machine
   pub graph : IsGraphOf k.graph state.past
   pub acts : ActsTo (setting_of g) state.machine held.machine
   pub way : IsOnWay (setting_of g) state.machine held.machine
@@ -69,10 +64,10 @@ pub record HaltsAt (g : Setup) (state : State) (before : Option (List ℕ)) (k :
 
 -- the run can't go on: the sink took a beginning of what was held and of entries that are allowed, and the machine has made
 -- some steps
-pub record FailsIn (g : Setup) (state : State) (before : Option (List ℕ)) (held : Held) (taken written : Output) : Type 0 where
+pub record FailsIn (g : Setup) (state : State) (before : Rest) (held : Held) (taken written : Output) : Type 0 where
   pub new : State
   pub entries : List Entry
-  pub leads : IsTold before → Leads g state entries new
+  pub leads : HasBytes before → Leads g state entries new
   pub writes : TakesPart taken written (log_text entries)
   pub acts : ActsTo (setting_of g) state.machine held.machine
   pub way : IsOnWay (setting_of g) new.machine held.machine
@@ -80,12 +75,12 @@ pub record FailsIn (g : Setup) (state : State) (before : Option (List ℕ)) (hel
   pub sound : IsSound (checked_of g) held.machine
   pub of : IsOf g held
 
-abbrev pub StepEnds : Setup → State → Option (List ℕ) → Kept → Held → Option (List ℕ) → Output → Output → Result (Option Halt) Failure → Type 0
+abbrev pub StepEnds : Setup → State → Rest → Kept → Held → Rest → Output → Output → Result (Option Halt) Failure → Type 0
 StepEnds g state before k held left taken written (Ok None) = GoesTo g state before k held left taken written
 StepEnds g state before k held left taken written (Ok (Some halt)) = HaltsAt g state before k held halt taken written
 StepEnds g state before k held left taken written (Err failure) = FailsIn g state before held taken written
 
 -- the same of a part of a step, which stops nowhere
-abbrev pub PartEnds : Setup → State → Option (List ℕ) → Kept → Held → Option (List ℕ) → Output → Output → Result (Unit {0}) Failure → Type 0
+abbrev pub PartEnds : Setup → State → Rest → Kept → Held → Rest → Output → Output → Result (Unit {0}) Failure → Type 0
 PartEnds g state before k held left taken written (Ok _) = GoesTo g state before k held left taken written
 PartEnds g state before k held left taken written (Err failure) = FailsIn g state before held taken written

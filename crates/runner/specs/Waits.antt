@@ -1,5 +1,5 @@
 -- What waiting comes to, where no thread is ready and nothing is due.
-use Rattle.std.specs.Prelude.{◌≡◌, ℕ, ◌<◌, List, Option, None, Some, if◌then◌else◌, nat_le}
+use Rattle.std.specs.Prelude.{◌≡◌, ℕ, ◌<◌, Option, None, Some, if◌then◌else◌, nat_le}
 use Rattle.event_trace.specs.declared.events.Event.{Event}
 use Rattle.lawful_log.specs.Setup.{Setup}
 use Rattle.lawful_log.specs.State.{State}
@@ -10,7 +10,7 @@ use Rattle.thread_core.specs.Worlds.{Held}
 use Rattle.runner.specs.Kept.{Kept}
 use Rattle.runner.specs.Ranks.{rank}
 use Rattle.runner.specs.Stands.{StandsBetween}
-use Rattle.runner.specs.Steps.{IsTold}
+use Rattle.runner.specs.Rest.{Rest, HasBytes}
 
 -- the earlier of two times, where there are such
 abbrev pub earlier : Option ℕ → Option ℕ → Option ℕ
@@ -24,17 +24,17 @@ time_of None = None
 time_of (Some event) = Some event.time
 
 -- the clock has moved, and something goes on at it
-pub record MovesOn (g : Setup) (state : State) (k : Kept) (held new : Held) (left : Option (List ℕ)) : Type 0 where
+pub record MovesOn (g : Setup) (state : State) (k : Kept) (held new : Held) (left : Rest) : Type 0 where
   pub stands : StandsBetween g state k new left
   pub falls : rank k new < rank k held
 
 -- the run is idle, and nothing has changed
-pub record StaysIdle (g : Setup) (state : State) (held new : Held) (left : Option (List ℕ)) (halt : Halt) : Type 0 where
+pub record StaysIdle (g : Setup) (state : State) (held new : Held) (left : Rest) (halt : Halt) : Type 0 where
   pub halt_is : halt ≡ Halt.Idle
   pub same : new ≡ held
-  pub idle : IsTold left → IsStop g state StopLine.Idle held.machine
+  pub idle : HasBytes left → IsStop g state StopLine.Idle held.machine
   pub machine_is : held.machine ≡ state.machine
 
-abbrev pub WaitEnds : Setup → State → Kept → Held → Held → Option (List ℕ) → Option Halt → Type 0
+abbrev pub WaitEnds : Setup → State → Kept → Held → Held → Rest → Option Halt → Type 0
 WaitEnds g state k held new left None = MovesOn g state k held new left
 WaitEnds g state k held new left (Some halt) = StaysIdle g state held new left halt

@@ -3,6 +3,7 @@ ghost use Rattle.thread_core.specs.Making.{IsEventInRange};
 ghost use Rattle.lawful_log.specs.Setup.{Setup};
 ghost use Rattle.lawful_log.specs.State.{State, start_of};
 
+use crate::counted::CountedReader;
 use crate::deliveries::coming_entry;
 use crate::ends::{Failure, Halt};
 use crate::lines::write_line;
@@ -11,7 +12,7 @@ use crate::uses::uses_of;
 use crate::waiting::wait;
 use blocking_graph::Graph;
 use cap_io::{Sink, Source};
-use event_trace::{Event, TraceReader};
+use event_trace::Event;
 use resource_monitor::{Measure, Monitor};
 use rule_state::RuleState;
 use schedule_log::{Entry, LogWriter};
@@ -34,7 +35,7 @@ pub(crate) struct Course<C: Measure> {
     pub(crate) rule: RuleState,
     pub(crate) graph: Graph,
     pub(crate) monitor: Monitor<C>,
-    pub(crate) reader: TraceReader,
+    pub(crate) reader: CountedReader,
     pub(crate) next: Next,
     pub(crate) under: Option<Under>,
 }
@@ -50,13 +51,13 @@ impl<C: Measure> Model for Course<C> {
 impl<C: Measure + Drop> Course<C> {
     ghost use Rattle.runner.specs.Answers.{IsAtStartBy, KeepsRun};
     ghost use Rattle.runner.specs.Counts.{CountsPart, CountsStep};
-    ghost use Rattle.runner.specs.Looks.{Knows};
     ghost use Rattle.runner.specs.Output.{output_of};
     ghost use Rattle.runner.specs.Ranks.{FallsTo, lines_rank, long_rank, rank};
     ghost use Rattle.runner.specs.Rules.{HasNothing, rule_of};
     ghost use Rattle.runner.specs.Sound.{IsSound};
-    ghost use Rattle.runner.specs.Stands.{ChoiceStands, IsAtChoice, IsAtPoint, PointStands, Stands, StandsBetween, StandsSomehow, bytes_of};
+    ghost use Rattle.runner.specs.Stands.{ChoiceStands, IsAtChoice, IsAtPoint, PointStands, Stands, StandsBetween, StandsSomehow};
     ghost use Rattle.runner.specs.Steps.{PartEnds, StepEnds};
+    ghost use Rattle.runner.specs.Rest.{Rest, bytes_of, BackTo};
 
     /// The start of a run: thread 0 waits at node 0.
     pub(crate) fn new(
@@ -67,9 +68,9 @@ impl<C: Measure + Drop> Course<C> {
     ) -> Result<Course<C>, AllocError>
         requires sound { IsSound world.now.accepted }
         requires fresh { HasNothing rule }
-        ensures { IfOk result (λ course. (g : Setup) (left : Option (List ℕ)) → IsAtStartBy (rule_of rule) g world.now monitor → (course.under ≡ None) × StandsBetween g (start_of g (bytes_of left) world.now.machine) course world.now left) }
+        ensures { IfOk result (λ course. (g : Setup) (left : Rest) → IsAtStartBy (rule_of rule) g world.now monitor → (course.under ≡ None) × StandsBetween g (start_of g (bytes_of left) world.now.machine) course world.now left) }
     {
-        let reader = TraceReader::new(alloc)?;
+        let reader = CountedReader::new(alloc)?;
         let graph = Graph::new(alloc);
         let mut rule = rule;
         rule.start(world.main_thread())?;
@@ -93,8 +94,8 @@ impl<C: Measure + Drop> Course<C> {
     ) -> Result<Option<Halt>, Failure>
         requires stands { StandsSomehow self.old world.old }
         requires unrefused { writer.old.refused ≡ None }
-        ensures ends { (g : Setup) (state : State) (left : Option (List ℕ)) → Knows left (S.left trace.old) → Stands g state self.old world.old left →
-            (after : Option (List ℕ)) × Knows after (S.left trace.new) × StepEnds g state left self.new world.new after (output_of writer.old (K.taken out.old)) (output_of writer.new (K.taken out.new)) result }
+        ensures ends { BackTo (S.left trace.old) (S.left trace.new) (λ before left. (g : Setup) (state : State) → Stands g state self.old world.old before →
+            StepEnds g state before self.new world.new left (output_of writer.old (K.taken out.old)) (output_of writer.new (K.taken out.new)) result) }
         ensures counts { CountsStep result (S.faults trace.old) (S.faults trace.new) (K.faults out.old) (K.faults out.new) }
         ensures unrefused { OnOk result (writer.new.refused ≡ None) }
         ensures falls { FallsTo (rank self.old world.old) result (rank self.new world.new) }
@@ -117,8 +118,8 @@ impl<C: Measure + Drop> Course<C> {
         requires stands { StandsSomehow self.old world.old }
         requires between { self.old.under ≡ None }
         requires unrefused { writer.old.refused ≡ None }
-        ensures ends { (g : Setup) (state : State) (left : Option (List ℕ)) → Knows left (S.left trace.old) → StandsBetween g state self.old world.old left →
-            (after : Option (List ℕ)) × Knows after (S.left trace.new) × StepEnds g state left self.new world.new after (output_of writer.old (K.taken out.old)) (output_of writer.new (K.taken out.new)) result }
+        ensures ends { BackTo (S.left trace.old) (S.left trace.new) (λ before left. (g : Setup) (state : State) → StandsBetween g state self.old world.old before →
+            StepEnds g state before self.new world.new left (output_of writer.old (K.taken out.old)) (output_of writer.new (K.taken out.new)) result) }
         ensures counts { CountsStep result (S.faults trace.old) (S.faults trace.new) (K.faults out.old) (K.faults out.new) }
         ensures unrefused { OnOk result (writer.new.refused ≡ None) }
         ensures falls { FallsTo (rank self.old world.old) result (rank self.new world.new) }
@@ -143,7 +144,7 @@ impl<C: Measure + Drop> Course<C> {
     ) -> Result<Option<Halt>, Failure>
         requires stands { PointStands self.old world.old next }
         requires unrefused { writer.old.refused ≡ None }
-        ensures ends { (g : Setup) (state : State) (left : Option (List ℕ)) → IsAtPoint g state self.old world.old left next → StepEnds g state left self.new world.new left (output_of writer.old (K.taken out.old)) (output_of writer.new (K.taken out.new)) result }
+        ensures ends { (g : Setup) (state : State) (left : Rest) → IsAtPoint g state self.old world.old left next → StepEnds g state left self.new world.new left (output_of writer.old (K.taken out.old)) (output_of writer.new (K.taken out.new)) result }
         ensures counts { CountsPart result (K.faults out.old) (K.faults out.new) }
         ensures unrefused { OnOk result (writer.new.refused ≡ None) }
         ensures falls { FallsTo (rank self.old world.old) result (rank self.new world.new) }
@@ -173,7 +174,7 @@ impl<C: Measure + Drop> Course<C> {
         requires between { world.old.machine.running ≡ None }
         requires in_range { IsEventInRange event.kind }
         requires unrefused { writer.old.refused ≡ None }
-        ensures ends { (g : Setup) (state : State) (left : Option (List ℕ)) → IsAtPoint g state self.old world.old left (Some event) → event.time ≤ world.old.machine.clock → PartEnds g state left self.new world.new left (output_of writer.old (K.taken out.old)) (output_of writer.new (K.taken out.new)) result }
+        ensures ends { (g : Setup) (state : State) (left : Rest) → IsAtPoint g state self.old world.old left (Some event) → event.time ≤ world.old.machine.clock → PartEnds g state left self.new world.new left (output_of writer.old (K.taken out.old)) (output_of writer.new (K.taken out.new)) result }
         ensures counts { CountsPart result (K.faults out.old) (K.faults out.new) }
         ensures unrefused { OnOk result (writer.new.refused ≡ None) }
         ensures long_rank { long_rank self.new world.new ≡ long_rank self.old world.old }
@@ -198,7 +199,7 @@ impl<C: Measure + Drop> Course<C> {
     ) -> Result<(), Failure>
         requires stands { ChoiceStands self.old world.old }
         requires unrefused { writer.old.refused ≡ None }
-        ensures ends { (g : Setup) (state : State) (left : Option (List ℕ)) (next : Option Event) → IsAtChoice g state self.old world.old left next → PartEnds g state left self.new world.new left (output_of writer.old (K.taken out.old)) (output_of writer.new (K.taken out.new)) result }
+        ensures ends { (g : Setup) (state : State) (left : Rest) (next : Option Event) → IsAtChoice g state self.old world.old left next → PartEnds g state left self.new world.new left (output_of writer.old (K.taken out.old)) (output_of writer.new (K.taken out.new)) result }
         ensures counts { CountsPart result (K.faults out.old) (K.faults out.new) }
         ensures unrefused { OnOk result (writer.new.refused ≡ None) }
         ensures falls { long_rank self.new world.new < long_rank self.old world.old }

@@ -16,7 +16,7 @@ pub enum RunEnd {
     Idle,
     /// The thread did what it may not do.
     Trap { thread: ThreadId, kind: TrapKind },
-    /// The thread needed a chunk, and none is free.
+    /// The thread needed a chunk, and no free chunk fits its need.
     NoChunk { thread: ThreadId },
     /// The run has retired as many instructions as it may, in a segment of the thread.
     Fuel { thread: ThreadId },

@@ -7,6 +7,7 @@
 // Behren et al., SOSP 2003).
 #![tactic(auto)]
 
+mod counted;
 mod course;
 mod deliveries;
 mod edges;

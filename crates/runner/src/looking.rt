@@ -1,9 +1,10 @@
-ghost use Rattle.std.specs.Prelude.{◌≡◌, List, None, Option, ℕ};
+ghost use Rattle.std.specs.Prelude.{◌≡◌, None};
 ghost use Rattle.lawful_log.specs.Setup.{Setup};
 ghost use Rattle.lawful_log.specs.State.{State};
 ghost use Rattle.runner.specs.Counts.{CountsLook};
-ghost use Rattle.runner.specs.Looks.{Knows, LooksAt, Nears};
+ghost use Rattle.runner.specs.Looks.{LooksAt, Nears};
 ghost use Rattle.runner.specs.Stands.{StandsBetween};
+ghost use Rattle.runner.specs.Rest.{BackTo};
 ghost use Rattle.thread_core.specs.Worlds.{Held};
 
 use crate::course::Course;
@@ -36,7 +37,8 @@ impl<C: Measure + Drop> Course<C> {
     /// Looks at the next line of the trace, which stays until it is delivered.
     pub(crate) fn look<S: Source>(&mut self, trace: &mut S) -> Result<Looked, Failure>
         requires unrefused { self.old.reader.refused ≡ None }
-        ensures looks { (g : Setup) (state : State) (held : Held) (left : Option (List ℕ)) → Knows left (S.left trace.old) → StandsBetween g state self.old held left → LooksAt g state left self.new held (S.left trace.new) result }
+        ensures looks { BackTo (S.left trace.old) (S.left trace.new) (λ before left. (g : Setup) (state : State) (held : Held) → StandsBetween g state self.old held before →
+            LooksAt g state before self.new held left result) }
         ensures rest { self.new ≡ record self.old { reader = self.new.reader; next = self.new.next } }
         ensures nears { Nears self.old self.new result }
         ensures counts { CountsLook result (S.faults trace.old) (S.faults trace.new) }
@@ -52,7 +54,8 @@ impl<C: Measure + Drop> Course<C> {
     fn read<S: Source>(&mut self, trace: &mut S) -> Result<Looked, Failure>
         requires unrefused { self.old.reader.refused ≡ None }
         requires unread { self.old.next ≡ Next.Unread }
-        ensures looks { (g : Setup) (state : State) (held : Held) (left : Option (List ℕ)) → Knows left (S.left trace.old) → StandsBetween g state self.old held left → LooksAt g state left self.new held (S.left trace.new) result }
+        ensures looks { BackTo (S.left trace.old) (S.left trace.new) (λ before left. (g : Setup) (state : State) (held : Held) → StandsBetween g state self.old held before →
+            LooksAt g state before self.new held left result) }
         ensures rest { self.new ≡ record self.old { reader = self.new.reader; next = self.new.next } }
         ensures nears { Nears self.old self.new result }
         ensures counts { CountsLook result (S.faults trace.old) (S.faults trace.new) }
@@ -66,11 +69,11 @@ impl<C: Measure + Drop> Course<C> {
                 self.next = Next::Event(event);
                 Ok(Looked::Comes { event: Some(event) })
             }
-            Err(TraceError::Line { number }) => Ok(Looked::Refused {
-                line: u64::from(number),
+            Err(TraceError::Line { .. }) => Ok(Looked::Refused {
+                line: self.reader.number(),
             }),
-            Err(TraceError::Order { number, .. }) => Ok(Looked::Refused {
-                line: u64::from(number),
+            Err(TraceError::Order { .. }) => Ok(Looked::Refused {
+                line: self.reader.number(),
             }),
             Err(TraceError::ReadFault) => Err(Failure::Read),
         }

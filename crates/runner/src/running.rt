@@ -26,7 +26,7 @@ use thread_core::World;
 ///   line 1,000,001;
 /// - `Idle` at a choice, where the trace is over, no thread is ready and none sleeps;
 /// - `Trap` where the thread indexes past an array or a table, or names a resource, an amount or a channel that it may not;
-/// - `NoChunk` where the thread needs a chunk, for a call or for a thread that it starts, and none is free;
+/// - `NoChunk` where the thread needs a chunk, for a call or for a thread that it starts, and no free chunk fits its need;
 /// - `Fuel` where the thread is to go on, and as many instructions are retired as may be; this is tested first;
 /// - `Threads` where the thread is to start one, and 65,535 live; this is tested before the want of a chunk;
 /// - `ReadFault` where a read of the trace failed: the trace's count of faults rose, or stands at its end;

@@ -10,6 +10,7 @@ ghost use Rattle.runner.specs.Recorded.{HasSmallCaps, IsRecorded};
 ghost use Rattle.runner.specs.Stands.{HasTurn, SegmentStands, Stands, StandsInside, StandsWithin};
 ghost use Rattle.runner.specs.Steps.{ActsTo, PartEnds, StepEnds};
 ghost use Rattle.runner.specs.Ways.{HasTicked};
+ghost use Rattle.runner.specs.Rest.{Rest};
 ghost use Rattle.thread_core.specs.Turns.{MayProceed};
 
 use crate::course::{Course, Under};
@@ -38,7 +39,7 @@ impl<C: Measure + Drop> Course<C> {
     ) -> Result<Option<Halt>, Failure>
         requires stands { SegmentStands self.old world.old under }
         requires unrefused { writer.old.refused ≡ None }
-        ensures ends { (g : Setup) (state : State) (left : Option (List ℕ)) → StandsWithin g state self.old world.old left under → StepEnds g state left self.new world.new left (output_of writer.old (K.taken out.old)) (output_of writer.new (K.taken out.new)) result }
+        ensures ends { (g : Setup) (state : State) (left : Rest) → StandsWithin g state self.old world.old left under → StepEnds g state left self.new world.new left (output_of writer.old (K.taken out.old)) (output_of writer.new (K.taken out.new)) result }
         ensures counts { CountsPart result (K.faults out.old) (K.faults out.new) }
         ensures unrefused { OnOk result (writer.new.refused ≡ None) }
         ensures falls { self.old.under ≡ Some under → FallsTo (rank self.old world.old) result (rank self.new world.new) }
@@ -82,7 +83,7 @@ impl<C: Measure + Drop> Course<C> {
     ) -> Result<(), Failure>
         requires turn { HasTurn self.old world.old under (Turn.Out value) }
         requires unrefused { writer.old.refused ≡ None }
-        ensures ends { (g : Setup) (state : State) (left : Option (List ℕ)) → StandsWithin g state self.old world.old left under → PartEnds g state left self.new world.new left (output_of writer.old (K.taken out.old)) (output_of writer.new (K.taken out.new)) result }
+        ensures ends { (g : Setup) (state : State) (left : Rest) → StandsWithin g state self.old world.old left under → PartEnds g state left self.new world.new left (output_of writer.old (K.taken out.old)) (output_of writer.new (K.taken out.new)) result }
         ensures counts { CountsPart result (K.faults out.old) (K.faults out.new) }
         ensures unrefused { OnOk result (writer.new.refused ≡ None) }
         ensures falls { self.old.under ≡ Some under → long_rank self.new world.new < long_rank self.old world.old }
@@ -99,7 +100,7 @@ impl<C: Measure + Drop> Course<C> {
     /// A thread has started.
     fn spawn(&mut self, world: &mut World, under: Under, thread: ThreadId) -> Result<(), Failure>
         requires { HasTurn self.old world.old under (Turn.Spawned thread) }
-        ensures ends { (g : Setup) (state : State) (left : Option (List ℕ)) (now : Output) → StandsWithin g state self.old world.old left under → PartEnds g state left self.new world.new left now now result }
+        ensures ends { (g : Setup) (state : State) (left : Rest) (now : Output) → StandsWithin g state self.old world.old left under → PartEnds g state left self.new world.new left now now result }
         ensures only_memory { IfErr result (λ failure. failure ≡ Failure.Memory) }
         ensures falls { IfOk result (λ _. self.old.under ≡ Some under → long_rank self.new world.new < long_rank self.old world.old) }
         ensures keeps { KeepsRun world.old world.new }
@@ -112,10 +113,10 @@ impl<C: Measure + Drop> Course<C> {
     /// The segment goes on.
     fn proceed(&mut self, world: &mut World, under: Under)
         requires { MayProceed world.old world.old.stopped }
-        ensures goes_on { (g : Setup) (state : State) (left : Option (List ℕ)) → StandsInside g state self.old world.old left under.choice under.before → Stands g state self.new world.new left }
-        ensures ticks { (g : Setup) (state : State) (left : Option (List ℕ)) → StandsInside g state self.old world.old left under.choice under.before → HasTicked state.machine world.new.machine }
+        ensures goes_on { (g : Setup) (state : State) (left : Rest) → StandsInside g state self.old world.old left under.choice under.before → Stands g state self.new world.new left }
+        ensures ticks { (g : Setup) (state : State) (left : Rest) → StandsInside g state self.old world.old left under.choice under.before → HasTicked state.machine world.new.machine }
         ensures acts { world.old.stopped ≡ None → ActsTo world.old.setting world.old.machine world.new.machine }
-        ensures falls { (g : Setup) (state : State) (left : Option (List ℕ)) → StandsInside g state self.old world.old left under.choice under.before → 1 ≤ under_rank self.old.under → long_rank self.new world.new < long_rank self.old world.old }
+        ensures falls { (g : Setup) (state : State) (left : Rest) → StandsInside g state self.old world.old left under.choice under.before → 1 ≤ under_rank self.old.under → long_rank self.new world.new < long_rank self.old world.old }
         ensures keeps { KeepsRun world.old world.new }
     {
         let choice = under.choice;
@@ -141,7 +142,7 @@ impl<C: Measure + Drop> Course<C> {
     ) -> Result<(), Failure>
         requires turn { HasTurn self.old world.now under (Turn.Blocked key.now cost) }
         requires unrefused { writer.old.refused ≡ None }
-        ensures ends { (g : Setup) (state : State) (left : Option (List ℕ)) → StandsWithin g state self.old world.now left under → PartEnds g state left self.new world.now left (output_of writer.old (K.taken out.old)) (output_of writer.new (K.taken out.new)) result }
+        ensures ends { (g : Setup) (state : State) (left : Rest) → StandsWithin g state self.old world.now left under → PartEnds g state left self.new world.now left (output_of writer.old (K.taken out.old)) (output_of writer.new (K.taken out.new)) result }
         ensures counts { CountsPart result (K.faults out.old) (K.faults out.new) }
         ensures unrefused { OnOk result (writer.new.refused ≡ None) }
         ensures over { OnOk result (self.new.under ≡ None) }
@@ -175,7 +176,7 @@ impl<C: Measure + Drop> Course<C> {
     ) -> Result<(), Failure>
         requires turn { HasTurn self.old world.now under (Turn.Ended cost) }
         requires unrefused { writer.old.refused ≡ None }
-        ensures ends { (g : Setup) (state : State) (left : Option (List ℕ)) → StandsWithin g state self.old world.now left under → PartEnds g state left self.new world.now left (output_of writer.old (K.taken out.old)) (output_of writer.new (K.taken out.new)) result }
+        ensures ends { (g : Setup) (state : State) (left : Rest) → StandsWithin g state self.old world.now left under → PartEnds g state left self.new world.now left (output_of writer.old (K.taken out.old)) (output_of writer.new (K.taken out.new)) result }
         ensures counts { CountsPart result (K.faults out.old) (K.faults out.new) }
         ensures unrefused { OnOk result (writer.new.refused ≡ None) }
         ensures over { OnOk result (self.new.under ≡ None) }

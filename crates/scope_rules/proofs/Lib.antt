@@ -27,5 +27,9 @@ pub mod MainFunctions
 pub mod WellScopedPrograms
 pub mod Counted
 pub mod LeastFaults
+pub mod NumberedPrograms
 pub mod Resolved
 pub mod OneOutcome
+pub mod MappedLists
+pub mod NumberedLists
+pub mod Made

@@ -12,3 +12,4 @@ pub mod Items
 pub mod ItemViews
 pub mod Limits
 pub mod Outcomes
+pub mod Numbered

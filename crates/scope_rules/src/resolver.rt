@@ -7,13 +7,14 @@ ghost use Rattle.c_tree.specs.Programs.{tree_of};
 ghost use Rattle.c_tree.specs.ProgramView.{program_tree};
 ghost use Rattle.c_tree.specs.RawProgramView.{raw_program_tree};
 ghost use Rattle.c_tree.specs.RawViews.{raw_item_trees};
-ghost use Rattle.c_tree.specs.TextOrder.{functions_sites};
+ghost use Rattle.c_tree.specs.TextOrder.{functions_sites, program_sites};
 ghost use Rattle.c_tree.specs.Views.{function_tree};
 ghost use Rattle.c_tree.specs.Temporaries.{capped};
-ghost use Rattle.c_tree.specs.WellScoped.{IsWellScoped};
+ghost use Rattle.c_tree.specs.WellScoped.{IsWellScoped, AreSiteNumbers};
 ghost use Rattle.c_tree.specs.WholeCalls.{AreCallsWhole};
 ghost use Rattle.scope_rules.specs.Faults.{least_of};
-ghost use Rattle.scope_rules.specs.Items.{definitions, faults_of, parts_of};
+ghost use Rattle.scope_rules.specs.Items.{definitions, faults_of, parts_of, program_of};
+ghost use Rattle.scope_rules.specs.Numbered.{numbered, IsResolvedBy};
 ghost use Rattle.scope_rules.specs.ItemViews.{sofar_of, IsCounted};
 ghost use Rattle.scope_rules.specs.Limits.{exceeded, first_exceeded};
 ghost use Rattle.scope_rules.specs.Outcomes.{IsResolved, IsRefused, IsNoMemory, refusal_by};
@@ -23,7 +24,8 @@ use crate::faults::{Fault, Rule};
 use crate::items::{Items, definitions};
 use crate::limits::{global_words, most_params, table_members};
 use crate::meanings::function_of;
-use c_tree::{Program, RawItem, RawProgram};
+use crate::numbering::number_functions;
+use c_tree::{Function, GlobalFact, Program, RawItem, RawProgram, TableFact};
 use cap_word::Which;
 use std::alloc::{AllocError, Global};
 
@@ -95,9 +97,19 @@ fn read_items<'a>(alloc: Global, raw: &'a [RawItem]) -> Result<Items<'a>, AllocE
     Ok(items)
 }
 
-// The program that a source is, or a refusal of it.
-fn decide(alloc: Global, raw: &RawProgram) -> Result<Program, ScopeError>
-    ensures resolved { IfOk result (λ p. IsResolved (raw_program_tree raw.now) (program_tree p)) }
+// The parts of a program that keeps the rules.
+#[derive(Drop)]
+struct Parts {
+    functions: Vec<Function>,
+    globals: Vec<GlobalFact>,
+    tables: Vec<TableFact>,
+    main: u32,
+}
+
+// The parts of the program that a source is, or a refusal of it.
+fn resolved_parts(alloc: Global, raw: &RawProgram) -> Result<Parts, ScopeError>
+    ensures resolved { IfOk result (λ w. IsResolved (raw_program_tree raw.now) (tree_of w.functions.items w.globals.items w.tables.items w.main)) }
+    ensures scoped { IfOk result (λ w. IsWellScoped (tree_of w.functions.items w.globals.items w.tables.items w.main)) }
     ensures refused { IfErr result (λ e. IsRefused (raw_program_tree raw.now) e) }
 {
     let Ok(items) = read_items(alloc, raw.items()) else {
@@ -118,9 +130,40 @@ fn decide(alloc: Global, raw: &RawProgram) -> Result<Program, ScopeError>
         tables,
         ..
     } = items;
-    match Program::new(alloc, functions, globals, tables, function_of(Some(main))) {
+    Ok(Parts {
+        functions,
+        globals,
+        tables,
+        main: function_of(Some(main)),
+    })
+}
+
+// The program of these parts.
+fn make_program(alloc: Global, parts: Parts) -> Result<Program, ScopeError>
+    requires { IsWellScoped (tree_of parts.functions.items parts.globals.items parts.tables.items parts.main) }
+    ensures tree { IfOk result (λ p. program_tree p ≡ tree_of parts.functions.items parts.globals.items parts.tables.items parts.main) }
+    ensures memory { IfErr result (λ e. e ≡ ScopeError.Memory) }
+{
+    match Program::new(
+        alloc,
+        parts.functions,
+        parts.globals,
+        parts.tables,
+        parts.main,
+    ) {
         Ok(program) => Ok(program),
         Err(_) => Err(ScopeError::Memory),
+    }
+}
+
+// The program that a source is, or a refusal of it.
+fn decide(alloc: Global, raw: &RawProgram) -> Result<Program, ScopeError>
+    ensures resolved { IfOk result (λ p. IsResolved (raw_program_tree raw.now) (program_tree p)) }
+    ensures refused { IfErr result (λ e. IsRefused (raw_program_tree raw.now) e) }
+{
+    match resolved_parts(alloc, raw) {
+        Ok(parts) => make_program(alloc, parts),
+        Err(refusal) => Err(refusal),
     }
 }
 
@@ -140,6 +183,53 @@ pub fn resolve(alloc: Global, raw: &RawProgram) -> Result<Program, ScopeError>
     ensures only_refused { (e : ScopeError) → IsRefused (raw_program_tree raw.now) e → IsNoMemory e → MatchResult result (λ q. ⊥) (λ d. (d ≡ e) ⊎ (d ≡ ScopeError.Memory)) }
 {
     match decide(alloc, raw) {
+        Ok(program) => Ok(program),
+        Err(refusal) => Err(refusal),
+    }
+}
+
+// The program that a source is, with these numbers of its calls, or a refusal of it.
+fn decide_numbered(alloc: Global, raw: &RawProgram, numbers: &[u32]) -> Result<Program, ScopeError>
+    requires numbers { AreSiteNumbers numbers.now }
+    requires each { length numbers.now ≡ length (program_sites (program_of (raw_program_tree raw.now))) }
+    ensures resolved { IfOk result (λ p. IsResolvedBy numbers.now (raw_program_tree raw.now) (program_tree p)) }
+    ensures refused { IfErr result (λ e. IsRefused (raw_program_tree raw.now) e) }
+{
+    match resolved_parts(alloc, raw) {
+        Ok(parts) => make_program(alloc, numbered(parts, numbers)),
+        Err(refusal) => Err(refusal),
+    }
+}
+
+// The parts with these numbers of the calls.
+fn numbered(mut parts: Parts, numbers: &[u32]) -> Parts
+    ensures { tree_of result.functions.items result.globals.items result.tables.items result.main ≡
+        numbered numbers.now (tree_of parts.functions.items parts.globals.items parts.tables.items parts.main) }
+{
+    number_functions(&mut parts.functions, numbers);
+    parts
+}
+
+/// The program that a source is, as `resolve` gives it, whose calls have these numbers, in the order of the tree: as many as it
+/// has calls, each its own, and below their count.
+///
+/// # Errors
+///
+/// Those of `resolve`.
+pub fn resolve_numbered(
+    alloc: Global,
+    raw: &RawProgram,
+    numbers: &[u32],
+) -> Result<Program, ScopeError>
+    requires whole { AreCallsWhole (raw_program_tree raw.now) }
+    requires numbers { AreSiteNumbers numbers.now }
+    requires each { length numbers.now ≡ length (program_sites (program_of (raw_program_tree raw.now))) }
+    ensures resolved { IfOk result (λ p. IsResolvedBy numbers.now (raw_program_tree raw.now) (program_tree p)) }
+    ensures refused { IfErr result (λ e. IsRefused (raw_program_tree raw.now) e) }
+    ensures only_resolved { (p : ProgramTree) → IsResolvedBy numbers.now (raw_program_tree raw.now) p → MatchResult result (λ q. program_tree q ≡ p) (λ e. e ≡ ScopeError.Memory) }
+    ensures only_refused { (e : ScopeError) → IsRefused (raw_program_tree raw.now) e → IsNoMemory e → MatchResult result (λ q. ⊥) (λ d. (d ≡ e) ⊎ (d ≡ ScopeError.Memory)) }
+{
+    match decide_numbered(alloc, raw, numbers) {
         Ok(program) => Ok(program),
         Err(refusal) => Err(refusal),
     }

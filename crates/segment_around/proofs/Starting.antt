@@ -1,12 +1,12 @@
 -- A new thread rests at its function's first word.
-use Rattle.std.proofs.Common.{◌≡◌, ℕ, zero, suc, ◌+◌, ◌*◌, ◌^◌, ◌<◌, ◌≤◌, Bool, true, cond, List, [], ◌∷◌, length, replicate, Some, refl, sym, ap, subst, arith, lit<, ⊎_elim}
+use Rattle.std.proofs.Common.{◌≡◌, ℕ, zero, suc, ◌+◌, ◌*◌, ◌^◌, ◌<◌, ◌≤◌, Bool, true, cond, List, [], ◌∷◌, length, replicate, Some, refl, sym, ap, arith, lit<, ⊎_elim}
 use Rattle.std.specs.Prelude.{nat_lt, slice_index}
 use Rattle.std.specs.List.{AllByRecursion}
-use Rattle.std.proofs.lemmas.Bool.{eq-eqb, lt-ltb}
+use Rattle.std.proofs.lemmas.Bool.{eq-eqb, lt-ltb, leb-true}
 use Rattle.std.proofs.lemmas.List.Elements.{All-from_recursion}
-use Rattle.chunk_pool.specs.Pool.{Pool, Taken, taken_for, end_of, payload_place_of, IsFree, IsPool, all_free, first_bytes}
-use Rattle.chunk_pool.proofs.FreeLaws.{copies-free, copies-held}
-use Rattle.chunk_pool.proofs.NeedLaws.{taken_for-leaves, taken_for-sound, taken_for-count}
+use Rattle.chunk_pool.specs.Pool.{Pool, Taken, taken_for, end_of, payload_place_of, IsFree, IsPool, all_free, payload_bytes_of}
+use Rattle.chunk_pool.proofs.FreeLaws.{copies-free, copies-held, free_below_count}
+use Rattle.chunk_pool.proofs.NeedLaws.{taken_for-leaves, taken_for-sound, taken_for-count, taken_for-fits, taken_for-shape}
 use Rattle.chunk_pool.proofs.PoolLaws.{Contains-cases}
 use Rattle.rv_machine.specs.Registers.{read}
 use Rattle.flat_code.specs.Codes.{function_at}
@@ -26,7 +26,7 @@ use Rattle.segment_around.specs.Around.{new_thread, RestsAtStart}
 use Rattle.segment_calls.specs.Calls.{CallFacts}
 use Rattle.segment_calls.proofs.Linking.{header_tp, header_sp}
 use Rattle.segment_steps.proofs.Needs.{NeedsFit}
-use Rattle.chunk_pool.proofs.ShapeLaws.{free_below_count, bytes_of-first}
+use Rattle.chunk_pool.proofs.ShapeLaws.{words_of-payload, words_of-same}
 
 -- ---- chunks
 
@@ -66,9 +66,9 @@ start_words sp_now tp_now argument sp_below tp_below below =
 
 -- ---- the thread
 
-pub starts : (c : Checked) (code : List ℕ) (areas : Areas) (taken : Taken) (need f argument : ℕ) (arguments : List ℕ) (globals : List (List ℕ)) → CallFacts c → NeedsFit c → AreWellFormed c areas → taken_for areas.pool need ≡ Some taken → f < length c.flat.functions → argument < 2 ^ 32 →
+pub starts : (c : Checked) (code : List ℕ) (areas : Areas) (taken : Taken) (need f argument : ℕ) (arguments : List ℕ) (globals : List (List ℕ)) → CallFacts c → NeedsFit c → AreWellFormed c areas → taken_for areas.pool need ≡ Some taken → (fact_at c.certificate f).bound ≤ need → f < length c.flat.functions → argument < 2 ^ 32 →
     length arguments ≡ (function_at c.flat f).params → ((k : ℕ) → k < length arguments → slice_index arguments k ≡ read (new_thread c areas taken f argument).core.x (a0 + k)) → AreGlobals c.flat globals areas.globals → RestsAtStart c (new_thread c areas taken f argument) f arguments globals
-starts c code areas taken need f argument arguments globals calls needs form e there below count registers globals_are =
+starts c code areas taken need f argument arguments globals calls needs form e enough there below count registers globals_are =
     let l = new_thread c areas taken f argument in
     let pool = l.areas.pool in
     let sound = taken_for-sound areas.pool need taken form.pool e in
@@ -76,17 +76,17 @@ starts c code areas taken need f argument arguments globals calls needs form e t
     let well : AreWellFormed c l.areas = AreWellFormed-taken c areas need taken 0 0 form e (lit< tt) (lit< tt) in
     let entry = calls.entries f there in
     let entry_room = entry.room in
-    let bound = needs.bound f there in
-    let chunk_is : first_bytes taken.pool ≡ c.certificate.chunk = well.chunk in
-    let bytes_is = bytes_of-first taken.pool taken.chunk sound.1.0 in
+    let fit = leb-true need (payload_bytes_of areas.pool taken.chunk) (taken_for-fits areas.pool need taken form.pool e).1 in
+    let words_same = words_of-same areas.pool taken.pool taken.chunk (taken_for-shape areas.pool need taken e) in
+    let header = words_of-payload taken.pool taken.chunk sound.0 sound.1.0 in
     let frame : Frame = record { function = f; operation = 0; chunk = taken.chunk; low = end_of taken.pool taken.chunk; bytes = 0; returns = 4096; is_first = true } in
     let end_same : end_of taken.pool taken.chunk + 0 ≡ end_of taken.pool taken.chunk = omega arith in
     let frame_is : IsFrame c pool frame = record {
       function = there;
       chunk = sound.1.0;
-      lowest = (let low : payload_place_of taken.pool taken.chunk ≤ end_of taken.pool taken.chunk = omega (arith, bound, chunk_is, bytes_is) in low);
+      lowest = (let low : payload_place_of taken.pool taken.chunk ≤ end_of taken.pool taken.chunk = omega (arith, header) in low);
       highest = (let high : end_of taken.pool taken.chunk + 0 ≤ end_of taken.pool taken.chunk = omega arith in high);
-      bound = (let room : payload_place_of taken.pool taken.chunk + (fact_at c.certificate f).bound ≤ end_of taken.pool taken.chunk + 0 = omega (arith, bound, chunk_is, bytes_is) in room);
+      bound = (let room : payload_place_of taken.pool taken.chunk + (fact_at c.certificate f).bound ≤ end_of taken.pool taken.chunk + 0 = omega (arith, enough, fit, words_same, header) in room);
       first = sym (eq-eqb (end_of taken.pool taken.chunk + 0) (end_of taken.pool taken.chunk) end_same);
     } in
     let has : HasFrames c pool l.core (InPrologue f 0) (frame ∷ []) = record {

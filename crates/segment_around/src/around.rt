@@ -1,4 +1,4 @@
-ghost use Rattle.std.specs.Prelude.{◌≡◌, ◌≢◌, ℕ, ◌+◌, ◌^◌, ◌<◌, List, ◌∷◌, length, slice_index, Option, Some, Ok, IfSome};
+ghost use Rattle.std.specs.Prelude.{◌≡◌, ◌≢◌, ℕ, ◌+◌, ◌^◌, ◌<◌, ◌≤◌, List, ◌∷◌, length, slice_index, Option, Some, Ok, IfSome};
 ghost use Rattle.cap_word.specs.Calls.{Question};
 ghost use Rattle.certificate_rules.specs.Validity.{IsValid};
 ghost use Rattle.chunk_pool.specs.Pool.{Taken, taken_for, chunk_of};
@@ -22,6 +22,7 @@ ghost use Rattle.segment_around.specs.Around.{IsPassed, RestsBehind, new_thread,
 ghost use Rattle.segment_facts.specs.Zeroes.{ZeroesSome};
 ghost use Rattle.segment_laws.specs.Ways.{HasForm, IsGoodState};
 ghost use Rattle.segment_steps.specs.Alike.{FollowsAsks, MayRun, WaitsAlike, Comes, IsAlong};
+ghost use Rattle.stack_certificate.specs.Certificates.{fact_at};
 ghost use Rattle.stack_certificate.specs.declared.certificates.Certificate.{Certificate};
 ghost use Rattle.stack_image.specs.declared.images.Image.{Image};
 
@@ -50,11 +51,12 @@ pub fn passing_laws()
         RestsBehind (record { flat = flat; certificate = certificate }) (record { areas = at.areas; core = passed at.core result }) waiting asked.globals }
 {}
 
-/// The law of a new thread: on any chunk that was taken, at the entry of a function, with the function's arguments in the
-/// argument registers, it rests there for the flat thread that starts the function with these arguments. It does nothing.
+/// The law of a new thread: on a chunk that was taken for at least the bound of a function, at its entry, with the
+/// function's arguments in the argument registers, it rests there for the flat thread that starts the function with these
+/// arguments. It does nothing.
 pub fn starting_law()
     ensures { (flat : FlatCode) (image : Image) (certificate : Certificate) (areas : Areas) (taken : Taken) (need f argument : ℕ) (arguments : List ℕ) (globals : List (List ℕ)) → IsWellFormed flat → IsValid flat image certificate →
-        AreWellFormed (record { flat = flat; certificate = certificate }) areas → taken_for areas.pool need ≡ Some taken → f < length flat.functions → argument < 2 ^ 32 →
+        AreWellFormed (record { flat = flat; certificate = certificate }) areas → taken_for areas.pool need ≡ Some taken → (fact_at certificate f).bound ≤ need → f < length flat.functions → argument < 2 ^ 32 →
         length arguments ≡ (function_at flat f).params →
         ((k : ℕ) → k < length arguments → slice_index arguments k ≡ read (new_thread (record { flat = flat; certificate = certificate }) areas taken f argument).core.x (a0 + k)) →
         AreGlobals flat globals areas.globals → RestsAtStart (record { flat = flat; certificate = certificate }) (new_thread (record { flat = flat; certificate = certificate }) areas taken f argument) f arguments globals }

@@ -68,7 +68,7 @@ calls_far c code l t op g need values frame below taken facts calls there s read
     let form2 : HasForm c l2 = HasForm-next c code l1 l2 is.form step1 in
     let agrees = linked_agrees c l1 need (read l1.core.x 4) (read l1.core.x 2) taken is.form found in
     let sound = taken_for-sound p need taken is.form.areas.pool found in
-    let fit : need ≤ payload_bytes_of p taken.chunk = leb-true need (payload_bytes_of p taken.chunk) (taken_for-fits p need taken found).1 in
+    let fit : need ≤ payload_bytes_of p taken.chunk = leb-true need (payload_bytes_of p taken.chunk) (taken_for-fits p need taken is.form.areas.pool found).1 in
     let shape : shape_of taken.pool ≡ shape_of p = taken_for-shape p need taken found in
     let same_words = words_of-same p taken.pool taken.chunk shape in
     let header = words_of-payload taken.pool taken.chunk sound.0 sound.1.0 in

@@ -8,7 +8,8 @@ use Rattle.machine_world.specs.Places.{Checked}
 use Rattle.machine_world.proofs.FormLaws as forms
 use Rattle.machine_world.proofs.FormLaws.{KeepsForm, KeepsForm-step}
 use Rattle.machine_world.proofs.HeldLaws.{KeepsCopies-step, KeepsShape-step}
-use Rattle.chunk_pool.specs.Pool.{Shape, shape_of}
+use Rattle.chunk_pool.specs.Pool.{shape_of}
+use Rattle.chunk_pool.specs.declared.shape.Shape.{Shape}
 pub use Rattle.segment_laws.specs.Ways.{Owns, HasForm, IsGoodState, WayIn, Leads, ComesTo}
 
 way_joined : (c : Checked) (code : List ℕ) (m n : ℕ) (l middle after : Local) → WayIn c code m l middle → WayIn c code n middle after → WayIn c code (m + n) l after

@@ -15,6 +15,7 @@ pub mod Scales
 pub mod SpotWords
 pub mod Spots
 pub mod Standing
+pub mod Taking
 pub mod UnderWay
 pub mod Walks
 pub mod Whole

@@ -1,10 +1,10 @@
 -- LINK, UNLINK and END as the code does them.
-use Rattle.std.proofs.Common.{◌≡◌, ◌≢◌, ℕ, zero, suc, ◌+◌, ◌-◌, ◌<◌, ◌≤◌, Bool, List, [], ◌∷◌, set, Option, Some, None, refl, sym, ap, subst, ◌∙◌, arith, cond}
-use Rattle.std.specs.Prelude.{slice_get, nat_eq}
+use Rattle.std.proofs.Common.{◌≡◌, ◌≢◌, ℕ, zero, suc, ◌+◌, ◌-◌, ◌<◌, ◌≤◌, Bool, List, ◌∷◌, set, Option, Some, None, refl, sym, ap, subst, ◌∙◌, arith, cond}
+use Rattle.std.specs.Prelude.{nat_eq}
 use Rattle.std.proofs.lemmas.Bool.{eq-eqb}
 use Rattle.cap_word.specs.Word as word
 use Rattle.cap_word.specs.Runs.{Goes, Stops}
-use Rattle.chunk_pool.specs.Pool.{Pool, Taken, taken_for, after_take, after_give, word_of, place_of, bytes_of, end_of, payload_place_of, chunk_at, IsPool, IsHeld, first_free, all_free}
+use Rattle.chunk_pool.specs.Pool.{Pool, Taken, taken_for, after_give, shape_of, word_of, place_of, bytes_of, end_of, payload_place_of, chunk_at, IsPool, IsFree, IsHeld}
 use Rattle.chunk_pool.proofs.AddressLaws.{chunk_at-some}
 use Rattle.chunk_pool.proofs.PoolLaws.{KeepsOthers-after_give}
 use Rattle.rv_machine.specs.Registers.{read}
@@ -20,8 +20,8 @@ use Rattle.segment_run.specs.Turns.{thread_of}
 use Rattle.segment_run.specs.declared.running.Thread.{Thread}
 use Rattle.segment_run.proofs.Chains.{chunk_below-of, chain_from-kept, length-chain_from}
 use Rattle.segment_run.proofs.Owning.{copies-here, IsHeld-owned, few_chunks}
-use Rattle.chunk_pool.proofs.ShapeLaws.{words_of-payload}
-use Rattle.chunk_pool.proofs.NeedLaws.{taken_for-first}
+use Rattle.chunk_pool.proofs.ShapeLaws.{words_of-payload, payload_place_of-same}
+use Rattle.chunk_pool.proofs.NeedLaws.{taken_for-sound, taken_for-fits, taken_for-keeps, taken_for-shape, taken_for-count}
 
 -- ---- the front chunk
 
@@ -64,47 +64,46 @@ linked_thread thread p id = record {
   depth = thread.depth + 1;
 }
 
-abbrev pub linked_areas : Areas → Thread → ℕ → Areas
-linked_areas areas thread id = record areas { pool = with_header (after_take areas.pool) id (read thread.regs.x tp) (read thread.regs.x 2) }
+abbrev pub linked_areas : Areas → Thread → Taken → Areas
+linked_areas areas thread taken = record areas { pool = with_header taken.pool taken.chunk (read thread.regs.x tp) (read thread.regs.x 2) }
 
-some_first : (ids : List ℕ) (id : ℕ) → ids ≡ [] → slice_get ids 0 ≡ Some id → ⊥
-some_first [] id none first = cc
-some_first (x ∷ ids) id none first = cc
-
-pub link_goes : (areas : Areas) (thread : Thread) (id : ℕ) → IsPool (after_take areas.pool) → IsHeld (after_take areas.pool) id → Owns (thread_of areas thread) → HasFront areas.pool thread →
-    first_free areas.pool ≡ Some id → (taken_for areas.pool (read thread.regs.x t1) ≡ None → all_free areas.pool ≡ []) →
-    linked (thread_of areas thread) ≡ Goes (thread_of (linked_areas areas thread id) (linked_thread thread areas.pool id))
-link_goes areas thread id sound held owns front first room =
+pub link_goes : (areas : Areas) (thread : Thread) (taken : Taken) → IsPool areas.pool → Owns (thread_of areas thread) → HasFront areas.pool thread →
+    taken_for areas.pool (read thread.regs.x t1) ≡ Some taken →
+    linked (thread_of areas thread) ≡ Goes (thread_of (linked_areas areas thread taken) (linked_thread thread taken.pool taken.chunk))
+link_goes areas thread taken pool_sound owns front found =
     let l = thread_of areas thread in
     let p = areas.pool in
-    let q = (linked_areas areas thread id).pool in
-    let taken = taken_for-first p (read thread.regs.x t1) id first
-    (λ none. some_first (all_free p) id (room none) first) in
+    let need = read thread.regs.x t1 in
+    let id = taken.chunk in
+    let q = (linked_areas areas thread taken).pool in
+    let both = taken_for-sound p need taken pool_sound found in
+    let shape : shape_of q ≡ shape_of p = taken_for-shape p need taken found in
     let within = (front_held areas thread front.below owns front.depth).0 in
-    let named : saved_tp q id ≡ payload_place_of q thread.chunk = saved_tp-with_header (after_take p) id _ _ sound held.0 ∙ front.tp_is in
-    let below : chunk_below q id ≡ thread.chunk = chunk_below-of q id thread.chunk within (words_of-payload (after_take p) thread.chunk sound within) named in
+    let within_taken : thread.chunk < taken.pool.count = omega (arith, within, taken_for-count p need taken found) in
+    let named : saved_tp q id ≡ payload_place_of q thread.chunk =
+    saved_tp-with_header taken.pool id _ _ both.0 both.1.0 ∙ front.tp_is ∙ sym (payload_place_of-same p q thread.chunk shape) in
+    let below : chunk_below q id ≡ thread.chunk = chunk_below-of q id thread.chunk within_taken (words_of-payload taken.pool thread.chunk both.0 within_taken) named in
     let kept : chain_from q thread.chunk thread.depth ≡ chain_from p thread.chunk thread.depth =
-    chain_from-kept p q thread.chunk thread.depth refl (λ k there. saved_away k (λ same. not_free k there same)) in
+    chain_from-kept p q thread.chunk thread.depth shape (λ k there. saved_away k (λ same. not_free k there same)) in
     let chain : chain_from q id (thread.depth + 1) ≡ id ∷ chain_from p thread.chunk thread.depth =
     (let next : thread.depth + 1 ≡ suc thread.depth = omega arith in ap (chain_from q id) next)
     ∙ ap (λ (c : ℕ). id ∷ chain_from q c thread.depth) below ∙ ap (λ (cs : List ℕ). id ∷ cs) kept in
-    ap (linked_on l) taken
+    ap (linked_on l) found
     ∙ ap (λ (cs : List ℕ). Goes (record {
-      areas = linked_areas areas thread id;
-      core = record { pc = word.add thread.regs.pc 4; x = (linked_thread thread p id).regs.x; chain = cs };
+      areas = linked_areas areas thread taken;
+      core = record { pc = word.add thread.regs.pc 4; x = (linked_thread thread taken.pool id).regs.x; chain = cs };
     })) (sym chain)
   where
-    saved_away : (k : ℕ) → k ≢ id → saved_tp (linked_areas areas thread id).pool k ≡ saved_tp areas.pool k
+    saved_away : (k : ℕ) → k ≢ taken.chunk → saved_tp (linked_areas areas thread taken).pool k ≡ saved_tp areas.pool k
     saved_away k apart =
-        word_of-other (Rattle.chunk_pool.specs.Pool.with_word (after_take areas.pool) id 0 (read thread.regs.x tp)) id 1 _ k 0 (λ same other. apart same)
-        ∙ word_of-other (after_take areas.pool) id 0 _ k 0 (λ same other. apart same)
+        word_of-other (Rattle.chunk_pool.specs.Pool.with_word taken.pool taken.chunk 0 (read thread.regs.x tp)) taken.chunk 1 _ k 0 (λ same other. apart same)
+        ∙ word_of-other taken.pool taken.chunk 0 _ k 0 (λ same other. apart same)
+        ∙ ap (λ (q : Pool). word_of q k 0) (taken_for-keeps areas.pool (read thread.regs.x t1) taken found)
 
-    not_free : (k : ℕ) → 1 ≤ copies k (chain_from areas.pool thread.chunk thread.depth) → k ≡ id → ⊥
-    not_free k there same = (IsHeld-owned (thread_of areas thread) k owns there).1 (free_first (all_free areas.pool) k (first ∙ ap Some (sym same)))
-      where
-        free_first : (ids : List ℕ) (n : ℕ) → slice_get ids 0 ≡ Some n → Rattle.std.specs.List.Contains ids n
-        free_first [] n e = absurd (cc)
-        free_first (x ∷ ids) n e = (0, omega arith, (let same : x ≡ n = cc in same))
+    not_free : (k : ℕ) → 1 ≤ copies k (chain_from areas.pool thread.chunk thread.depth) → k ≡ taken.chunk → ⊥
+    not_free k there same =
+        (IsHeld-owned (thread_of areas thread) k owns there).1
+        (subst (λ (n : ℕ). IsFree areas.pool n) (sym same) (taken_for-fits areas.pool (read thread.regs.x t1) taken pool_sound found).0)
 
 -- ---- UNLINK
 

@@ -1,16 +1,15 @@
 -- A new thread of an accepted program is ready to run, and stands for the new source thread.
-use Rattle.std.proofs.Common.{◌≡◌, ℕ, zero, suc, ◌+◌, ◌*◌, ◌^◌, ◌<◌, ◌≤◌, List, [], ◌∷◌, length, take, replicate, get_or, pos, ◌-ℤ◌, Option, Some, None, Ok, refl, sym, ap, ◌∙◌, arith}
-use Rattle.std.specs.Prelude.{slice_index, IsTrue}
-use Rattle.std.specs.List.{All, IsDistinct}
-use Rattle.std.proofs.lemmas.Bool.{le-leb}
-use Rattle.std.proofs.lemmas.List.{length-map, length-take, get_or-map, get_or_default}
+use Rattle.std.proofs.Common.{◌≡◌, ℕ, zero, suc, ◌+◌, ◌*◌, ◌^◌, ◌<◌, ◌≤◌, List, [], ◌∷◌, length, take, replicate, get_or, pos, ◌-ℤ◌, Some, Ok, refl, sym, ap, ◌∙◌, arith}
+use Rattle.std.specs.Prelude.{slice_index}
+use Rattle.std.specs.List.{IsDistinct}
+use Rattle.std.proofs.lemmas.List.{length-map, length-take, get_or-map}
 use Rattle.std.proofs.lemmas.List.Elements.{All-from_recursion}
 use Rattle.c_lower.specs.ProgramCode.{lowered, lowered_function}
 use Rattle.c_mean.specs.Frames as source
 use Rattle.c_tree.specs.Trees.{ProgramTree}
 use Rattle.c_tree.specs.WellScoped.{IsWellScoped}
 use Rattle.certificate_rules.specs.Validity.{IsValid}
-use Rattle.chunk_pool.specs.Pool.{Pool, Taken, taken_for, fits, IsTaken, IsHeld, place_of, bytes_of, payload_bytes_of, all_free, first_bytes, IsFree, IsPool}
+use Rattle.chunk_pool.specs.Pool.{Pool, Taken, taken_for, IsHeld, place_of, bytes_of}
 use Rattle.chunk_pool.proofs.NeedLaws.{taken_for-sound}
 use Rattle.flat_code.specs.Codes.{function_at}
 use Rattle.flat_code.specs.Frames as flat
@@ -45,7 +44,6 @@ use Rattle.stands_between.specs.Between.{RestAlike}
 use Rattle.stands_between.proofs.Going as going
 use Rattle.stands_between.proofs.Laws as between
 use Rattle.stands_between.proofs.Standing.{globals_somewhere}
-use Rattle.chunk_pool.proofs.ShapeLaws.{bytes_of-first, free_below_count}
 
 -- the k-th of the arguments is what stands in the k-th argument register
 argument_at : (params argument k : ℕ) → k < length (first_arguments params argument) → slice_index (first_arguments params argument) k ≡ get_or (argument ∷ replicate 7 0) k 0
@@ -79,7 +77,7 @@ module _ (program : ProgramTree) (image : Image) (certificate : Certificate) (sc
   params_are : (f : ℕ) → f < length program.functions → (function_at (lowered program) f).params ≡ (source.function_at program f).params
   params_are f there = ap (λ (g : Rattle.flat_code.specs.declared.functions.FlatFunction.FlatFunction). g.params) (get_or-map lowered_function program.functions f _ _ there)
 
-  module _ (areas : Areas) (taken : Taken) (need f argument : ℕ) (form : AreWellFormed checked areas) (e : taken_for areas.pool need ≡ Some taken) (there : f < length (lowered program).functions) (below : argument < 2 ^ 32) where
+  module _ (areas : Areas) (taken : Taken) (need f argument : ℕ) (form : AreWellFormed checked areas) (e : taken_for areas.pool need ≡ Some taken) (enough : (fact_at certificate f).bound ≤ need) (there : f < length (lowered program).functions) (below : argument < 2 ^ 32) where
     abbrev arguments : List ℕ
     arguments = first_arguments (source.function_at program f).params argument
 
@@ -117,7 +115,7 @@ module _ (program : ProgramTree) (image : Image) (certificate : Certificate) (sc
         starts checked image.code areas taken need f argument arguments globals
         (CallFacts-valid (lowered program) image certificate (formed program image certificate scoped valid) valid)
         (NeedsFit-valid (lowered program) image certificate (formed program image certificate scoped valid) valid)
-        form e there below count registers are
+        form e enough there below count registers are
 
     pub new_ready : IsReady checked image.code (new_thread checked areas taken f argument)
     new_ready =
@@ -152,32 +150,6 @@ module _ (program : ProgramTree) (image : Image) (certificate : Certificate) (sc
         }
 
 -- ---- what the call made
-
--- the chunk that was taken for a need
-pub record TakesOne (p : Pool) (need id : ℕ) (new : Pool) : Type 0 where
-  pub taken : Taken
-  pub is : taken_for p need ≡ Some taken
-  pub chunk : id ≡ taken.chunk
-  pub pool : new ≡ taken.pool
-
-pub takes_for : (p new : Pool) (need id : ℕ) → IsTaken (taken_for p need) (Some id) p new → TakesOne p need id new
-takes_for p new need id is = by (taken_for p need) refl is
-  where
-    by : (found : Option Taken) → taken_for p need ≡ found → IsTaken found (Some id) p new → TakesOne p need id new
-    by None e is = absurd (let both : Some id ≡ None = is.0 in cc)
-    by (Some taken) e is = record { taken = taken; is = e; chunk = (let both : Some id ≡ Some taken.chunk = is.0 in cc); pool = is.1 }
-
--- a need that each chunk has
-pub takes_one : (p new : Pool) (id : ℕ) → ((need : ℕ) → All (λ (k : ℕ). IsTrue (fits p need k)) (all_free p) → IsTaken (taken_for p need) (Some id) p new) → TakesOne p 0 id new
-takes_one p new id needed = takes_for p new 0 id (needed 0 (λ i d lt. le-leb 0 (payload_bytes_of p (get_or (all_free p) i d)) (omega arith)))
-
--- each free chunk fits a need that the first size has
-pub each_fits : (p : Pool) (need : ℕ) → IsPool p → need + 16 ≤ first_bytes p → All (λ (k : ℕ). IsTrue (fits p need k)) (all_free p)
-each_fits p need sound fit k d within =
-    let id = get_or (all_free p) k d in
-    let free : IsFree p id = (k, within, get_or_default (all_free p) k id d within) in
-    let bytes = bytes_of-first p id (free_below_count p id sound free) in
-    le-leb need (payload_bytes_of p id) (omega (arith, fit, bytes))
 
 -- the registers that it wrote
 abbrev pub written : ℕ → ℕ → ℕ → List ℕ

@@ -7,14 +7,13 @@ use Rattle.std.proofs.lemmas.List.Elements.{All-cons, All-head, All-tail}
 use Rattle.std.proofs.lemmas.Map.Steps.{length-le_from_distinct_below}
 use Rattle.std.proofs.lemmas.Map.Views.{Contains-from_any}
 use Rattle.chunk_pool.specs.Pool.{IsPool, IsHeld, all_free}
-use Rattle.chunk_pool.proofs.FreeLaws.{copies-free, copies-held, absent_from_copies}
+use Rattle.chunk_pool.proofs.FreeLaws.{copies-free, copies-held, absent_from_copies, free_below_count}
 use Rattle.chunk_pool.proofs.PoolLaws.{Contains-cases}
 use Rattle.machine_world.specs.Held.{copies}
 use Rattle.machine_world.specs.Local.{Local}
 use Rattle.machine_world.proofs.HeldLaws.{copies-cons}
 use Rattle.segment_laws.specs.Ways.{Owns}
 use Rattle.segment_run.specs.Contexts.{IsOwned}
-use Rattle.chunk_pool.proofs.ShapeLaws.{free_below_count}
 
 abbrev pub one_if : Bool → ℕ
 one_if b = cond b 1 0

@@ -1,9 +1,9 @@
 -- The map of the areas, address by address, as the code tests it.
-use Rattle.std.proofs.Common.{◌≡◌, ℕ, ◌+◌, ◌-◌, ◌*◌, ◌/◌, ◌<◌, ◌≤◌, true, false, List, length, Some, None, ap, ◌∙◌, arith}
+use Rattle.std.proofs.Common.{◌≡◌, ℕ, ◌+◌, ◌-◌, ◌*◌, ◌<◌, ◌≤◌, true, false, List, length, Some, None, ap, ◌∙◌, arith}
 use Rattle.std.specs.Prelude.{nat_le, nat_lt}
 use Rattle.std.proofs.lemmas.Bool.{cond-true, cond-false, lt-ltb, le-ltb, le-leb, lt-leb, and_from, and_left, and_right}
-use Rattle.chunk_pool.specs.Pool.{Pool, IsPool, HasAddress, place_of, payload_place_of, chunk_at, first_place, chunk_in}
-use Rattle.chunk_pool.proofs.AddressLaws.{chunk_at-some}
+use Rattle.chunk_pool.specs.Pool.{Pool, IsPool, HasAddress, shape_of, place_of, payload_place_of, chunk_at, first_place}
+use Rattle.chunk_pool.proofs.AddressLaws.{chunk_at-some, chunk_in-below}
 use Rattle.machine_world.specs.Areas.{Areas, InGlobals, InTables, InPayload, globals_place, tables_place, is_within, payload_spot, spot_of}
 use Rattle.segment_run.specs.Payloads.{IsPayloadOf}
 use Rattle.segment_run.specs.declared.areas.Payload.{Payload}
@@ -30,10 +30,7 @@ spot_of-chunks areas address no_global no_table =
     ∙ cond-false (is_within tables_place areas.tables address) (Some (InTables (address - tables_place))) _ no_table
 
 chunk_at-low : (p : Pool) (address : ℕ) → address < first_place → chunk_at p address ≡ None
-unfolding chunk_in
-chunk_at-low p address low =
-    cond-false _ (Some ((address - first_place) / (4 * p.words))) None
-    (and_left (nat_le first_place address) (nat_lt address (first_place + p.count * (4 * p.words))) (lt-leb first_place address low))
+chunk_at-low p address low = chunk_in-below (shape_of p) address low
 
 -- from the first chunk on
 pub spot_of-high : (areas : Areas) (address : ℕ) → AreFew areas → first_place ≤ address → spot_of areas address ≡ payload_spot areas.pool address (chunk_at areas.pool address)

@@ -9,7 +9,8 @@ use Rattle.certificate_rules.specs.Validity.{IsValid}
 use Rattle.flat_code.specs.Codes.{result_place}
 use Rattle.stack_certificate.specs.declared.certificates.Certificate.{Certificate}
 use Rattle.stack_image.specs.declared.images.Image.{Image}
-use Rattle.chunk_pool.specs.Pool.{Pool, Shape}
+use Rattle.chunk_pool.specs.Pool.{Pool}
+use Rattle.chunk_pool.specs.declared.shape.Shape.{Shape}
 use Rattle.rv_code.specs.declared.instructions.Instr.{Instr}
 use Rattle.rv_machine.specs.Registers.{read}
 use Rattle.rv_machine.specs.Step.{instruction_at}

@@ -4,12 +4,13 @@ use Rattle.std.specs.Prelude.{◌≡◌, ℕ, ◌+◌, ◌<◌, List, [], length
 use Rattle.cap_word.specs.Calls.{Blocking, Immediate}
 use Rattle.cap_word.specs.Runs.{Asks, Stops}
 use Rattle.cap_word.specs.declared.calls.Ask.{Ask}
-use Rattle.chunk_pool.specs.Pool.{chunk_of, all_free, shape_of}
+use Rattle.chunk_pool.specs.Pool.{chunk_of, shape_of, FitsNone}
+use Rattle.rv_machine.specs.Registers.{read}
 use Rattle.flat_code.specs.declared.operations.Op.{Op}
 use Rattle.stack_certificate.specs.Certificates.{fact_at, need_of}
 use Rattle.stack_certificate.specs.Templates.{kind_of}
 use Rattle.machine_world.specs.Held.{copies_in}
-use Rattle.machine_world.specs.Local.{Local, Question, Calls, Starts, Ended, Trapped, NoRoom, local_step}
+use Rattle.machine_world.specs.Local.{Local, Question, Calls, Starts, Ended, Trapped, NoRoom, t1, local_step}
 use Rattle.machine_world.specs.Places.{Checked}
 use Rattle.segment_laws.specs.Ways.{IsGoodState, Leads}
 use Rattle.segment_run.specs.Contexts.{IsOwned}
@@ -50,7 +51,7 @@ IsEnd c code answer.Ends at left after left_after =
 IsEnd c code (answer.Traps kind) at left after left_after =
     (0 < left) × (local_step code at ≡ Stops (Trapped kind)) × (after ≡ at) × (left_after ≡ left)
 IsEnd c code answer.NoChunk at left after left_after =
-    (0 < left) × (local_step code at ≡ Stops NoRoom) × (all_free at.areas.pool ≡ []) × (after ≡ at) × (left_after ≡ left)
+    (0 < left) × (local_step code at ≡ Stops NoRoom) × FitsNone at.areas.pool (read at.core.x t1) × (after ≡ at) × (left_after ≡ left)
 IsEnd c code answer.OutOfFuel at left after left_after = (left ≡ 0) × (after ≡ at) × (left_after ≡ 0)
 
 -- a segment from one thread and fuel to another: so many instructions went on, each from a good state, to a good state at

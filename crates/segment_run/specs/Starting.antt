@@ -1,4 +1,4 @@
--- A new thread on the first free chunk.
+-- A new thread on a chunk for the bound of its function.
 use Rattle.std.specs.Prelude.{◌≡◌, ℕ, ◌∷◌, List, take, replicate, Option, Some, None}
 use Rattle.chunk_pool.specs.Pool.{Taken}
 use Rattle.machine_world.specs.Areas.{Areas}

@@ -3,11 +3,12 @@ use Rattle.std.specs.Prelude.{◌≡◌, ℕ, ◌+◌, ◌<◌, List, [], ◌∷
 use Rattle.cap_word.specs.Calls.{Call, Blocking, Immediate, call_of}
 use Rattle.cap_word.specs.Runs as runs
 use Rattle.cap_word.specs.Runs.{Stops}
-use Rattle.chunk_pool.specs.Pool.{chunk_of, all_free, shape_of}
+use Rattle.chunk_pool.specs.Pool.{chunk_of, shape_of, FitsNone}
+use Rattle.rv_machine.specs.Registers.{read}
 use Rattle.machine_world.specs.Areas.{Areas}
 use Rattle.machine_world.specs.Held.{copies_in}
 use Rattle.machine_world.specs.WellFormed.{AreWellFormed}
-use Rattle.machine_world.specs.Local.{Local, Calls, Ended, Trapped, NoRoom, first_of, linked, local_step, system_call}
+use Rattle.machine_world.specs.Local.{Local, Calls, Ended, Trapped, NoRoom, t1, first_of, linked, local_step, system_call}
 use Rattle.machine_world.specs.Places.{Checked}
 use Rattle.segment_laws.specs.Ways.{HasForm, Leads}
 use Rattle.segment_run.specs.Contexts.{chain_from}
@@ -37,12 +38,12 @@ IsTurn c code before (Blocks block) after = IsAtModel c code before (Calls (Bloc
 IsTurn c code before (Asks ask) after = IsAtAsk c code before ask × (after ≡ before)
 IsTurn c code before Ends after = (local_step code before ≡ Stops (Ended after.areas)) × (after.core.chain ≡ [])
 IsTurn c code before (Traps kind) after = (local_step code before ≡ Stops (Trapped kind)) × (after ≡ before)
-IsTurn c code before NoChunkFree after = (local_step code before ≡ Stops NoRoom) × (all_free before.areas.pool ≡ []) × (after ≡ before)
+IsTurn c code before NoChunkFree after = (local_step code before ≡ Stops NoRoom) × FitsNone before.areas.pool (read before.core.x t1) × (after ≡ before)
 
--- a LINK, where a chunk is free and where none is
+-- a LINK, where a free chunk fits the need and where none does
 abbrev pub IsLink : Bool → Local → Local → Type 0
 IsLink true before after = linked before ≡ runs.Goes after
-IsLink false before after = (linked before ≡ Stops NoRoom) × (all_free before.areas.pool ≡ []) × (after ≡ before)
+IsLink false before after = (linked before ≡ Stops NoRoom) × FitsNone before.areas.pool (read before.core.x t1) × (after ≡ before)
 
 -- what a thread keeps along its steps, to its end: the form of the areas, its chunks and the free ones together, and the
 -- words of all others

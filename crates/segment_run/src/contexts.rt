@@ -10,6 +10,8 @@ ghost use Rattle.rv_machine.specs.Registers.{write};
 ghost use Rattle.segment_run.specs.Contexts.{checked_of, code_of, local_of};
 ghost use Rattle.segment_run.specs.Passing.{RestsBefore, RestsBehind, WaitsBefore, WaitsBehind};
 
+use crate::registers::A0;
+
 /// How many instructions may still be retired.
 #[derive(Clone, Copy)]
 pub struct Fuel {
@@ -25,9 +27,6 @@ pub struct Context {
     pub chunk: u32,
     pub depth: u32,
 }
-
-// The register of a call's first argument and of its result.
-const A0: usize = 10;
 
 /// One instruction retires: pc goes on to the next and the fuel falls by one. At the ECALL of a call of the thread package
 /// this passes the call.

@@ -13,6 +13,7 @@ mod contexts;
 mod links;
 mod lookups;
 mod places;
+mod registers;
 mod running;
 mod segments;
 mod sizes;

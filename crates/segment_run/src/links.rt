@@ -1,32 +1,26 @@
-ghost use Rattle.std.specs.Prelude.{◌≡◌, ℕ, [], Some, None};
+ghost use Rattle.std.specs.Prelude.{◌≡◌, ℕ, [], Some};
 ghost use Rattle.cap_word.specs.Runs.{Goes, Stops};
-ghost use Rattle.chunk_pool.specs.Pool.{chunk_at, taken_for, all_free};
+ghost use Rattle.chunk_pool.specs.Pool.{chunk_at};
 ghost use Rattle.machine_world.specs.InPlace.{HeadersName, TpIsFront};
 ghost use Rattle.machine_world.specs.Local.{Ended, ended, unlinked};
-ghost use Rattle.rv_machine.specs.Registers.{read};
 ghost use Rattle.segment_laws.specs.Ways.{Owns};
 ghost use Rattle.segment_run.specs.Turns.{thread_of, IsLink};
 
 use crate::areas::Areas;
+use crate::registers::{SP, T1, TP};
 use crate::running::Thread;
 use cap_word::add;
 use chunk_pool::ChunkPool;
 use rv_code::Register;
 
-// Registers by their numbers.
-const SP: usize = 2;
-
-const TP: usize = 4;
-
 // The bytes of a chunk's header.
 const HEADER: u32 = 16;
 
-// LINK: takes the first free chunk, saves tp and sp in its header, and goes on with tp at its payload and sp at its end.
-// Answers whether a chunk was free; where none was, nothing changes.
+// LINK: takes a chunk for the need in t1, saves tp and sp in its header, and goes on with tp at its payload and sp at its
+// end. Answers whether a free chunk fits; where none does, nothing changes.
 pub(crate) fn link(areas: &mut Areas, thread: &mut Thread) -> bool
     requires owns { Owns (thread_of areas.old thread.old) }
     requires front { TpIsFront areas.old.pool (thread_of areas.old thread.old).core (thread_of areas.old thread.old).core.chain }
-    requires room { taken_for areas.old.pool (read thread.old.regs.x 6) ≡ None → all_free areas.old.pool ≡ [] }
     ensures { IsLink result (thread_of areas.old thread.old) (thread_of areas.new thread.new) }
 {
     let linked = link_chunk(areas, thread);
@@ -38,10 +32,9 @@ pub(crate) fn link(areas: &mut Areas, thread: &mut Thread) -> bool
 fn link_chunk(areas: &mut Areas, thread: &mut Thread) -> bool
     requires owns { Owns (thread_of areas.old thread.old) }
     requires front { TpIsFront areas.old.pool (thread_of areas.old thread.old).core (thread_of areas.old thread.old).core.chain }
-    requires room { taken_for areas.old.pool (read thread.old.regs.x 6) ≡ None → all_free areas.old.pool ≡ [] }
     ensures { IsLink result (thread_of areas.old thread.old) (thread_of areas.new thread.new) }
 {
-    let Some(chunk) = areas.pool.take() else {
+    let Some(chunk) = areas.pool.take(thread.regs.x[T1]) else {
         return false;
     };
     areas.pool.write(chunk, 0, thread.regs.x[TP]);

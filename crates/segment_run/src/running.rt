@@ -13,6 +13,7 @@ ghost use Rattle.segment_run.specs.Turns.{thread_of, turn_of, call_with, IsAtEca
 use crate::areas::Areas;
 use crate::links::{end, link, unlink};
 use crate::lookups::function_with_entry;
+use crate::registers::{A0, A1};
 use cap_word::{Ask, Block, TrapKind};
 use certificate_check::Accepted;
 use rv_code::Instr;
@@ -122,8 +123,8 @@ pub(crate) fn call(accepted: &Accepted, areas: &mut Areas, thread: &mut Thread, 
         }
         4 => Turn::Asks {
             ask: Ask::Spawn {
-                function: function_with_entry(accepted, thread.regs.x[10]),
-                argument: thread.regs.x[11],
+                function: function_with_entry(accepted, thread.regs.x[A0]),
+                argument: thread.regs.x[A1],
             },
         },
         30 => {
@@ -131,9 +132,9 @@ pub(crate) fn call(accepted: &Accepted, areas: &mut Areas, thread: &mut Thread, 
             Turn::Ends
         }
         31 => Turn::Traps {
-            kind: trap_kind(thread.regs.x[10]),
+            kind: trap_kind(thread.regs.x[A0]),
         },
-        _ => match package_call(number, thread.regs.x[10], thread.regs.x[11]) {
+        _ => match package_call(number, thread.regs.x[A0], thread.regs.x[A1]) {
             Some(turn) => turn,
             None => unreachable!(),
         },

@@ -1,4 +1,4 @@
-ghost use Rattle.std.specs.Prelude.{◌≡◌, ℕ, List};
+ghost use Rattle.std.specs.Prelude.{ℕ, List};
 ghost use Rattle.certificate_check.specs.Accepting.{accepted_tree};
 ghost use Rattle.certificate_rules.specs.Validity.{IsValid};
 ghost use Rattle.flat_code.specs.WellFormed.{IsWellFormed};
@@ -30,7 +30,7 @@ pub enum Segment {
     Ends,
     /// It stands at a trap of the source: an index of an array or of a table that is out of range.
     Traps { kind: TrapKind },
-    /// It needs a chunk and none is free.
+    /// It needs a chunk, and no free chunk fits its need.
     NoChunk,
     /// An instruction is still to do, and no fuel is left.
     OutOfFuel,

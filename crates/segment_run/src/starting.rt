@@ -1,7 +1,7 @@
-ghost use Rattle.std.specs.Prelude.{◌≡◌, ℕ, ◌+◌, ◌<◌, ◌≤◌, ◌↔◌, List, [], length, IsNone, IfSome};
+ghost use Rattle.std.specs.Prelude.{ℕ, ◌<◌, ◌↔◌, List, [], length, IsNone, IfSome};
 ghost use Rattle.c_mean.specs.Frames.{pushed, function_at};
 ghost use Rattle.certificate_check.specs.Accepting.{accepted_tree};
-ghost use Rattle.chunk_pool.specs.Pool.{taken_for, all_free, first_bytes};
+ghost use Rattle.chunk_pool.specs.Pool.{taken_for, FitsNone};
 ghost use Rattle.machine_world.specs.Globals.{AreGlobals};
 ghost use Rattle.machine_world.specs.StandsFor.{Starts, StandsForThread};
 ghost use Rattle.stack_certificate.specs.Certificates.{fact_at};
@@ -11,6 +11,7 @@ ghost use Rattle.segment_run.specs.Starting.{IsStarted, first_arguments};
 use crate::areas::Areas;
 use crate::contexts::Context;
 use crate::lookups::fact_of;
+use crate::registers::{A0, RA, SP, TP};
 use certificate_check::Accepted;
 
 // The address to which the last frame of a thread returns.
@@ -19,8 +20,8 @@ const END_STUB: u32 = 0x1000;
 // The bytes of a chunk's header.
 const HEADER: u32 = 16;
 
-/// A new thread at the start of a function, with an argument in a0, on the first free chunk; None exactly where no chunk is
-/// free, and then nothing changes.
+/// A new thread at the start of a function, with an argument in a0, on a chunk for the function's bound; None exactly where
+/// no free chunk fits that, and then nothing changes.
 pub fn start(
     accepted: &Accepted,
     areas: &mut Areas,
@@ -29,11 +30,10 @@ pub fn start(
 ) -> Option<Context>
     requires areas { AreOf accepted.now areas.old }
     requires function { function < length accepted.now.certificate.functions }
-    ensures none { IsNone result ↔ (all_free areas.old.pool ≡ []) }
+    ensures none { IsNone result ↔ FitsNone areas.old.pool (fact_at accepted.now.certificate function).bound }
 
-    // It is the machine's start of a thread, on a chunk for any need that a payload of the first size has.
-    ensures machine { (need : ℕ) → need + 16 ≤ first_bytes areas.old.pool →
-        IsStarted (taken_for areas.old.pool need) (fact_at accepted.now.certificate function).entry argument result areas.old areas.new }
+    // It is the machine's start of a thread, on a chunk for that bound.
+    ensures machine { IsStarted (taken_for areas.old.pool (fact_at accepted.now.certificate function).bound) (fact_at accepted.now.certificate function).entry argument result areas.old areas.new }
     ensures areas { AreOf accepted.now areas.new }
     ensures ready { IfSome result (λ context. IsReady (checked_of accepted.now) (code_of accepted.now) (local_of areas.new context)) }
 
@@ -43,18 +43,18 @@ pub fn start(
         (Starts (pushed (accepted_tree accepted.now) function (first_arguments (function_at (accepted_tree accepted.now) function).params argument)) []) globals) }
 {
     accepted.is_valid();
-    let entry = fact_of(accepted.certificate(), function).entry;
-    let chunk = areas.pool.take()?;
+    let fact = fact_of(accepted.certificate(), function);
+    let chunk = areas.pool.take(fact.bound)?;
     areas.pool.write(chunk, 0, 0);
     areas.pool.write(chunk, 1, 0);
     let place = areas.pool.place_of(chunk);
     let mut x = [0; 32];
-    x[1] = END_STUB;
-    x[2] = place + areas.pool.bytes_of(chunk);
-    x[4] = place + HEADER;
-    x[10] = argument;
+    x[RA] = END_STUB;
+    x[SP] = place + areas.pool.bytes_of(chunk);
+    x[TP] = place + HEADER;
+    x[A0] = argument;
     Some(Context {
-        pc: entry,
+        pc: fact.entry,
         x,
         chunk,
         depth: 1,

@@ -17,6 +17,7 @@ ghost use Rattle.segment_run.specs.Walking.{IsRead, IsReadOf};
 use crate::contexts::Context;
 use crate::lookups::fact_of;
 use crate::places::call_at;
+use crate::registers::SP;
 use crate::segments::are_sound;
 use cap_word::SiteKey;
 use certificate_check::Accepted;
@@ -55,7 +56,7 @@ pub fn walk(accepted: &Accepted, pool: &ChunkPool, context: &Context) -> SiteKey
     let blocking = call_at(accepted, ecall);
     let mut frame = Frame {
         function: blocking.function,
-        low: context.x[2],
+        low: context.x[SP],
         chunk: context.chunk,
     };
     let mut sites = [0; SiteKey::MOST];

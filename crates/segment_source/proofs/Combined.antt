@@ -3,7 +3,7 @@ use Rattle.std.proofs.Common.{◌≡◌, ℕ, ◌⊎◌, inl, inr, List, [], ◌
 use Rattle.cap_word.specs.Calls.{Question, Finish}
 use Rattle.cap_word.specs.Runs.{Goes, Asks, Stops, moves}
 use Rattle.c_lower.specs.ProgramCode.{lowered}
-use Rattle.c_mean.specs.Frames.{Running, Waiting}
+use Rattle.c_mean.specs.Frames.{WaitingFrame, Running, Waiting}
 use Rattle.c_mean.specs.Steps.{SourceMove, source_machine}
 use Rattle.c_tree.specs.Trees.{ProgramTree}
 use Rattle.c_tree.specs.WellScoped.{IsWellScoped}
@@ -13,7 +13,7 @@ use Rattle.flat_code.specs.Frames.{FlatFrame, FlatThread, FlatWaiting, Finished,
 use Rattle.flat_code.specs.Step.{FlatMove, flat_machine, answered, place_in}
 use Rattle.flat_code.specs.declared.operations.Op.{Op}
 use Rattle.lower_meaning.specs.Meaning.{MeansTheSame}
-use Rattle.lower_meaning.specs.StandsFor.{StandsFor}
+use Rattle.lower_meaning.specs.StandsFor.{StandsFor, FramesStandFor}
 use Rattle.machine_world.specs.Local as local
 use Rattle.machine_world.specs.Local.{Local, LocalMove, Ended, Trapped, NoRoom, Wrong, a0, local_step}
 use Rattle.machine_world.specs.InPlace.{Frame}
@@ -22,10 +22,13 @@ use Rattle.machine_world.specs.Rests.{IsResting, AtStart, AtCall, PastCall, IsPa
 use Rattle.machine_world.specs.StandsFor.{SourceThread, Starts, Waits, StandsForThread, StandsForFlatThread, going_on}
 use Rattle.rv_machine.specs.Registers.{read}
 use Rattle.segment_source.specs.AsSource.{AsksCall, HoldsWanted, HoldsResult, WaitsAsSource, IsStepAsSource, ReachesSource, RunsAsSource}
-use Rattle.segment_steps.specs.Alike.{AsksTheSame, FindsNone, IsNeverLost, IsStepAlike, MayRun, ReachesAlike, RunsAlike, StopsAlike, WaitsAlike, running_on}
+use Rattle.segment_steps.specs.Alike.{last_flat, first_of as flat_first, IsCutMove, AsksTheSame, FindsNone, IsNeverLost, IsStepAlike, MayRun, ReachesAlike, RunsAlike, StopsAlike, WaitsAlike, running_on}
 use Rattle.stack_certificate.specs.declared.certificates.Certificate.{Certificate}
 use Rattle.stack_image.specs.declared.images.Image.{Image}
-use Rattle.stands_between.specs.Between.{AreBetween, RestAlike, flat_going_on}
+use Rattle.segment_steps.proofs.Firsts.{result-function}
+use Rattle.source_roots.specs.Firsts.{last_function as source_last, first_of}
+use Rattle.source_roots.proofs.FirstLemmas.{delivered-keeps}
+use Rattle.stands_between.specs.Between.{AreBetween, FlatsStandFor, RestAlike, flat_going_on}
 use Rattle.stands_between.proofs.Going.{goes_on}
 use Rattle.stands_between.proofs.Laws as between
 use Rattle.stands_between.proofs.Past.{past_function}
@@ -115,9 +118,16 @@ module _ (program : ProgramTree) (image : Image) (certificate : Certificate) (sc
           | inr h ↦ inr h
         ]
 
-    pub runs_source : (code : List ℕ) (l : Local) → RunsAlike checked code l t → RunsAsSource checked code program l running
-    runs_source code l h = record {
-      along = λ k at comes. let a = h.along k at comes in record { form = a.form; good = a.good; step = step_source at (local_step code at) a.step };
+    pub runs_source : (code : List ℕ) (l : Local) → flat_first t ≡ first_of running → RunsAlike checked code l t → RunsAsSource checked code program l running
+    runs_source code l same h = record {
+      along = λ k at comes.
+          let a = h.along k at comes in
+          record {
+            form = a.form;
+            good = a.good;
+            step = step_source at (local_step code at) a.step;
+            cut = subst (λ (f : ℕ). IsCutMove checked f at (local_step code at)) same a.cut;
+          };
       reaches = λ n. reaches_source code l n (moves (source_machine program) n running) refl h.reaches;
     }
 
@@ -153,6 +163,26 @@ module _ (program : ProgramTree) (image : Image) (certificate : Certificate) (sc
       ap (λ (flat : FlatFrame). record { frame = flat; below = below; globals = globals }) (answered_same l frame op result (past_standing l f i op word place frames in_place frame below stands) holds)
   running_same l (PastCall f i op word place frames in_place) (Starts starting waitings) globals frame below result alike may holds stands = absurd alike
 
+  -- ---- the function with which both started
+
+  waitings-first : (waitings : List WaitingFrame) (flats : List FlatFrame) (f g : ℕ) → f ≡ g → FramesStandFor program waitings flats → last_flat f flats ≡ source_last g waitings
+  waitings-first [] [] f g e stand = e
+  waitings-first [] (flat ∷ flats) f g e stand = absurd stand
+  waitings-first (waiting ∷ waitings) [] f g e stand = absurd stand
+  waitings-first (waiting ∷ waitings) (flat ∷ flats) f g e stand = waitings-first waitings flats flat.function waiting.frame.function stand.0.function stand.1
+
+  between-first : (thread : SourceThread) (frame : FlatFrame) (below : List FlatFrame) (result : ℕ) (globals : List (List ℕ)) → FlatsStandFor program (frame ∷ below) thread → last_flat frame.function below ≡ first_of (going_on thread result globals)
+  between-first (Starts starting waitings) frame below result globals stand = waitings-first waitings below frame.function starting.function stand.0.function stand.1
+  between-first (Waits waiting) frame below result globals stand =
+      waitings-first waiting.below below frame.function waiting.front.frame.function stand.0.function stand.1
+      ∙ sym (delivered-keeps waiting.front waiting.below globals result)
+
+  running-first : (l : Local) (rests : IsResting checked l.areas.pool l.core) (t : FlatThread) → flat_first (running_on checked l.areas.pool l.core rests t) ≡ flat_first t
+  running-first l (AtStart f frames in_place) t = refl
+  running-first l (AtCall f i op word frames in_place) t = refl
+  running-first l (PastCall f i op word place frames in_place) t =
+      ap (λ (f : ℕ). last_flat f t.below) (result-function t.frame (place_in (standing (lowered program) t.frame)) (read l.core.x a0))
+
   -- what the law of flat code gives
   abbrev pub FlatLaw : Local → Type 0
   FlatLaw l = (t : FlatThread) → (stands : StandsForFlatThread checked l (t.frame ∷ t.below) t.globals) → MayRun checked l.areas.pool l.core stands.rests →
@@ -170,4 +200,5 @@ module _ (program : ProgramTree) (image : Image) (certificate : Certificate) (sc
           let means : MeansTheSame program (going_on thread result globals) (running_on checked l.areas.pool l.core stands.rests t) =
           subst (MeansTheSame program (going_on thread result globals)) same (goes_on program thread frame below result globals scoped b.source) in
           runs_source (going_on thread result globals) (running_on checked l.areas.pool l.core stands.rests t) means image.code l
+          (running-first l stands.rests t ∙ between-first thread frame below result globals b.source)
           (law t (record { rests = stands.rests; stands = b.machine; globals_are = stands.globals_are }) may means.never_lost)

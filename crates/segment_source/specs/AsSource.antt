@@ -1,7 +1,7 @@
 -- That a thread of the machine runs as a thread of the source does, until it asks or stops: what the one comes to, the other
 -- comes to, with the same values, or the machine finds no free chunk first; and a source thread that goes on in silence for
 -- ever does so on the machine.
-use Rattle.std.specs.Prelude.{◌≡◌, ℕ, ◌≤◌, ◌⊎◌, List, [], Option, Some, None}
+use Rattle.std.specs.Prelude.{◌≡◌, ℕ, ◌≤◌, ◌⊎◌, List, Option, Some, None}
 use Rattle.cap_word.specs.Calls.{Call, Question, Finish, call_of, spawn_of}
 use Rattle.cap_word.specs.Runs.{Goes, Asks, Stops, moves}
 use Rattle.c_tree.specs.Trees.{ProgramTree}
@@ -19,7 +19,8 @@ use Rattle.machine_world.specs.Rests.{IsResting, PastCall, IsAtCall}
 use Rattle.machine_world.specs.StandsFor.{StandAtCall}
 use Rattle.rv_machine.specs.Registers.{read}
 use Rattle.segment_laws.specs.Ways.{HasForm, IsGoodState}
-use Rattle.segment_steps.specs.Alike.{Comes, FindsNone, StopsAlike, FindsNoChunk}
+use Rattle.segment_steps.specs.Alike.{Comes, FindsNone, StopsAlike, FindsNoChunk, IsCutMove}
+use Rattle.source_roots.specs.Firsts.{first_of}
 use Rattle.stack_certificate.specs.Certificates.{fact_at, need_of}
 use Rattle.stack_certificate.specs.Templates.{kind_of}
 
@@ -76,6 +77,8 @@ pub record IsAlongSource (c : Checked) (code : List ℕ) (program : ProgramTree)
   pub form : HasForm c at
   pub good : IsGoodState c code at
   pub step : IsStepAsSource c program running at (local_step code at)
+  -- where it finds no room, the thread started with the source thread's function
+  pub cut : IsCutMove c (first_of running) at (local_step code at)
 
 -- ---- from the source to the machine
 

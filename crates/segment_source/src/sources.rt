@@ -19,7 +19,7 @@ ghost use Rattle.stack_image.specs.declared.images.Image.{Image};
 /// both directions, for each source thread and globals that it stands for; just past an ECALL that thread goes on with a0 as
 /// the result of its call, or with any word where no result is wanted. After a modelled call it stands for what the source
 /// reached. Each state on the way is in place with a good access, no step is wrong, and the machine is cut off only at a LINK
-/// where no chunk is free. The code is that of a valid pair for a well scoped program. It does nothing.
+/// where no free chunk fits. The code is that of a valid pair for a well scoped program. It does nothing.
 pub fn source_law()
     ensures { (program : ProgramTree) (image : Image) (certificate : Certificate) (l : Local) (thread : SourceThread) (globals : List (List ℕ)) (result : ℕ) → IsWellScoped program → IsValid (lowered program) image certificate →
         HasForm (record { flat = lowered program; certificate = certificate }) l → (stands : StandsForThread (record { flat = lowered program; certificate = certificate }) program l thread globals) →

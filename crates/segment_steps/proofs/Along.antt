@@ -15,7 +15,8 @@ use Rattle.segment_calls.specs.Calls.{CallFacts}
 use Rattle.segment_laws.proofs.Facts.{CodeFacts}
 use Rattle.segment_laws.proofs.Simulation.{Simulates}
 use Rattle.segment_laws.proofs.Ways.{HasForm, IsGoodState, Leads}
-use Rattle.segment_steps.specs.Alike.{IsNeverLost, StopsAlike, IsStepAlike, IsAlong, Comes}
+use Rattle.segment_steps.specs.Alike.{IsNeverLost, StopsAlike, IsStepAlike, IsAlong, IsCutMove, first_of, Comes}
+use Rattle.segment_steps.proofs.Firsts.{moves-first}
 use Rattle.segment_steps.proofs.Moves.{Comes-rest, Comes-first, HasForm-comes, Leads-comes, Leads-within}
 use Rattle.segment_steps.proofs.Needs.{NeedsFit}
 use Rattle.segment_steps.proofs.OneStep.{Outcome, Silent, Short, Asking, Stopping, Losing, outcome}
@@ -43,6 +44,12 @@ stop_step c t at (Trapped kind) n finish e stops = (n, finish, e, stops)
 stop_step c t at NoRoom n finish e stops = absurd stops
 stop_step c t at Wrong n finish e stops = absurd stops
 
+stop_cut : (c : Checked) (started : ℕ) (at : Local) (end : local.End) (finish : Finish) → StopsAlike c at end finish → IsCutMove c started at (Stops end)
+stop_cut c started at (Ended areas) finish stops = tt
+stop_cut c started at (Trapped kind) finish stops = tt
+stop_cut c started at NoRoom finish stops = absurd stops
+stop_cut c started at Wrong finish stops = tt
+
 step_before : (c : Checked) (j : ℕ) (t after : FlatThread) (at : Local) (move : LocalMove) → moves (flat_machine c.flat) j t ≡ Goes after → IsStepAlike c after at move → IsStepAlike c t at move
 step_before c j t after at (Goes next) first is = tt
 step_before c j t after at (Asks question still) first is = (is.0, (j + is.1.0, is.1.1, is.1.2, goes_on (flat_machine c.flat) j is.1.0 t after first ∙ is.1.3, is.1.4))
@@ -52,7 +59,12 @@ step_before c j t after at (Stops NoRoom) first is = is
 step_before c j t after at (Stops Wrong) first is = absurd is.3
 
 along_before : (c : Checked) (code : List ℕ) (j : ℕ) (t after : FlatThread) (at : Local) → moves (flat_machine c.flat) j t ≡ Goes after → IsAlong c code after at → IsAlong c code t at
-along_before c code j t after at first is = record { form = is.form; good = is.good; step = step_before c j t after at (local_step code at) first is.step }
+along_before c code j t after at first is = record {
+  form = is.form;
+  good = is.good;
+  step = step_before c j t after at (local_step code at) first is.step;
+  cut = subst (λ (f : ℕ). IsCutMove c f at (local_step code at)) (moves-first c.flat j t after first) is.cut;
+}
 
 -- ---- behind good steps
 
@@ -60,7 +72,12 @@ along_before c code j t after at first is = record { form = is.form; good = is.g
 pub along_within : (c : Checked) (code : List ℕ) (n k : ℕ) (l after at : Local) (t : FlatThread) → HasForm c l → Leads c code n l after → k < n → Comes code k l at → IsAlong c code t at
 along_within c code n k l after at t form leads lt comes =
     let within = Leads-within c code n k l after at leads lt comes in
-    record { form = HasForm-comes c code k l at form comes; good = within.good; step = subst (IsStepAlike c t at) (sym within.step) tt }
+    record {
+      form = HasForm-comes c code k l at form comes;
+      good = within.good;
+      step = subst (IsStepAlike c t at) (sym within.step) tt;
+      cut = subst (IsCutMove c (first_of t) at) (sym within.step) tt;
+    }
 
 -- behind them
 pub along_behind : (c : Checked) (code : List ℕ) (n k : ℕ) (l middle at : Local) (t : FlatThread) → HasForm c l → Leads c code n l middle → ((j : ℕ) → n + j ≡ k → Comes code j middle at → IsAlong c code t at) → Comes code k l at → IsAlong c code t at
@@ -72,16 +89,21 @@ along_behind c code n k l middle at t form leads rest comes = ⊎_elim
     (cases_lt k n)
 
 -- up to a step that asks or stops
-along_to : (c : Checked) (code : List ℕ) (n k : ℕ) (l last at : Local) (t : FlatThread) (move : LocalMove) → HasForm c l → Leads c code n l last → IsGoodState c code last → local_step code last ≡ move → ((next : Local) → move ≡ Goes next → ⊥) → IsStepAlike c t last move →
+along_to : (c : Checked) (code : List ℕ) (n k : ℕ) (l last at : Local) (t : FlatThread) (move : LocalMove) → HasForm c l → Leads c code n l last → IsGoodState c code last → local_step code last ≡ move → ((next : Local) → move ≡ Goes next → ⊥) → IsStepAlike c t last move → IsCutMove c (first_of t) last move →
     Comes code k l at → IsAlong c code t at
-along_to c code n k l last at t move form leads good step over is comes =
+along_to c code n k l last at t move form leads good step over is cut comes =
     along_behind c code n k l last at t form leads (λ j sum later. by j later) comes
   where
     by : (j : ℕ) → Comes code j last at → IsAlong c code t at
     by zero later =
         let same : last ≡ at = cc in
         subst (IsAlong c code t) same
-        (record { form = HasForm-comes c code n l last form (Leads-comes c code n l last leads); good = good; step = subst (IsStepAlike c t last) (sym step) is })
+        (record {
+          form = HasForm-comes c code n l last form (Leads-comes c code n l last leads);
+          good = good;
+          step = subst (IsStepAlike c t last) (sym step) is;
+          cut = subst (IsCutMove c (first_of t) last) (sym step) cut;
+        })
     by (suc j) later = let first = Comes-first code j last at later in absurd (over first.next (sym step ∙ first.step))
 
 -- ---- all states
@@ -107,14 +129,15 @@ module _ (c : Checked) (code : List ℕ) (facts : CodeFacts c code) (calls : Cal
   along_by k l at t later simulates never comes (Silent after step reaches) =
       along_behind c code (suc reaches.steps) k l reaches.after at t simulates.during.inside.form reaches.leads
       (λ j sum rest. along_before c code 1 t after at (flat_later c 0 t after step) (later j reaches.after after (omega arith) reaches.simulates (never_later c t after step never) rest)) comes
-  along_by k l at t later simulates never comes (Short cut) =
-      along_to c code cut.count k l cut.at at t (Stops NoRoom) simulates.during.inside.form cut.leads cut.good cut.step (goes_stop NoRoom) cut.none comes
+  along_by k l at t later simulates never comes (Short cut off) =
+      along_to c code cut.count k l cut.at at t (Stops NoRoom) simulates.during.inside.form cut.leads cut.good cut.step (goes_stop NoRoom) cut.none off comes
   along_by k l at t later simulates never comes (Asking asked waiting step is) =
       along_to c code is.count k l is.at at t (Asks is.question is.at) simulates.during.inside.form is.leads is.good is.step (goes_ask is.question is.at)
-      (refl, (1, asked, waiting, flat_over c 0 t (Asks asked waiting) step (flat_asks asked waiting), is.waits)) comes
+      (refl, (1, asked, waiting, flat_over c 0 t (Asks asked waiting) step (flat_asks asked waiting), is.waits)) tt comes
   along_by k l at t later simulates never comes (Stopping finish step is) =
       along_to c code is.count k l is.at at t (Stops is.end) simulates.during.inside.form is.leads is.good is.step (goes_stop is.end)
-      (stop_step c t is.at is.end 1 finish (flat_over c 0 t (Stops (Finished finish)) step (flat_stops (Finished finish))) is.stops) comes
+      (stop_step c t is.at is.end 1 finish (flat_over c 0 t (Stops (Finished finish)) step (flat_stops (Finished finish))) is.stops)
+      (stop_cut c (first_of t) is.at is.end finish is.stops) comes
   along_by k l at t later simulates never comes (Losing step) = absurd (never 1 (flat_over c 0 t (Stops Lost) step (flat_stops Lost)))
 
   pub along : (fuel k : ℕ) (l at : Local) (t : FlatThread) → k ≤ fuel → Simulates c l t → IsNeverLost c.flat t → Comes code k l at → IsAlong c code t at

@@ -1,4 +1,5 @@
 pub mod Needs
+pub mod Firsts
 mod Rooms
 pub mod Moves
 mod FlatMoves

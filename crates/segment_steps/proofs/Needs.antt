@@ -1,5 +1,6 @@
 -- What a linked call and a new thread need fits a chunk.
-use Rattle.std.proofs.Common.{◌≡◌, ℕ, ◌+◌, ◌<◌, ◌≤◌, List, [], ◌∷◌, length, map, Option, Some, refl, subst, arith}
+use Rattle.std.proofs.Common.{◌≡◌, ℕ, ◌+◌, ◌<◌, ◌≤◌, List, [], ◌∷◌, length, map, Option, Some, true, refl, ◌∙◌, subst, arith}
+use Rattle.std.proofs.lemmas.Bool.{false≢true}
 use Rattle.std.specs.List.{AllByRecursion}
 use Rattle.std.proofs.lemmas.List.{length-map}
 use Rattle.flat_code.specs.declared.operations.Op.{Op}
@@ -11,7 +12,7 @@ use Rattle.stack_certificate.specs.declared.sites.LinkKind.{LinkKind}
 use Rattle.stack_certificate.specs.Certificates.{fact_at, need_of}
 use Rattle.stack_certificate.specs.Templates.{kind_of}
 use Rattle.certificate_rules.specs.Rules.{IsNeed}
-use Rattle.certificate_rules.specs.Sites.{certified_site, greatest_bound, callee_bound}
+use Rattle.certificate_rules.specs.Sites.{certified_site, greatest_bound, callee_bound, is_spawned}
 use Rattle.certificate_rules.specs.Validity.{IsValid}
 use Rattle.machine_world.specs.InPlace.{Calls}
 use Rattle.machine_world.specs.Places.{Checked}
@@ -21,6 +22,7 @@ use Rattle.segment_facts.proofs.Standing.{all_at, all_index}
 pub record NeedsFit (c : Checked) : Type 0 where
   pub linked : (f i g need : ℕ) (op : Op) → f < length c.flat.functions → operation_at c.flat f i ≡ Some op → Calls c.flat op g → kind_of c.certificate op ≡ LinkKind.Linked need → need + 16 ≤ c.certificate.chunk
   pub spawned : (f i site g x : ℕ) (d : Option ℕ) → f < length c.flat.functions → operation_at c.flat f i ≡ Some (Op.Spawn site d g x) → need_of (kind_of c.certificate (Op.Spawn site d g x)) + 16 ≤ c.certificate.chunk
+  pub spawned_is : (f i site g x : ℕ) (d : Option ℕ) → f < length c.flat.functions → operation_at c.flat f i ≡ Some (Op.Spawn site d g x) → need_of (kind_of c.certificate (Op.Spawn site d g x)) ≡ (fact_at c.certificate g).bound
   pub bound : (f : ℕ) → f < length c.flat.functions → (fact_at c.certificate f).bound + 16 ≤ c.certificate.chunk
   pub chunk : c.certificate.chunk ≤ 65536
 
@@ -92,15 +94,35 @@ module _ (code : FlatCode) (image : Image) (certificate : Certificate) (formed :
   needed (LinkKind.Linked need) bytes is = omega (arith, is)
   needed (LinkKind.Spawned need) bytes is = omega (arith, is)
 
+  of_spawned : (kind : LinkKind) (bytes : ℕ) → is_spawned kind ≡ true → IsNeed kind bytes → need_of kind ≡ bytes
+  of_spawned LinkKind.Plain bytes e is = absurd (false≢true e)
+  of_spawned (LinkKind.Linked need) bytes e is = absurd (false≢true e)
+  of_spawned (LinkKind.Spawned need) bytes e is = is
+
+  -- a new thread needs the bound of its function
+  spawn_need : (f i site g x : ℕ) (d : Option ℕ) → f < length code.functions → operation_at code f i ≡ Some (Op.Spawn site d g x) → need_of (kind_of certificate (Op.Spawn site d g x)) ≡ (fact_at certificate g).bound
+  spawn_need f i site g x d lt there =
+      let op : Op = Op.Spawn site d g x in
+      let each = (((valid.holds 1 f 5).v1 refl).sites refl).each f i site op there refl in
+      let need = of_spawned (kind_of certificate op) (callee_bound code certificate op) each.1 (((valid.holds 9 f site).v9 refl).need i op there refl) in
+      let one : callee_bound code certificate op ≡ (fact_at certificate g).bound = omega arith in
+      need ∙ one
+
+  -- a need is no more than the longest path
+  pub need_path : (f i site : ℕ) (op : Op) → f < length code.functions → operation_at code f i ≡ Some op → certified_site op ≡ Some site → need_of (kind_of certificate op) ≤ certificate.max_path
+  need_path f i site op lt there site_is =
+      let need = needed (kind_of certificate op) (callee_bound code certificate op) (((valid.holds 9 f site).v9 refl).need i op there site_is) in
+      omega (arith, need, callees_within f i op lt there)
+
   need_within : (f i site : ℕ) (op : Op) → f < length code.functions → operation_at code f i ≡ Some op → certified_site op ≡ Some site → need_of (kind_of certificate op) + 16 ≤ certificate.chunk
   need_within f i site op lt there site_is =
-      let need = needed (kind_of certificate op) (callee_bound code certificate op) (((valid.holds 9 f site).v9 refl).need i op there site_is) in
-      omega (arith, need, callees_within f i op lt there, path)
+      omega (arith, need_path f i site op lt there site_is, path)
 
   pub NeedsFit-valid : NeedsFit (record { flat = code; certificate = certificate })
   NeedsFit-valid = record {
     linked = λ f i g need op lt there calls linked. let site = site_known code op g calls in subst (λ (kind : LinkKind). need_of kind + 16 ≤ certificate.chunk) linked (need_within f i site.0 op lt there site.1);
     spawned = λ f i site g x d lt there. need_within f i site (Op.Spawn site d g x) lt there refl;
+    spawned_is = spawn_need;
     bound = λ f lt. omega (arith, bound_within f lt, path);
     chunk = (((valid.holds 1 0 1).v1 refl).chunk refl).2;
   }

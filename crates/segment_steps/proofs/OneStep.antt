@@ -21,7 +21,8 @@ use Rattle.segment_laws.proofs.Facts.{CodeFacts, IsOperationAt}
 use Rattle.segment_laws.proofs.FlatSteps.{IsStraight, function_there, step_reaches}
 use Rattle.segment_laws.proofs.Simulation.{Simulates, Reaches}
 use Rattle.segment_laws.proofs.Ways.{IsGoodState, Leads}
-use Rattle.segment_steps.specs.Alike.{AsksTheSame, WaitsAlike, StopsAlike, FindsNoChunk}
+use Rattle.segment_steps.specs.Alike.{AsksTheSame, WaitsAlike, StopsAlike, FindsNoChunk, IsCutOff, first_of}
+use Rattle.segment_steps.proofs.Firsts.{step-first}
 use Rattle.segment_steps.proofs.FlatMoves.{NoQuestion, IsQuestion, asks_nothing, OnlyQuestion, model_asks, spawn_asks, NoFinish, MayStop, call_goes, goes_alone}
 use Rattle.segment_steps.proofs.Needs.{NeedsFit}
 use Rattle.segment_steps.proofs.Rooms.{CallsOrCut, Came, Cut, call_or_cut, table_or_cut}
@@ -60,7 +61,7 @@ pub record AtStop (c : Checked) (code : List ℕ) (l : Local) (finish : Finish) 
 
 pub data Outcome (c : Checked) (code : List ℕ) (l : Local) (t : FlatThread) : Type 0 where
   Silent : (after : FlatThread) (step : flat_step c.flat t ≡ Goes after) (reaches : Reaches c code l after) → Outcome c code l t
-  Short : (cut : AtCut c code l) → Outcome c code l t
+  Short : (cut : AtCut c code l) (off : IsCutOff c (first_of t) cut.at) → Outcome c code l t
   Asking : (asked : Question) (waiting : FlatWaiting) (step : flat_step c.flat t ≡ Asks asked waiting) (at : AtQuestion c code l asked waiting) → Outcome c code l t
   Stopping : (finish : Finish) (step : flat_step c.flat t ≡ Stops (Finished finish)) (at : AtStop c code l finish) → Outcome c code l t
   Losing : (step : flat_step c.flat t ≡ Stops Lost) → Outcome c code l t
@@ -69,7 +70,9 @@ pub data Outcome (c : Checked) (code : List ℕ) (l : Local) (t : FlatThread) : 
 
 from_call : (c : Checked) (code : List ℕ) (l : Local) (t after : FlatThread) → flat_step c.flat t ≡ Goes after → CallsOrCut c code l after → Outcome c code l t
 from_call c code l t after step (Came reaches) = Silent after step reaches
-from_call c code l t after step (Cut n comes none) = Short (record { count = n; at = comes.at; leads = comes.leads; good = comes.good; step = comes.move_is; none = none })
+from_call c code l t after step (Cut n comes none cut) =
+    Short (record { count = n; at = comes.at; leads = comes.leads; good = comes.good; step = comes.move_is; none = none })
+    (subst (λ (f : ℕ). IsCutOff c f comes.at) (step-first c.flat t after step) cut)
 
 waits_at : (c : Checked) (code : List ℕ) (l : Local) (t : FlatThread) (op : Op) (word : ℕ) (question : local.Question) (frame : Frame) (below : List Frame) (asked : Question) (waiting : FlatWaiting) → (at : AtAsk c code l t op word question frame below) →
     waiting ≡ record { frame = t.frame; below = t.below } → t.globals ≡ asked.globals → AsksTheSame c op question asked.call → AtQuestion c code l asked waiting

@@ -46,7 +46,7 @@ module _ (c : Checked) (code : List ℕ) (facts : CodeFacts c code) (calls : Cal
       subst (Alike l (suc n)) (sym (flat_later c n t after step))
       (before c code (suc reaches.steps) n (suc n) l reaches.after (moves (flat_machine c.flat) n after) (Leads-comes c code (suc reaches.steps) l reaches.after reaches.leads) (omega arith)
       (later reaches.after after reaches.simulates (never_later c t after step never)))
-  reach_by n l t later never (Short cut) = inl (cut.count, cut.at, Leads-comes c code cut.count l cut.at cut.leads, cut.step)
+  reach_by n l t later never (Short cut off) = inl (cut.count, cut.at, Leads-comes c code cut.count l cut.at cut.leads, cut.step)
   reach_by n l t later never (Asking asked waiting step is) =
       subst (Alike l (suc n)) (sym (flat_over c n t (Asks asked waiting) step (flat_asks asked waiting)))
       (inr (is.count, is.at, is.question, Leads-comes c code is.count l is.at is.leads, is.step, is.waits))

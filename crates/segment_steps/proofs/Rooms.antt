@@ -1,10 +1,10 @@
 -- A call of flat code, of a function or through a table: the machine comes to stand for the thread in the function that was
 -- called, or to a LINK for whose need nothing is taken.
-use Rattle.std.proofs.Common.{◌≡◌, ℕ, ◌+◌, ◌-◌, ◌<◌, ◌≤◌, true, List, [], ◌∷◌, length, get_or, Option, Some, None, refl, sym, ap, subst, ◌∙◌, arith, ⊎_elim, false, All, Contains}
-use Rattle.std.proofs.lemmas.Bool.{cases_lt, le-leb}
+use Rattle.std.proofs.Common.{◌≡◌, ℕ, ◌+◌, ◌-◌, ◌<◌, ◌≤◌, List, [], ◌∷◌, length, get_or, Option, Some, None, refl, sym, ap, subst, ◌∙◌, arith, ⊎_elim}
+use Rattle.std.proofs.lemmas.Bool.{cases_lt}
 use Rattle.std.proofs.lemmas.List.{length-map}
 use Rattle.cap_word.specs.Runs.{Goes, Stops}
-use Rattle.chunk_pool.specs.Pool.{Pool, Taken, taken_for, fits, payload_place_of, IsPool, IsFree, all_free, first_bytes, payload_bytes_of}
+use Rattle.chunk_pool.specs.Pool.{Taken, taken_for, payload_place_of}
 use Rattle.flat_code.specs.declared.operations.Op.{Op}
 use Rattle.flat_code.specs.Codes.{members_of}
 use Rattle.flat_code.specs.Frames.{FlatThread, pushed, standing}
@@ -14,7 +14,7 @@ use Rattle.stack_certificate.specs.declared.sites.LinkKind.{LinkKind}
 use Rattle.stack_certificate.specs.Templates.{kind_of}
 use Rattle.machine_world.specs.InPlace.{Frame}
 use Rattle.machine_world.specs.Local.{Local, NoRoom, linked_on}
-use Rattle.machine_world.specs.Places.{Checked}
+use Rattle.machine_world.specs.Places.{Checked, row_at}
 use Rattle.segment_calls.specs.Calls.{CallFacts}
 use Rattle.segment_calls.proofs.Calling.{values_length, arguments_loaded}
 use Rattle.segment_calls.proofs.CallShapes.{CallShape, call_shape}
@@ -27,39 +27,22 @@ use Rattle.segment_laws.proofs.Facts.{CodeFacts, IsOperationAt}
 use Rattle.segment_laws.proofs.Finish.{Reaches-after}
 use Rattle.segment_laws.proofs.FlatSteps.{function_there, was_there}
 use Rattle.segment_laws.proofs.Simulation.{During, Simulates, Reaches}
-use Rattle.segment_laws.proofs.Ways.{HasForm, Leads, Leads-then, ComesTo}
+use Rattle.segment_laws.proofs.Ways.{Leads, Leads-then, ComesTo}
 use Rattle.segment_steps.proofs.Needs.{NeedsFit}
 use Rattle.segment_tables.proofs.Members.{IsMemberAt-formed}
 use Rattle.segment_tables.proofs.TableSteps.{entered, readies, first_argument, was_member, not_lost_goes}
-use Rattle.chunk_pool.proofs.ShapeLaws.{bytes_of-first, free_below_count}
-use Rattle.chunk_pool.proofs.NeedLaws.{taken_for-none}
-use Rattle.segment_steps.specs.Alike.{FindsNoChunk}
+use Rattle.segment_steps.proofs.Firsts.{frames-first}
+use Rattle.segment_steps.specs.Alike.{FindsNoChunk, IsCutOff, first_of}
 use Rattle.segment_laws.proofs.Inside.{HasFrames-inside}
-use Rattle.std.proofs.lemmas.List.Elements.{All-head}
 
 pub data CallsOrCut (c : Checked) (code : List ℕ) (l : Local) (after : FlatThread) : Type 0 where
   Came : (reaches : Reaches c code l after) → CallsOrCut c code l after
-  Cut : (n : ℕ) (comes : ComesTo c code n l (Stops NoRoom)) (none : FindsNoChunk c comes.at) → CallsOrCut c code l after
+  Cut : (n : ℕ) (comes : ComesTo c code n l (Stops NoRoom)) (none : FindsNoChunk c comes.at) (cut : IsCutOff c (first_of after) comes.at) → CallsOrCut c code l after
 
 cut_after : (c : Checked) (code : List ℕ) (m : ℕ) (l middle : Local) (after : FlatThread) → Leads c code m l middle → CallsOrCut c code middle after → CallsOrCut c code l after
 cut_after c code m l middle after first (Came reaches) = Came (Reaches-after c code m l middle after first reaches)
-cut_after c code m l middle after first (Cut n comes none) =
-    Cut (m + n) (record { at = comes.at; leads = Leads-then c code m n l middle comes.at first comes.leads; good = comes.good; move_is = comes.move_is }) none
-
--- a need that fits the first size takes nothing only where no chunk is free
-none_of : (p : Pool) (need : ℕ) → IsPool p → need + 16 ≤ first_bytes p → taken_for p need ≡ None → all_free p ≡ []
-none_of p need sound fit none = by (all_free p) refl ((taken_for-none p need).0 none) where
-  by : (ids : List ℕ) → all_free p ≡ ids → All (λ (id : ℕ). fits p need id ≡ false) ids → ids ≡ []
-  by [] e not = refl
-  by (id ∷ ids) e not =
-      let free : IsFree p id = subst (λ (xs : List ℕ). Contains xs id) (sym e) (0, omega arith, refl) in
-      let bytes = bytes_of-first p id (free_below_count p id sound free) in
-      let yes : fits p need id ≡ true = le-leb need (payload_bytes_of p id) (omega (arith, fit, bytes)) in
-      let no : fits p need id ≡ false = All-head (λ (k : ℕ). fits p need k ≡ false) id ids not in
-      absurd (let both : true ≡ false = sym yes ∙ no in cc)
-
-none_free : (c : Checked) (l : Local) (need : ℕ) → HasForm c l → need + 16 ≤ c.certificate.chunk → taken_for l.areas.pool need ≡ None → all_free l.areas.pool ≡ []
-none_free c l need form fit none = none_of l.areas.pool need form.areas.pool (omega (arith, fit, form.areas.chunk)) none
+cut_after c code m l middle after first (Cut n comes none cut) =
+    Cut (m + n) (record { at = comes.at; leads = Leads-then c code m n l middle comes.at first comes.leads; good = comes.good; move_is = comes.move_is }) none cut
 
 module _ (c : Checked) (code : List ℕ) (facts : CodeFacts c code) (calls : CallFacts c) (needs : NeedsFit c) where
   abbrev called : FlatThread → ℕ → List ℕ → FlatThread
@@ -68,6 +51,8 @@ module _ (c : Checked) (code : List ℕ) (facts : CodeFacts c code) (calls : Cal
   far_by : (l : Local) (t : FlatThread) (op : Op) (g need : ℕ) (values : List ℕ) (frame : Frame) (below : List Frame) (there : IsOperationAt c code t.frame.function t.frame.next op) (s : CallShape c t.frame.function t.frame.next op) → ReadyToCall c code l t op g values frame below s 0 →
       kind_of c.certificate op ≡ LinkKind.Linked need → (at : AtLink c code l t op need frame below s) (found : Option Taken) → taken_for at.at.areas.pool need ≡ found → CallsOrCut c code l (called t g values)
   far_by l t op g need values frame below there s ready linked at None e =
+      let whole = whole_word c code t.frame.function t.frame.next 7 need op s linked (omega arith) in
+      let in_place = HasFrames-inside c code at.at t.frame.function t.frame.next (s.before + 7) op frame below there whole at.during.inside in
       Cut 5
       (record { at = at.at; leads = at.leads; good = at.good; move_is = at.step ∙ ap (λ (n : ℕ). linked_on at.at (taken_for at.at.areas.pool n)) at.need_is ∙ ap (linked_on at.at) e })
       (record {
@@ -79,10 +64,27 @@ module _ (c : Checked) (code : List ℕ) (facts : CodeFacts c code) (calls : Cal
         frames = frame ∷ below;
         there = there.there;
         linked = linked;
-        in_place = HasFrames-inside c code at.at t.frame.function t.frame.next (s.before + 7) op frame below there
-            (whole_word c code t.frame.function t.frame.next 7 need op s linked (omega arith)) at.during.inside;
+        in_place = in_place;
+        need_is = at.need_is;
         nothing = e;
-        none = none_free c at.at need at.during.inside.form (needs.linked t.frame.function t.frame.next g need op there.function there.there ready.calls linked) e;
+      })
+      (record {
+        function = t.frame.function;
+        operation = t.frame.next;
+        word = s.before + 7;
+        before = s.before;
+        op = op;
+        need = need;
+        frame = frame;
+        below = below;
+        inside = there.function;
+        there = there.there;
+        calls = s.before_is;
+        linked = linked;
+        in_place = in_place;
+        row = ap (row_at c.certificate (s.before + 7)) there.there ∙ whole.row_is;
+        started_is = frames-first c at.at.areas.pool below t.below frame.function t.frame.function at.during.inside.body.function at.during.flats;
+        nothing = e;
       })
   far_by l t op g need values frame below there s ready linked at (Some taken) e = Came (calls_far c code l t op g need values frame below taken facts calls there s ready linked at e)
 

@@ -5,17 +5,17 @@ use Rattle.cap_word.specs.Calls.{Call, Question, Finish, spawn_of}
 use Rattle.cap_word.specs.Runs.{Goes, Asks, Stops, moves}
 use Rattle.rv_machine.specs.Registers.{read}
 use Rattle.flat_code.specs.Codes.{FlatCode, function_at, operation_at}
-use Rattle.flat_code.specs.Frames.{FlatThread, FlatWaiting, Finished, Lost}
+use Rattle.flat_code.specs.Frames.{FlatFrame, FlatThread, FlatWaiting, Finished, Lost}
 use Rattle.flat_code.specs.Step.{FlatMove, flat_machine, flat_resume}
 use Rattle.flat_code.specs.declared.operations.Op.{Op}
 use Rattle.stack_certificate.specs.Certificates.{fact_at, need_of}
 use Rattle.stack_certificate.specs.Templates.{kind_of}
-use Rattle.chunk_pool.specs.Pool.{Pool, taken_for, all_free}
+use Rattle.chunk_pool.specs.Pool.{Pool, taken_for}
 use Rattle.machine_world.specs.Globals.{AreGlobals}
 use Rattle.machine_world.specs.InPlace.{Frame, HasFrames}
 use Rattle.machine_world.specs.Local as local
-use Rattle.machine_world.specs.Local.{Core, Local, LocalMove, Ended, Trapped, NoRoom, Wrong, a0, local_step, local_machine}
-use Rattle.machine_world.specs.Places.{Checked, InOperation}
+use Rattle.machine_world.specs.Local.{Core, Local, LocalMove, Ended, Trapped, NoRoom, Wrong, t1, a0, local_step, local_machine}
+use Rattle.machine_world.specs.Places.{Checked, InOperation, Whole, before_transfer, row_of}
 use Rattle.machine_world.specs.Rests.{IsResting, AtStart, AtCall, PastCall, ecall_word, IsAtCall, AreFlatFrames}
 use Rattle.segment_laws.specs.Simulation.{Simulates}
 use Rattle.segment_laws.specs.Ways.{HasForm, IsGoodState}
@@ -76,8 +76,8 @@ StopsAlike c at Wrong finish = ⊥
 
 -- ---- from the machine to the flat thread
 
--- the thread is in place at an operation whose site may be linked, and nothing is taken for the site's need: no chunk is
--- free
+-- the thread is in place at an operation whose site may be linked, t1 has the site's need, and nothing is taken for it: no
+-- free chunk fits
 pub record FindsNoChunk (c : Checked) (l : Local) : Type 0 where
   pub function : ℕ
   pub operation : ℕ
@@ -88,8 +88,8 @@ pub record FindsNoChunk (c : Checked) (l : Local) : Type 0 where
   pub there : operation_at c.flat function operation ≡ Some op
   pub linked : kind_of c.certificate op ≡ LinkKind.Linked need
   pub in_place : HasFrames c l.areas.pool l.core (InOperation function operation word) frames
+  pub need_is : read l.core.x t1 ≡ need
   pub nothing : taken_for l.areas.pool need ≡ None
-  pub none : all_free l.areas.pool ≡ []
 
 -- what a step of the machine leads to, the flat thread comes to; it finds no room only at a linked site for whose need
 -- nothing is taken, and is never wrong
@@ -100,11 +100,51 @@ IsStepAlike c t at (Asks question still) =
 IsStepAlike c t at (Stops NoRoom) = FindsNoChunk c at
 IsStepAlike c t at (Stops end) = (n : ℕ) × (finish : Finish) × (moves (flat_machine c.flat) n t ≡ Stops (Finished finish)) × StopsAlike c at end finish
 
+-- the function of the last of some frames, of which the first is of this function: the thread started with it
+abbrev pub last_function : ℕ → List Frame → ℕ
+last_function f [] = f
+last_function f (frame ∷ frames) = last_function frame.function frames
+
+abbrev pub last_flat : ℕ → List FlatFrame → ℕ
+last_flat f [] = f
+last_flat f (flat ∷ flats) = last_flat flat.function flats
+
+abbrev pub first_of : FlatThread → ℕ
+first_of t = last_flat t.frame.function t.below
+
+-- the thread stands at a call whose site may be linked, with its frame in the front chunk, and nothing is taken for the
+-- site's need; it started with this function
+pub record IsCutOff (c : Checked) (started : ℕ) (l : Local) : Type 0 where
+  pub function : ℕ
+  pub operation : ℕ
+  pub word : ℕ
+  pub before : ℕ
+  pub op : Op
+  pub need : ℕ
+  pub frame : Frame
+  pub below : List Frame
+  pub inside : function < length c.flat.functions
+  pub there : operation_at c.flat function operation ≡ Some op
+  pub calls : before_transfer op ≡ Some before
+  pub linked : kind_of c.certificate op ≡ LinkKind.Linked need
+  pub in_place : HasFrames c l.areas.pool l.core (InOperation function operation word) (frame ∷ below)
+  pub row : row_of c (InOperation function operation word) ≡ Whole
+  pub started_is : last_function frame.function below ≡ started
+  pub nothing : taken_for l.areas.pool need ≡ None
+
+-- where a step of a thread that started with this function finds no room, it is cut off so
+abbrev pub IsCutMove : Checked → ℕ → Local → LocalMove → Type 0
+IsCutMove c started l (Goes next) = Unit {0}
+IsCutMove c started l (Asks question still) = Unit {0}
+IsCutMove c started l (Stops NoRoom) = IsCutOff c started l
+IsCutMove c started l (Stops end) = Unit {0}
+
 -- a state on the way: it is in place, its next load or store is good, and so is its next step
 pub record IsAlong (c : Checked) (code : List ℕ) (t : FlatThread) (at : Local) : Type 0 where
   pub form : HasForm c at
   pub good : IsGoodState c code at
   pub step : IsStepAlike c t at (local_step code at)
+  pub cut : IsCutMove c (first_of t) at (local_step code at)
 
 -- ---- from the flat thread to the machine
 

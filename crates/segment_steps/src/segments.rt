@@ -13,7 +13,7 @@ ghost use Rattle.stack_image.specs.declared.images.Image.{Image};
 
 /// From a machine thread that rests, at no ECALL, and stands for a thread of flat code, machine and flat code run alike up to
 /// the next question, trap or end, in both directions: each state on the way is in place with a good access, no step is
-/// wrong, and the machine is cut off only at a LINK where no chunk is free. The code is that of a valid pair. It does nothing.
+/// wrong, and the machine is cut off only at a LINK where no free chunk fits. The code is that of a valid pair. It does nothing.
 pub fn segment_law()
     ensures { (flat : FlatCode) (image : Image) (certificate : Certificate) (l : Local) (t : FlatThread) → IsWellFormed flat → ZeroesSome flat → FollowsAsks flat → IsValid flat image certificate →
         HasForm (record { flat = flat; certificate = certificate }) l → (stands : StandsForFlatThread (record { flat = flat; certificate = certificate }) l (t.frame ∷ t.below) t.globals) →

@@ -22,7 +22,7 @@ pub struct Analysis {
     pub weights: Words,
     /// The bound of each function in bytes, by number.
     pub bounds: Words,
-    /// The call sites, in order of their numbers.
+    /// The call sites, in order of their numbers. One through a table names the table, whose members stand in the program.
     pub sites: Vec<GraphSite>,
     /// The numbers of the back-edge sites, rising.
     pub back: Words,

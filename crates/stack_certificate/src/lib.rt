@@ -2,9 +2,10 @@
 //
 // A certificate (`Certificate`) says where each function of a program stands in the code, how large its
 // frame is and where its variables lie in it, how many bytes of stack it needs at most until the next
-// linked call (its bound), and which calls link a new chunk. `template_word` gives the words into which
+// linked call (its bound), and which calls link a new chunk. `operation_word` gives the words into which
 // an operation of flat code is translated under a certificate: the generator writes them and the checker
-// compares with them, so that both mean the same. specs/Templates.antt has the table, a row an operation.
+// compares with them, so that both mean the same; `template_word` gives them with no setting computed before.
+// specs/Templates.antt has the table, a row an operation.
 // A certificate's text is read and written by the crate certificate_text.
 // The idea of linked chunks and of bounds checked at chosen calls is Capriccio's (von Behren, Condit,
 // Zhou, Necula, Brewer, "Capriccio: Scalable Threads for Internet Services", SOSP 2003).

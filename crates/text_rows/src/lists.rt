@@ -50,6 +50,17 @@ serve P --rule stride --tickets 01=2
 serve P --knee 1000
 build P I C --knee 1
 serve P --chunk 65536 --chunks 1025
+serve P --extra 65537
+serve P --extra-size 16
+serve P --extra-size 40
+serve P --extra-size 65552
+serve P --extra 1 --extra 2
+serve P --chunk 65536 --chunks 1024 --extra 1
+serve P --extra 61441 --extra-size 1024
+build P I C --extra 1
+check P I C --extra-size 64
+graph P --extra 0
+demo 1 --extra 1
 run P I C --chunk 64
 build P I
 check P I C D";
@@ -61,6 +72,8 @@ const PLACEMENT: Placement = Placement {
 
 const POLICY: Policy = Policy {
     chunks: 1024,
+    extra: 0,
+    extra_bytes: 64,
     fuel: 10_000_000,
     backlog: 64,
     caps: [0; 8],
@@ -138,6 +151,8 @@ const RUN: Command<'static> = Command::Run {
     certificate: "C",
     policy: Policy {
         chunks: 65_536,
+        extra: 65_536,
+        extra_bytes: 32,
         fuel: 0,
         backlog: 1,
         caps: [0, 3, 0, 0, 0, 0, 0, 1_000_000],
@@ -250,6 +265,38 @@ fn the_rule_of_choices_and_the_knee_are_read(rt: HostRuntime) {
     assert!(rt; right);
 }
 
+// A policy with so many chunks of a second size.
+fn with_extra(extra: u32, extra_bytes: u32) -> Policy {
+    Policy {
+        extra,
+        extra_bytes,
+        ..POLICY
+    }
+}
+
+// Beside 1,024 chunks of 4,096 bytes 61,440 of 1,024 are as many as a pool may have; `run` learns the size of the first from
+// its certificate alone, so its words may ask for more.
+#[test]
+fn chunks_of_a_second_size_are_read(rt: HostRuntime) {
+    let alloc = rt.alloc();
+    let run = Command::Run {
+        source: "P",
+        image: "I",
+        certificate: "C",
+        policy: with_extra(61_441, 1024),
+    };
+    let right = asks(
+        alloc,
+        "serve --extra-size 1024 P --extra 61440",
+        &serve_under(with_extra(61_440, 1024)),
+    ) & asks(
+        alloc,
+        "serve P --extra-size 32",
+        &serve_under(with_extra(0, 32)),
+    ) & asks(alloc, "run P I C --extra 61441 --extra-size 1024", &run);
+    assert!(rt; right);
+}
+
 #[test]
 fn word_lists_ask_for_a_command(rt: HostRuntime) {
     let alloc = rt.alloc();
@@ -261,7 +308,7 @@ fn word_lists_ask_for_a_command(rt: HostRuntime) {
         )
         & asks(
             alloc,
-            "run --caps 1=3,7=1000000 P --fuel 0 I --backlog 1 C --high 1 --low 0 --chunks 65536",
+            "run --caps 1=3,7=1000000 P --fuel 0 I --backlog 1 C --high 1 --low 0 --chunks 65536 --extra 65536 --extra-size 32",
             &RUN,
         )
         & asks(alloc, "build P I C --chunk 96", &BUILD)

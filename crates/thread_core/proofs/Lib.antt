@@ -22,3 +22,4 @@ pub mod Numbering
 pub mod Trapped
 pub mod SourceKeys
 pub mod SourceLaws
+pub mod StandingLaws

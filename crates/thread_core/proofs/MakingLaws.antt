@@ -10,7 +10,7 @@ use Rattle.c_tree.specs.WellScoped.{IsWellScoped}
 use Rattle.certificate_check.specs.Acceptance.{Acceptance}
 use Rattle.certificate_check.specs.Accepting.{accepted_tree}
 use Rattle.certificate_rules.specs.Validity.{IsValid}
-use Rattle.chunk_pool.specs.Pool.{Pool, Taken, IsPool, start_pool, taken_for, first_bytes}
+use Rattle.chunk_pool.specs.Pool.{Pool, Taken, IsPool, FitsNone, start_pool, taken_for}
 use Rattle.machine_world.specs.Areas.{Areas}
 use Rattle.machine_world.specs.Local.{Core, with_header}
 use Rattle.machine_world.specs.Runs.{start_world, started_on, empty_world}
@@ -43,7 +43,7 @@ use Rattle.thread_core.specs.declared.policy.WorldPolicy.{WorldPolicy}
 use Rattle.thread_core.specs.declared.records.Record.{Record}
 use Rattle.thread_core.specs.declared.state.State.{State}
 use Rattle.chunk_pool.proofs.ShapeLaws.{first_bytes-start}
-use Rattle.chunk_pool.proofs.NeedLaws.{taken_for-count}
+use Rattle.chunk_pool.proofs.NeedLaws.{taken_for-count, taken_for-none, taken_for-start}
 use Rattle.machine_world.proofs.CountedLaws.{all_free-new}
 
 chunk_fours : (chunk : ℕ) → chunk % 16 ≡ 0 → 4 * (chunk / 4) ≡ chunk
@@ -52,23 +52,21 @@ chunk_fours chunk h = omega (arith, h)
 abbrev pub areas_of : Image → Pool → Areas
 areas_of image pool = record { pool = pool; globals = image.globals; tables = image.tables }
 
-abbrev pub areas_at : Acceptance → ℕ → Areas
-areas_at accepted chunks = areas_of accepted.image (start_pool chunks (accepted.certificate.chunk / 4))
+pub pool_is : (accepted : Acceptance) (policy : WorldPolicy) (certificate : Certificate) (pool : Pool) → certificate ≡ accepted.certificate → pool ≡ start_pool policy.chunks (certificate.chunk / 4) policy.extra (policy.extra_bytes / 4) → pool ≡ (start_areas accepted policy).pool
+pool_is accepted policy certificate pool is started = started ∙ ap (λ (c : Certificate). start_pool policy.chunks (c.chunk / 4) policy.extra (policy.extra_bytes / 4)) is
 
-pub pool_is : (accepted : Acceptance) (chunks : ℕ) (certificate : Certificate) (pool : Pool) → certificate ≡ accepted.certificate → pool ≡ start_pool chunks (certificate.chunk / 4) → pool ≡ (areas_at accepted chunks).pool
-pool_is accepted chunks certificate pool is started = started ∙ ap (λ (c : Certificate). start_pool chunks (c.chunk / 4)) is
-
-pub areas_are : (accepted : Acceptance) (chunks : ℕ) (image : Image) (certificate : Certificate) (pool : Pool) → image ≡ accepted.image → certificate ≡ accepted.certificate → pool ≡ start_pool chunks (certificate.chunk / 4) → areas_of image pool ≡ areas_at accepted chunks
-areas_are accepted chunks image certificate pool image_is is started =
-    let same = pool_is accepted chunks certificate pool is started in
+pub areas_are : (accepted : Acceptance) (policy : WorldPolicy) (image : Image) (certificate : Certificate) (pool : Pool) → image ≡ accepted.image → certificate ≡ accepted.certificate → pool ≡ start_pool policy.chunks (certificate.chunk / 4) policy.extra (policy.extra_bytes / 4) →
+    areas_of image pool ≡ start_areas accepted policy
+areas_are accepted policy image certificate pool image_is is started =
+    let same = pool_is accepted policy certificate pool is started in
     (λ j. record { pool = same j; globals = (image_is j).globals; tables = (image_is j).tables })
 
 -- the areas in which a run starts have the form that the certificate says
-pub areas_start : (accepted : Acceptance) (chunks : ℕ) → IsValid (lowered (accepted_tree accepted)) accepted.image accepted.certificate → IsPool (areas_at accepted chunks).pool → AreWords (areas_at accepted chunks).globals → accepted.certificate.chunk % 16 ≡ 0 →
-    AreWellFormed (checked_of accepted) (areas_at accepted chunks)
-areas_start accepted chunks valid pool words aligned =
-    areas_formed (lowered (accepted_tree accepted)) accepted.image accepted.certificate (areas_at accepted chunks) valid pool words
-    (first_bytes-start chunks (accepted.certificate.chunk / 4) ∙ chunk_fours accepted.certificate.chunk aligned) refl refl
+pub areas_start : (accepted : Acceptance) (policy : WorldPolicy) → IsValid (lowered (accepted_tree accepted)) accepted.image accepted.certificate → IsPool (start_areas accepted policy).pool → AreWords (start_areas accepted policy).globals → accepted.certificate.chunk % 16 ≡ 0 →
+    AreWellFormed (checked_of accepted) (start_areas accepted policy)
+areas_start accepted policy valid pool words aligned =
+    areas_formed (lowered (accepted_tree accepted)) accepted.image accepted.certificate (start_areas accepted policy) valid pool words
+    (first_bytes-start policy.chunks (accepted.certificate.chunk / 4) policy.extra (policy.extra_bytes / 4) ∙ chunk_fours accepted.certificate.chunk aligned) refl refl
 
 -- the machine world with the first thread is the started one, where it is that on each chunk that may be taken
 started_is : (A : Areas) (entry : ℕ) (context : Context) (after : Areas) (w : World) (found : Option Taken) → IsStarted found entry 0 (Some context) A after →
@@ -90,7 +88,7 @@ numbers_at (x ∷ slots) (suc place) = numbers_at slots place
 
 -- what came of it
 pub record IsMade (accepted : Acceptance) (policy : WorldPolicy) (fuel : ℕ) (st : State) : Type 0 where
-  pub chunks : policy.chunks ≡ st.areas.pool.count
+  pub chunks : policy.chunks + policy.extra ≡ st.areas.pool.count
   pub kept : IsKept accepted fuel st
   pub settled : HasCome accepted fuel st st.running
   pub machine : start_world (start_areas accepted policy) (fact_at accepted.certificate (accepted_tree accepted).main).entry
@@ -123,16 +121,28 @@ module _ (accepted : Acceptance) (scoped : IsWellScoped (accepted_tree accepted)
   bound_fits : (fact_at accepted.certificate program.main).bound + 16 ≤ accepted.certificate.chunk
   bound_fits = (NeedsFit-valid (lowered program) accepted.image accepted.certificate (Rattle.lowered_facts.proofs.Formed.formed program accepted.image accepted.certificate scoped valid) valid).bound program.main there
 
+  -- a chunk is there for main
+  pub main_fits : (policy : WorldPolicy) (parts : Parts) → AreParts accepted policy parts → (main : ℕ) → main ≡ program.main → FitsNone parts.areas.pool (fact_at accepted.certificate main).bound → ⊥
+  main_fits policy parts are main main_is none =
+      let bound : ℕ = (fact_at accepted.certificate program.main).bound in
+      let pool : Pool = (start_areas accepted policy).pool in
+      let sound : IsPool pool = subst (λ (a : Areas). IsPool a.pool) are.areas are.formed.pool in
+      let none_there : FitsNone pool bound = subst (λ (a : Areas). FitsNone a.pool bound) are.areas (subst (λ (f : ℕ). FitsNone parts.areas.pool (fact_at accepted.certificate f).bound) main_is none) in
+      let fours = chunk_fours accepted.certificate.chunk (((valid.holds 1 0 1).v1 refl).chunk refl).0 in
+      let taken = taken_for-start policy.chunks (accepted.certificate.chunk / 4) policy.extra (policy.extra_bytes / 4) bound sound (omega (arith, fours, bound_fits)) in
+      let both : None ≡ Some taken.0 = sym ((taken_for-none pool bound sound).1 none_there) ∙ taken.1 in
+      absurd (cc)
+
   module _ (policy : WorldPolicy) (fuel : ℕ) (parts : Parts) (is_policy : IsPolicy accepted policy fuel) (are_parts : AreParts accepted policy parts) (st : State) (main : ℕ) (context : Context)
       (main_is : main ≡ program.main)
-      (machine : (need : ℕ) → need + 16 ≤ first_bytes parts.areas.pool → IsStarted (taken_for parts.areas.pool need) (fact_at accepted.certificate main).entry 0 (Some context) parts.areas st.areas)
+      (machine : IsStarted (taken_for parts.areas.pool (fact_at accepted.certificate main).bound) (fact_at accepted.certificate main).entry 0 (Some context) parts.areas st.areas)
       (of : AreOf accepted st.areas)
       (updates : Updates parts.records st.records parts.records.vacant_key (Some (record { number = 0; context = context })))
       (waits_are : st.waits ≡ record parts.waits { places = slice_set parts.waits.places parts.records.vacant_key (Some Wait.Fresh) })
       (exchange_is : st.exchange ≡ parts.exchange)
       (live : st.live ≡ 1) (next : st.next ≡ 1) (left : st.fuel.left ≡ fuel) (running : st.running ≡ None) (begun : st.begun ≡ 0) where
     abbrev start : Areas
-    start = areas_at accepted policy.chunks
+    start = start_areas accepted policy
 
     abbrev first : Record
     first = record { number = 0; context = context }
@@ -172,19 +182,13 @@ module _ (accepted : Acceptance) (scoped : IsWellScoped (accepted_tree accepted)
     cost_is : fuel - st.fuel.left ≡ 0
     cost_is = omega (arith, left)
 
-    aligned : accepted.certificate.chunk % 16 ≡ 0
-    aligned = (((valid.holds 1 0 1).v1 refl).chunk refl).0
-
-    fits_chunk : (fact_at accepted.certificate program.main).bound + 16 ≤ first_bytes start.pool
-    fits_chunk = let fours = chunk_fours accepted.certificate.chunk aligned in omega (arith, fours, bound_fits, first_bytes-start policy.chunks (accepted.certificate.chunk / 4))
-
     on_parts : IsStarted (taken_for parts.areas.pool (fact_at accepted.certificate program.main).bound) (fact_at accepted.certificate main).entry 0 (Some context) parts.areas st.areas
-    on_parts = machine (fact_at accepted.certificate program.main).bound (rw are_parts.areas fits_chunk)
+    on_parts = subst (λ (f : ℕ). IsStarted (taken_for parts.areas.pool (fact_at accepted.certificate f).bound) (fact_at accepted.certificate main).entry 0 (Some context) parts.areas st.areas) main_is machine
 
     starts : IsStarted (taken_for start.pool (fact_at accepted.certificate program.main).bound) (fact_at accepted.certificate program.main).entry 0 (Some context) start st.areas
     starts = rw (are_parts.areas, main_is) at on_parts
 
-    chunks_is : policy.chunks ≡ st.areas.pool.count
+    chunks_is : policy.chunks + policy.extra ≡ st.areas.pool.count
     chunks_is = sym (started_count start (fact_at accepted.certificate program.main).entry (fact_at accepted.certificate program.main).bound context st.areas (taken_for start.pool (fact_at accepted.certificate program.main).bound) refl starts)
 
     machine_is : start_world (start_areas accepted policy) (fact_at accepted.certificate program.main).entry (fact_at accepted.certificate program.main).bound ≡ Some (machine_of fuel st)
@@ -211,7 +215,7 @@ module _ (accepted : Acceptance) (scoped : IsWellScoped (accepted_tree accepted)
         (IsWellFormedIf-start (checked_of accepted) (setting_of accepted fuel st) start
         (fact_at accepted.certificate program.main).entry (fact_at accepted.certificate program.main).bound
         (subst (AreWellFormed (checked_of accepted)) are_parts.areas are_parts.formed)
-        (all_free-new policy.chunks (accepted.certificate.chunk / 4)) is_policy.most entry_below)
+        (all_free-new policy.chunks (accepted.certificate.chunk / 4) policy.extra (policy.extra_bytes / 4)) is_policy.most entry_below)
 
     -- ---- the places
 

@@ -1,5 +1,5 @@
 -- What came of a spawn, from what its calls tell.
-use Rattle.std.proofs.Common.{◌≡◌, ◌≢◌, ℕ, ◌+◌, ◌-◌, ◌^◌, ◌<◌, ◌≤◌, List, length, Option, Some, None, refl, sym, ap, ◌∙◌, subst, arith}
+use Rattle.std.proofs.Common.{◌≡◌, ◌≢◌, ℕ, ◌+◌, ◌-◌, ◌^◌, ◌<◌, List, length, Option, Some, None, refl, sym, ap, ◌∙◌, subst, arith}
 use Rattle.std.specs.Prelude.{slice_index_or, slice_set}
 use Rattle.std.proofs.lemmas.List.{get_or-set_other, get_or-set_same, length-set}
 use Rattle.slab.specs.Slab.{get}
@@ -9,7 +9,7 @@ use Rattle.cap_word.specs.declared.threads.ThreadId.{ThreadId}
 use Rattle.certificate_check.specs.Acceptance.{Acceptance}
 use Rattle.certificate_check.specs.Accepting.{accepted_tree}
 use Rattle.certificate_rules.specs.Validity.{IsValid}
-use Rattle.chunk_pool.specs.Pool.{Taken, taken_for, first_bytes, free_count}
+use Rattle.chunk_pool.specs.Pool.{Taken, taken_for, FitsNone}
 use Rattle.machine_world.specs.Areas.{Areas}
 use Rattle.machine_world.specs.Threads.{start_core, most_threads, Move}
 use Rattle.segment_run.specs.Contexts.{checked_of, code_of, local_of, core_of, AreOf}
@@ -33,7 +33,7 @@ use Rattle.thread_core.proofs.Started as started
 
 module _ (accepted : Acceptance) (most : ℕ) (st : State) (thread : ThreadId) (runs : Runs accepted most st thread) (left : 0 < st.fuel.left) (function argument : ℕ)
     (at : LocalIs st thread (λ l. IsAtAsk (checked_of accepted) (code_of accepted) l (Ask.Spawn function argument))) (valid : IsValid (lowered (accepted_tree accepted)) accepted.image accepted.certificate)
-    (few : st.live < most_threads) (some : free_count st.areas.pool ≡ 0 → ⊥) (st1 : State) (more : HasMorePlaces st st1) where
+    (few : st.live < most_threads) (some : FitsNone st.areas.pool (fact_at accepted.certificate function).bound → ⊥) (st1 : State) (more : HasMorePlaces st st1) where
   takes : spawning.Takes accepted most st thread runs left function argument at valid
   takes = spawning.takes accepted most st thread runs left function argument at valid some
 
@@ -53,7 +53,7 @@ module _ (accepted : Acceptance) (most : ℕ) (st : State) (thread : ThreadId) (
       subst (λ (x : State). Told accepted most thread st (Some Turn.Memory) (record x { records = st1.records; waits = st1.waits; stopped = Some Turn.Memory })) (sym more.rest) told
 
   module _ (slot : ℕ) (has : HasPlaceFor st1 slot) (context : Context) (areas : Areas)
-      (starts : (need : ℕ) → need + 16 ≤ first_bytes st1.areas.pool → IsStarted (taken_for st1.areas.pool need) (fact_at accepted.certificate function).entry argument (Some context) st1.areas areas) (areas_of : AreOf accepted areas)
+      (starts : IsStarted (taken_for st1.areas.pool (fact_at accepted.certificate function).bound) (fact_at accepted.certificate function).entry argument (Some context) st1.areas areas) (areas_of : AreOf accepted areas)
       (st3 : State) (was_added : HasAdded (record st1 { areas = areas }) st1.records.vacant_key (record { number = st1.next; context = context }) st3) where
     next_is : st1.next ≡ st.next
     next_is = ap (λ (x : State). x.next) more.rest
@@ -79,10 +79,10 @@ module _ (accepted : Acceptance) (most : ℕ) (st : State) (thread : ThreadId) (
     began : IsStarted (Some takes.taken) (fact_at accepted.certificate function).entry argument (Some context) st.areas areas
     began =
         let same : st1.areas ≡ st.areas = ap (λ (x : State). x.areas) more.rest in
-        let at_st : (need : ℕ) → need + 16 ≤ first_bytes st.areas.pool → IsStarted (taken_for st.areas.pool need) (fact_at accepted.certificate function).entry argument (Some context) st.areas areas =
-        subst (λ (a : Areas). (need : ℕ) → need + 16 ≤ first_bytes a.pool → IsStarted (taken_for a.pool need) (fact_at accepted.certificate function).entry argument (Some context) a areas) same starts in
-        subst (λ (o : Option Taken). IsStarted o (fact_at accepted.certificate function).entry argument (Some context) st.areas areas) takes.is
-        (at_st (spawning.need accepted most st thread runs left function argument at valid) (spawning.need_within accepted most st thread runs left function argument at valid))
+        let at_st : IsStarted (taken_for st.areas.pool (fact_at accepted.certificate function).bound) (fact_at accepted.certificate function).entry argument (Some context) st.areas areas =
+        subst (λ (a : Areas). IsStarted (taken_for a.pool (fact_at accepted.certificate function).bound) (fact_at accepted.certificate function).entry argument (Some context) a areas) same starts in
+        subst (λ (o : Option Taken). IsStarted o (fact_at accepted.certificate function).entry argument (Some context) st.areas areas)
+        (sym (spawning.taken_is accepted most st thread runs left function argument at valid) ∙ takes.is) at_st
 
     -- the pc at the thread's ECALL is small
     pub small : ContextIs st3 thread (λ context. context.pc < 2 ^ 32 - 4)

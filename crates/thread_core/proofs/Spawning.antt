@@ -1,5 +1,5 @@
 -- A thread that stands at the ECALL of a spawn: what the step of the world is, and what comes of it.
-use Rattle.std.proofs.Common.{◌≡◌, ℕ, ◌-◌, ◌<◌, ◌≤◌, true, false, List, [], ◌∷◌, length, Option, Some, None, refl, ap, ◌∙◌, subst, arith, Contains, sym, ◌+◌}
+use Rattle.std.proofs.Common.{◌≡◌, ℕ, ◌-◌, ◌<◌, ◌≤◌, true, false, length, Option, Some, None, refl, ap, ◌∙◌, subst, arith}
 use Rattle.std.specs.Prelude.{nat_eq, nat_le}
 use Rattle.std.proofs.lemmas.Bool.{cond-true, cond-false, ne_eqb}
 use Rattle.std.proofs.lemmas.Bool.Decides.{nat_tests}
@@ -11,7 +11,7 @@ use Rattle.cap_word.specs.declared.threads.ThreadId.{ThreadId}
 use Rattle.certificate_check.specs.Acceptance.{Acceptance}
 use Rattle.certificate_check.specs.Accepting.{accepted_tree}
 use Rattle.certificate_rules.specs.Validity.{IsValid}
-use Rattle.chunk_pool.specs.Pool.{Taken, taken_for, payload_bytes_of, all_free, free_count, first_bytes, IsFree}
+use Rattle.chunk_pool.specs.Pool.{Taken, taken_for, FitsNone}
 use Rattle.flat_code.specs.declared.operations.Op.{Op}
 use Rattle.lowered_facts.proofs.Formed.{formed}
 use Rattle.machine_world.specs.Places.{Checked}
@@ -29,8 +29,7 @@ use Rattle.thread_core.specs.States.{number_of, thread_of_record, threads_of, ma
 use Rattle.thread_core.specs.Steps.{Runs, LocalIs}
 use Rattle.thread_core.specs.declared.records.Record.{Record}
 use Rattle.thread_core.specs.declared.state.State.{State}
-use Rattle.chunk_pool.proofs.ShapeLaws.{bytes_of-first, free_below_count}
-use Rattle.chunk_pool.proofs.NeedLaws.{taken_for-none, taken_for-some}
+use Rattle.chunk_pool.proofs.NeedLaws.{taken_for-none}
 
 module _ (accepted : Acceptance) (most : ℕ) (st : State) (thread : ThreadId) (runs : Runs accepted most st thread) (left : 0 < st.fuel.left) (function argument : ℕ)
     (at : LocalIs st thread (λ l. IsAtAsk (checked_of accepted) (code_of accepted) l (Ask.Spawn function argument))) (valid : IsValid (lowered (accepted_tree accepted)) accepted.image accepted.certificate) where
@@ -62,6 +61,9 @@ module _ (accepted : Acceptance) (most : ℕ) (st : State) (thread : ThreadId) (
   abbrev pub entry : ℕ
   entry = (fact_at accepted.certificate function).entry
 
+  abbrev pub bound : ℕ
+  bound = (fact_at accepted.certificate function).bound
+
   abbrev pub need : ℕ
   need = need_of (kind_of accepted.certificate (Op.Spawn spawn.site spawn.place function spawn.variable))
 
@@ -92,37 +94,31 @@ module _ (accepted : Acceptance) (most : ℕ) (st : State) (thread : ThreadId) (
   few_step h = step_is ∙ cond-false (nat_le most_threads (length (threads_of st))) (Stops Stop.Threads) _
       (le_false most_threads (length (threads_of st)) (let same = runs.kept.live in omega (arith, h, same)))
 
-  no_chunk : free_count st.areas.pool ≡ 0 → taken_for st.areas.pool need ≡ None
-  no_chunk none = (taken_for-none st.areas.pool need).1 (λ k d within. absurd (omega (arith, none)))
+  -- the need at the site is the bound of the function
+  need_is : need ≡ bound
+  need_is =
+      (NeedsFit-valid (lowered (accepted_tree accepted)) accepted.image accepted.certificate (formed (accepted_tree accepted) accepted.image accepted.certificate accepted.program.well_scoped valid) valid).spawned_is
+      spawn.rests.function spawn.rests.operation spawn.site function spawn.variable spawn.place spawn.rests.at.frames_are.at.0 spawn.rests.at.operation
 
-  pub empty : st.live < most_threads → free_count st.areas.pool ≡ 0 → step s w ≡ Stops Stop.NoChunk
-  empty few none = few_step few ∙ ap (spawned w t entry argument) (no_chunk none)
+  pub taken_is : taken_for st.areas.pool need ≡ taken_for st.areas.pool bound
+  taken_is = ap (taken_for st.areas.pool) need_is
+
+  pub fits_none : st.live < most_threads → FitsNone st.areas.pool bound → step s w ≡ Stops Stop.NoChunk
+  fits_none few none =
+      few_step few ∙ ap (spawned w t entry argument) (taken_is ∙ (taken_for-none st.areas.pool bound runs.kept.formed.areas.pool).1 none)
 
   -- ---- it starts a thread
-
-  need_fits : need + 16 ≤ first_bytes st.areas.pool
-  need_fits =
-      let fit = (NeedsFit-valid (lowered (accepted_tree accepted)) accepted.image accepted.certificate (formed (accepted_tree accepted) accepted.image accepted.certificate accepted.program.well_scoped valid) valid).spawned
-      spawn.rests.function spawn.rests.operation spawn.site function spawn.variable spawn.place spawn.rests.at.frames_are.at.0 spawn.rests.at.operation in
-      let size = runs.kept.formed.areas.chunk in
-      omega (arith, fit, size)
 
   pub record Takes : Type 0 where
     pub taken : Taken
     pub is : taken_for st.areas.pool need ≡ Some taken
 
-  takes_by : (free : List ℕ) → all_free st.areas.pool ≡ free → (length free ≡ 0 → ⊥) → (tk : Taken) × (taken_for st.areas.pool need ≡ Some tk)
-  takes_by [] e some = absurd (some refl)
-  takes_by (x ∷ xs) e some =
-      let free : IsFree st.areas.pool x = subst (λ (ids : List ℕ). Contains ids x) (sym e) (0, omega arith, refl) in
-      let bytes = bytes_of-first st.areas.pool x (free_below_count st.areas.pool x runs.kept.formed.areas.pool free) in
-      taken_for-some st.areas.pool need x free (le_true need (payload_bytes_of st.areas.pool x) (omega (arith, need_fits, bytes)))
+  takes_by : (found : Option Taken) → taken_for st.areas.pool bound ≡ found → (FitsNone st.areas.pool bound → ⊥) → Takes
+  takes_by None e some = absurd (some ((taken_for-none st.areas.pool bound runs.kept.formed.areas.pool).0 e))
+  takes_by (Some taken) e some = record { taken = taken; is = taken_is ∙ e }
 
-  pub takes : (free_count st.areas.pool ≡ 0 → ⊥) → Takes
-  takes some = let tk = takes_by (all_free st.areas.pool) refl some in record { taken = tk.0; is = tk.1 }
-
-  pub need_within : need + 16 ≤ first_bytes st.areas.pool
-  need_within = need_fits
+  pub takes : (FitsNone st.areas.pool bound → ⊥) → Takes
+  takes some = takes_by (taken_for st.areas.pool bound) refl some
 
   abbrev pub after : Taken → World
   after taken = with_thread (retired w (resumed t (Some st.next)) st.areas) taken entry argument

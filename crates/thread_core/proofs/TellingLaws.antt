@@ -25,7 +25,7 @@ use Rattle.thread_core.specs.Needs.{waits_for_need, waits_to_go}
 use Rattle.thread_core.specs.declared.records.Record.{Record}
 use Rattle.thread_core.specs.declared.state.State.{State}
 
-eq_cases : (a b : ℕ) → ((nat_eq a b ≡ true) × (a ≡ b)) ⊎ ((nat_eq a b ≡ false) × (a ≢ b))
+pub eq_cases : (a b : ℕ) → ((nat_eq a b ≡ true) × (a ≡ b)) ⊎ ((nat_eq a b ≡ false) × (a ≢ b))
 eq_cases a b = grind (arith, nat_tests)
 
 -- the number of the record at a place

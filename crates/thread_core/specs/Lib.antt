@@ -13,3 +13,4 @@ pub mod Starts
 pub mod Sources
 pub mod Lengths
 pub mod Needs
+pub mod Standings

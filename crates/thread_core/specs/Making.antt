@@ -1,5 +1,5 @@
 -- The world in which a run starts, and what comes to a world from outside.
-use Rattle.std.specs.Prelude.{◌≡◌, ℕ, ◌*◌, ◌/◌, ◌<◌, ◌≤◌, Some, None, if◌then◌else◌, slice_index}
+use Rattle.std.specs.Prelude.{◌≡◌, ℕ, ◌+◌, ◌*◌, ◌%◌, ◌<◌, ◌≤◌, Some, None, if◌then◌else◌, slice_index}
 use Rattle.c_mean.specs.ModelledCalls.{is_dropped}
 use Rattle.c_mean.specs.World as source
 use Rattle.choice_rules.specs.Deliveries.{delivery_of}
@@ -7,6 +7,7 @@ use Rattle.certificate_check.specs.Accepting.{accepted_tree}
 use Rattle.certificate_check.specs.Acceptance.{Acceptance}
 use Rattle.event_trace.specs.declared.events.EventKind.{EventKind}
 use Rattle.event_trace.specs.declared.events.EventKind.TheVariants.{Arrive, Message as Sent}
+use Rattle.machine_world.specs.Areas.{Areas, new_areas}
 use Rattle.machine_world.specs.Runs.{start_world, delivered, advanced}
 use Rattle.machine_world.specs.StandsForWorld.{StandsForWorld}
 use Rattle.machine_world.specs.WellFormed.{IsWellFormed}
@@ -17,26 +18,25 @@ use Rattle.thread_core.specs.declared.policy.WorldPolicy.{WorldPolicy}
 use Rattle.thread_core.specs.declared.outside.Delivered.{Delivered}
 use Rattle.thread_core.specs.declared.turns.WorldError.{WorldError}
 use Rattle.thread_core.specs.declared.turns.WorldError.TheVariants.{Memory}
-use Rattle.chunk_pool.specs.Pool.{start_pool}
-use Rattle.machine_world.specs.Areas.{Areas}
 
 -- the policy is in its ranges, and the pool in its limit
 pub record IsPolicy (accepted : Acceptance) (policy : WorldPolicy) (fuel : ℕ) : Type 0 where
   pub some_chunks : 1 ≤ policy.chunks
   pub chunks : policy.chunks ≤ 65536
+  pub extra : policy.extra ≤ 65536
+  pub extra_least : 32 ≤ policy.extra_bytes
+  pub extra_most : policy.extra_bytes ≤ 65536
+  pub extra_whole : policy.extra_bytes % 16 ≡ 0
   pub some_backlog : 1 ≤ policy.backlog
   pub backlog : policy.backlog ≤ 4096
   pub caps : (r : ℕ) → 0 < r → r < 8 → slice_index policy.caps r ≤ 1000000
   pub most : fuel ≤ 1000000000
-  pub pool : policy.chunks * accepted.certificate.chunk ≤ 67108864
+  pub pool : policy.chunks * accepted.certificate.chunk + policy.extra * policy.extra_bytes ≤ 67108864
 
 -- the areas in which a run of an accepted program under a policy starts: a new pool, and what the image has
 abbrev pub start_areas : Acceptance → WorldPolicy → Areas
-start_areas accepted policy = record {
-  pool = start_pool policy.chunks (accepted.certificate.chunk / 4);
-  globals = accepted.image.globals;
-  tables = accepted.image.tables;
-}
+start_areas accepted policy =
+    new_areas policy.chunks accepted.certificate.chunk policy.extra policy.extra_bytes accepted.image.globals accepted.image.tables
 
 -- what a run of an accepted program under a policy starts with: the machine's start and the source's
 pub record IsStart (accepted : Acceptance) (policy : WorldPolicy) (fuel : ℕ) (held : Held) : Type 0 where

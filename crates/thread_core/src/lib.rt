@@ -14,6 +14,7 @@ mod parts;
 mod policy;
 mod records;
 mod running;
+mod standing;
 mod state;
 mod telling;
 mod turns;
@@ -21,5 +22,6 @@ mod world;
 
 pub use outside::Delivered;
 pub use policy::WorldPolicy;
+pub use standing::Standing;
 pub use turns::{Turn, WorldError};
 pub use world::World;

@@ -1,4 +1,4 @@
-ghost use Rattle.std.specs.Prelude.{◌≡◌, ◌≤◌, ◌*◌, IfOk, IfErr};
+ghost use Rattle.std.specs.Prelude.{◌≡◌, ◌≤◌, ◌+◌, ◌*◌, ◌%◌, IfOk, IfErr};
 ghost use Rattle.thread_core.specs.Making.{IsPolicy, IsStart, HandsBack};
 ghost use Rattle.thread_core.specs.FirstParts.{AreParts};
 
@@ -55,11 +55,22 @@ impl World {
 fn take_parts(alloc: Global, accepted: &Accepted, policy: WorldPolicy) -> Result<Parts, AllocError>
     requires some_chunks { 1 ≤ policy.chunks }
     requires chunks { policy.chunks ≤ 65536 }
-    requires pool { policy.chunks * accepted.now.certificate.chunk ≤ 67108864 }
+    requires extra { policy.extra ≤ 65536 }
+    requires extra_least { 32 ≤ policy.extra_bytes }
+    requires extra_most { policy.extra_bytes ≤ 65536 }
+    requires extra_whole { policy.extra_bytes % 16 ≡ 0 }
+    requires pool { policy.chunks * accepted.now.certificate.chunk + policy.extra * policy.extra_bytes ≤ 67108864 }
     ensures { IfOk result (AreParts accepted.now policy) }
 {
     sizes_law(accepted);
-    let pool = ChunkPool::new(alloc, policy.chunks, accepted.certificate().chunk)?;
+    let chunk = accepted.certificate().chunk;
+    let pool = ChunkPool::new(
+        alloc,
+        policy.chunks,
+        chunk,
+        policy.extra,
+        policy.extra_bytes,
+    )?;
     let areas = Areas::new(alloc, accepted.image(), pool)?;
     let exchange = Exchange::new(alloc, policy.backlog, policy.caps)?;
     let waits = Waits::new(alloc)?;
@@ -84,6 +95,7 @@ fn with_main(
     requires parts { AreParts accepted policy parts }
     ensures { IsStart accepted policy fuel result }
 {
+    let chunks = policy.chunks + policy.extra;
     let Parts {
         mut areas,
         exchange,
@@ -115,7 +127,7 @@ fn with_main(
     };
     World {
         accepted,
-        chunks: policy.chunks,
+        chunks,
         most: fuel,
         state,
     }

@@ -1,13 +1,15 @@
 // Parts of a call: the thread's record, its place, the clock.
-ghost use Rattle.std.specs.Prelude.{◌≡◌, ◌+◌, ◌-◌, ◌<◌, ◌≤◌, ◌^◌, None, Some, IsSome, IsTrue, IfSome, OnSome, length, slice_set};
+ghost use Rattle.std.specs.Prelude.{◌≡◌, ◌+◌, ◌-◌, ◌<◌, ◌≤◌, ◌^◌, ◌↔◌, false, None, Some, IsSome, IsTrue, IfSome, OnSome, length, slice_set};
 ghost use Rattle.c_lower.specs.ProgramCode.{lowered};
 ghost use Rattle.certificate_check.specs.Acceptance.{Acceptance};
 ghost use Rattle.certificate_check.specs.Accepting.{accepted_tree};
 ghost use Rattle.certificate_rules.specs.Validity.{IsValid};
+ghost use Rattle.chunk_pool.specs.Pool.{FitsNone};
 ghost use Rattle.machine_world.specs.Areas.{Areas};
 ghost use Rattle.segment_run.specs.Contexts.{checked_of, code_of, local_of};
 ghost use Rattle.segment_run.specs.Passing.{RestsBefore, RestsBehind};
 ghost use Rattle.slab.specs.Slab.{get, Updates, HasRoomFor};
+ghost use Rattle.stack_certificate.specs.Certificates.{fact_at};
 ghost use Rattle.thread_waits.specs.Waiting.{wait_at, latest};
 ghost use Rattle.machine_world.specs.Runs.{Pick, after_action};
 ghost use Rattle.world_source.specs.UnderWay.{IsSettled};
@@ -107,6 +109,15 @@ impl State {
         self.set_context(thread, context);
         self.tick(1);
         context
+    }
+
+    /// Whether a free chunk fits the bound of a function, so that a thread can start there.
+    pub(crate) fn has_chunk_for(&self, accepted: &Accepted, function: u32) -> bool
+        requires { function < length accepted.now.certificate.functions }
+        ensures { (result ≡ false) ↔ FitsNone self.now.areas.pool (fact_at accepted.now.certificate function).bound }
+    {
+        let fact = &accepted.certificate().functions.as_slice()[function as usize];
+        self.areas.pool().fits(fact.bound)
     }
 
     /// A place for one more record, for which memory is there.

@@ -124,7 +124,7 @@ impl State {
         }
     }
 
-    // Starts a thread: a place for it is reserved before anything changes.
+    // Starts a thread: a free chunk has to fit its function's bound, and a place for it is reserved before anything changes.
     fn spawn(
         &mut self,
         accepted: &Accepted,
@@ -143,7 +143,7 @@ impl State {
         if self.live >= MOST_THREADS {
             return self.cut(most, Stop::Threads);
         }
-        if self.areas.pool().free() == 0 {
+        if !self.has_chunk_for(accepted, function) {
             return self.cut(most, Stop::NoChunk);
         }
         let Some(slot) = self.free_place() else {

@@ -1,6 +1,7 @@
 ghost use Rattle.std.specs.Prelude.{◌≡◌, option_map};
 
 use crate::records::Record;
+use crate::standing::Standing;
 use crate::turns::Turn;
 use cap_word::{Block, ThreadId};
 use ready_tree::Need;
@@ -9,6 +10,12 @@ use slab::Slab;
 use std::alloc::Global;
 use thread_exchange::Exchange;
 use thread_waits::{Wait, Waits};
+
+const SP: usize = 2;
+
+const T0: usize = 5;
+
+const T1: usize = 6;
 
 /// What moves in a world.
 #[derive(Drop)]
@@ -27,6 +34,7 @@ pub struct State {
 }
 
 impl State {
+    ghost use Rattle.thread_core.specs.Standings.{standing_for};
     ghost use Rattle.thread_core.specs.Waiting.{waits_for_in, IsUntrapped};
     ghost use Rattle.thread_waits.specs.Needs.{need_for};
     ghost use Rattle.thread_waits.specs.Waiting.{is_ready_in, is_at_accept};
@@ -51,6 +59,22 @@ impl State {
             return None;
         }
         self.waits.need_at(thread.slot as usize)
+    }
+
+    /// Where a live thread stands.
+    pub(crate) fn standing(&self, thread: ThreadId) -> Option<Standing>
+        ensures { result ≡ standing_for self.now thread }
+    {
+        let record = self.records.get(thread.slot as usize)?;
+        if thread.number != record.number {
+            return None;
+        }
+        Some(Standing {
+            pc: record.context.pc,
+            sp: record.context.x[SP],
+            t0: record.context.x[T0],
+            t1: record.context.x[T1],
+        })
     }
 
     /// Whether a live thread is ready.

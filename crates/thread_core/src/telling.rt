@@ -2,8 +2,10 @@ ghost use Rattle.std.specs.Prelude.{◌≡◌, ℕ, ◌<◌, ◌≤◌, length};
 ghost use Rattle.chunk_pool.specs.Pool.{word_of, free_count, words_of};
 ghost use Rattle.thread_core.specs.Needs.{IsWaitingIn, Vouches};
 ghost use Rattle.thread_core.specs.Ready.{is_ready_in, is_at_accept_in, any_ready_in, any_elsewhere_in, IsWake};
+ghost use Rattle.thread_core.specs.Standings.{standing_in};
 ghost use Rattle.thread_core.specs.Worlds.{used_in, cap_in};
 
+use crate::standing::Standing;
 use crate::world::World;
 use cap_word::{Ready, ThreadId};
 use certificate_check::Accepted;
@@ -98,7 +100,7 @@ impl World {
         }
     }
 
-    /// The cap of a resource, 0 where it isn't given; of resource 0 it is the number of chunks.
+    /// The cap of a resource, 0 where it isn't given; of resource 0 it is the number of chunks of both sizes.
     pub fn cap(&self, resource: u32) -> u32
         requires { resource < 8 }
         ensures { result ≡ cap_in self.now resource }
@@ -124,11 +126,19 @@ impl World {
         &self.accepted
     }
 
-    /// How many words a chunk has.
-    pub fn chunk_words(&self) -> u32
-        ensures { (chunk : ℕ) → chunk < self.now.machine.areas.pool.count → result ≡ words_of self.now.machine.areas.pool chunk }
+    /// Where a thread stands, or `None` where it doesn't live: a thread that has ended stands nowhere.
+    pub fn standing(&self, thread: ThreadId) -> Option<Standing>
+        ensures { result ≡ standing_in self.now thread }
     {
-        self.accepted.certificate().chunk / 4
+        self.state.standing(thread)
+    }
+
+    /// How many words a chunk has.
+    pub fn chunk_words(&self, chunk: u32) -> u32
+        requires { chunk < self.now.machine.areas.pool.count }
+        ensures { result ≡ words_of self.now.machine.areas.pool chunk }
+    {
+        self.state.areas.pool().bytes_of(chunk) / 4
     }
 
     /// A word of a chunk.

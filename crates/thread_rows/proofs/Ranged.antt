@@ -22,11 +22,15 @@ module _ (chunks fuel backlog units : ℕ) (accepted : Acceptance) (given : IsGi
   policy_is = record {
     some_chunks = given.some_chunks;
     chunks = given.chunks_most;
+    extra = omega arith;
+    extra_least = omega arith;
+    extra_most = omega arith;
+    extra_whole = omega arith;
     some_backlog = given.some_backlog;
     backlog = given.backlog_most;
     caps = λ r some below. two_small 0 units 1000000 (omega arith) given.units_most r;
     most = given.fuel_most;
-    pool = given.pool;
+    pool = omega (arith, given.pool);
   }
 
   pub made_is : (held : Held) → IsStart accepted (policy_of chunks backlog units) fuel held → IsMade chunks fuel backlog units held

@@ -9,7 +9,7 @@ abbrev pub caps_of : ℕ → List ℕ
 caps_of units = 0 ∷ units ∷ 0 ∷ 0 ∷ 0 ∷ 0 ∷ 0 ∷ 0 ∷ []
 
 abbrev pub policy_of : ℕ → ℕ → ℕ → WorldPolicy
-policy_of chunks backlog units = record { chunks = chunks; backlog = backlog; caps = caps_of units }
+policy_of chunks backlog units = record { chunks = chunks; extra = 0; extra_bytes = 64; backlog = backlog; caps = caps_of units }
 
 -- so many chunks of so many bytes, instructions, places in each queue and units of the one resource may be given
 pub record IsGiven (chunk chunks fuel backlog units : ℕ) : Type 0 where

@@ -86,6 +86,8 @@ fn policy(setup: Setup) -> WorldPolicy
 {
     WorldPolicy {
         chunks: setup.chunks,
+        extra: 0,
+        extra_bytes: 64,
         backlog: setup.backlog,
         caps: [0, setup.cap, 0, 0, 0, 0, 0, 0],
     }

@@ -5,7 +5,7 @@
 // playing.rt does the steps of a row and compares what each answers, rows.rt and traps.rt are the tables; crowds.rt has as many
 // threads as may live, memory.rt the want of memory. run_sources.rt, logs.rt and run_rows.rt are the sources, logs and tables of
 // whole runs, which runs.rt runs; failing.rt has each read and each write fail in turn, and
-// places.rt a stop in a thread whose slot isn't its number. No crate stands on this one: it is apart
+// places.rt a stop in a thread whose slot isn't its number; standings.rt where threads stand. No crate stands on this one: it is apart
 // from the libraries so that they are proved once.
 #![tactic(auto)]
 
@@ -34,6 +34,8 @@ mod run_sources;
 mod runs;
 #[cfg(test)]
 mod sources;
+#[cfg(test)]
+mod standings;
 #[cfg(test)]
 mod traps;
 #[cfg(test)]

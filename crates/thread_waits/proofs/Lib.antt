@@ -5,7 +5,9 @@ pub mod KindLaws
 pub mod GrownLaws
 pub mod StartLaws
 pub mod WakeLaws
-pub mod MovingLaws
+pub mod TimeLaws
+pub mod PutLaws
+pub mod BlockLaws
 pub mod AdvanceLaws
 pub mod NoWakeLaws
 pub mod ReadyLaws

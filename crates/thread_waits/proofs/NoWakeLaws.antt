@@ -5,7 +5,7 @@ use Rattle.c_mean.specs.ModelledCalls.{ticks_of}
 use Rattle.thread_waits.specs.declared.waits.Wait.{Wait}
 use Rattle.thread_waits.specs.Waiting.{IsWaitInRangeIf, latest}
 use Rattle.thread_waits.specs.Counted.{no_number, later_wake, if_later}
-use Rattle.thread_waits.proofs.MovingLaws.{few_ticks, later_yes, later_no, past_or_later}
+use Rattle.thread_waits.proofs.TimeLaws.{few_ticks, later_yes, later_no, past_or_later}
 
 time_small : (clock time n : ℕ) → if_later clock (Some time) ≡ Some n → time < no_number → (clock < time) ⊎ (time ≤ clock) → n < no_number
 time_small clock time n e h (inl later) = let x : time ≡ n = (let y : Some time ≡ Some n = sym (later_yes clock time later) ∙ e in cc) in omega arith

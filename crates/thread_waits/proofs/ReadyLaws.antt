@@ -14,7 +14,7 @@ use Rattle.thread_waits.specs.Counted.{IsTreeOf, is_at_channel, amount_of, no_nu
 use Rattle.thread_waits.specs.Telling.{is_at_message, is_taker, is_taking, is_unused, HasPlace}
 use Rattle.thread_waits.proofs.AnyLaws.{any_from_count}
 use Rattle.thread_waits.proofs.GrownLaws.{one_if, holds_at}
-use Rattle.thread_waits.proofs.MovingLaws.{eq_same, le_yes, le_no}
+use Rattle.thread_waits.proofs.TimeLaws.{eq_same, le_yes, le_no}
 use Rattle.thread_waits.proofs.WakeLaws.{place_of, no_lesser}
 
 eq_true : (a b : ℕ) → nat_eq a b ≡ true → a ≡ b
@@ -112,7 +112,7 @@ taking caps x r amount None e h = absurd (cc)
 taking caps x r amount (Some Wait.Fresh) e h = absurd (cc)
 taking caps x r amount (Some (Wait.At block since)) e h = block_taking caps x r amount since block e h
 
-default_same : (places : List (Option Wait)) (k : ℕ) → k < length places → slice_index_or places k (slice_index_or places k None) ≡ slice_index_or places k None
+pub default_same : (places : List (Option Wait)) (k : ℕ) → k < length places → slice_index_or places k (slice_index_or places k None) ≡ slice_index_or places k None
 default_same places k h = get_or_any places k (slice_index_or places k None) None h
 
 -- where the least amount that waits for a resource is unused, somebody is ready

@@ -1,21 +1,25 @@
 -- Who sleeps has a time that is to come, and no message at his channel. The least time of all is the tree's where no message
 -- waits for anybody, or else is found place by place.
-use Rattle.std.proofs.Common.{◌≡◌, ◌≢◌, ℕ, zero, suc, ◌+◌, ◌<◌, ◌≤◌, ◌⊎◌, inl, inr, ◌||◌, Bool, true, false, cond, List, [], ◌∷◌, length, map, min, All, Contains, Option, Some, None, refl, sym, ◌∙◌, ap, subst, arith, below_more, nat_le, slice_index_or}
+use Rattle.std.proofs.Common.{◌≡◌, ◌≢◌, ℕ, zero, suc, ◌+◌, ◌<◌, ◌≤◌, ◌⊎◌, inl, inr, ◌||◌, Bool, true, false, cond, List, [], ◌∷◌, length, map, min, All, Contains, Option, Some, None, refl, sym, ◌∙◌, ap, subst, arith, below_more, count_by, nat_le, slice_index_or}
 use Rattle.std.specs.Prelude.{if◌then◌else◌}
 use Rattle.std.specs.List.{list_any}
 use Rattle.std.proofs.lemmas.List.{get_or-map, length-map}
-use Rattle.std.proofs.lemmas.List.Elements.{All-get_or, All-from_get_or}
+use Rattle.std.proofs.lemmas.List.Elements.{All-from_get_or}
+use Rattle.std.proofs.lemmas.List.Folds.{list_any_none, list_any-from_Any}
 use Rattle.cap_word.specs.declared.calls.Block.{Block}
 use Rattle.c_mean.specs.ModelledCalls.{Exchange, cap_of, channel_of, holds_some, ticks_of, use_of}
 use Rattle.thread_waits.specs.declared.waits.Wait.{Wait}
 use Rattle.thread_waits.specs.Least.{IsLeast}
-use Rattle.thread_waits.specs.Waiting.{Waiting, IsWaitInRangeIf, IsWake, sleeps_in}
-use Rattle.thread_waits.specs.Counted.{IsTreeOf, later_wake, if_later, no_number, number_or}
+use Rattle.thread_waits.specs.Waiting.{Waiting, IsWaitInRangeIf, IsWake, latest, sleeps_in}
+use Rattle.thread_waits.specs.Counted.{IsTreeOf, is_ready_always, is_ready_anyway, later_wake, if_later, no_number, number_or, wake_of}
 use Rattle.thread_waits.specs.Telling.{is_at_message, silent_wake, HasPlace, IsLeastOfFirst, IsLeastNumber}
-use Rattle.thread_waits.proofs.GrownLaws.{past_or_not, holds_at}
-use Rattle.thread_waits.proofs.MovingLaws.{le_yes, le_no, later_yes, later_no, past_or_later, none_or_some}
+use Rattle.thread_waits.proofs.AnyLaws.{none_from_count}
+use Rattle.thread_waits.proofs.BlockLaws.{lesser_is, number_is, past_or_not}
+use Rattle.thread_waits.proofs.GrownLaws.{holds_at}
+use Rattle.thread_waits.proofs.TimeLaws.{le_yes, le_no, later_yes, later_no, later_same, past_or_later, past_ready, none_or_some, unready}
 use Rattle.thread_waits.proofs.NoWakeLaws.{wake_small, none_by}
-use Rattle.thread_waits.proofs.WakeLaws.{number_is, place_of}
+use Rattle.thread_waits.proofs.ReadyLaws.{default_same}
+use Rattle.thread_waits.proofs.WakeLaws.{no_lower, place_of}
 
 -- ---- one who waits
 
@@ -66,20 +70,22 @@ none_passes p [] e k h = absurd (omega arith)
 none_passes p (wait ∷ places) e zero h = (or_both (p wait) (list_any p places) e).0
 none_passes p (wait ∷ places) e (suc k) h = none_passes p places (or_both (p wait) (list_any p places) e).1 k (omega arith)
 
--- where no message waits for anybody
-module _ (x : Exchange) (clock : ℕ) (places : List (Option Wait)) (leaves : List ℕ) (least : ℕ) (quiet : list_any (is_at_message x) places ≡ false) (ranges : All IsWaitInRangeIf places) (t : IsTreeOf (later_wake clock) places leaves) (l : IsLeast leaves least) where
-  same_at : (k : ℕ) → k < length places → silent_wake x clock (slice_index_or places k None) ≡ later_wake clock (slice_index_or places k None)
-  same_at k h = silent x clock (slice_index_or places k None) (none_passes (is_at_message x) places quiet k h)
+-- where no message waits for anybody and nobody's time has come
+module _ (x : Exchange) (clock : ℕ) (places : List (Option Wait)) (leaves : List ℕ) (least : ℕ) (quiet : list_any (is_at_message x) places ≡ false) (ranges : All IsWaitInRangeIf places) (t : IsTreeOf wake_of places leaves) (l : IsLeast leaves least) (later : clock < least) where
+  low_of : (k : ℕ) → k < length places → least ≤ number_or (wake_of (slice_index_or places k None))
+  low_of k h = no_lower wake_of refl places leaves t least l k h
+
+  same_at : (k : ℕ) → k < length places → silent_wake x clock (slice_index_or places k None) ≡ wake_of (slice_index_or places k None)
+  same_at k h =
+      let low : least ≤ number_or (wake_of (slice_index_or places k None)) = low_of k h in
+      silent x clock (slice_index_or places k None) (none_passes (is_at_message x) places quiet k h) ∙ later_same clock (wake_of (slice_index_or places k None)) (omega arith)
 
   low_at : (k : ℕ) → k < length places → least ≤ number_or (silent_wake x clock (slice_index_or places k None))
-  low_at k h =
-      let fit : length places ≤ length leaves = t.places_fit in
-      let leaf : slice_index_or leaves k no_number ≡ number_or (silent_wake x clock (slice_index_or places k None)) = t.leaf k ∙ ap number_or (sym (same_at k h)) in
-      subst (λ (n : ℕ). least ≤ n) leaf (All-get_or (λ number. least ≤ number) leaves k no_number (omega arith) l.lowest)
+  low_at k h = subst (λ (n : ℕ). least ≤ n) (ap number_or (sym (same_at k h))) (low_of k h)
 
   stands_at : least ≢ no_number → HasPlace (silent_wake x clock) places least
   stands_at d =
-      let p : HasPlace (later_wake clock) places least = place_of (later_wake clock) refl places leaves t least l d in
+      let p : HasPlace wake_of places least = place_of wake_of refl places leaves t least l d in
       record { place = p.place; there = p.there; number = same_at p.place p.there ∙ p.number }
 
   pub tree_least : IsLeastNumber (silent_wake x clock) places least
@@ -89,14 +95,29 @@ module _ (x : Exchange) (clock : ℕ) (places : List (Option Wait)) (leaves : Li
     stands = stands_at;
   }
 
+-- ---- who is ready by the clock
+
+-- where nobody is ready always, somebody is by the clock exactly where the least time has come
+module _ (clock : ℕ) (possible : clock ≤ latest) (places : List (Option Wait)) (leaves : List ℕ) (least : ℕ) (none : count_by is_ready_always places ≡ 0) (t : IsTreeOf wake_of places leaves) (l : IsLeast leaves least) where
+  past_by_least : (clock < least) ⊎ (least ≤ clock) → nat_le least clock ≡ list_any (is_ready_anyway clock) places
+  past_by_least (inl h) =
+      le_no least clock h
+      ∙ sym (list_any_none (is_ready_anyway clock) places (All-from_get_or (λ wait. is_ready_anyway clock wait ≡ false) places None (λ k there.
+      let low : least ≤ number_or (wake_of (slice_index_or places k None)) = no_lower wake_of refl places leaves t least l k there in
+      unready clock (slice_index_or places k None) (none_passes is_ready_always places (none_from_count is_ready_always places none) k there) (omega arith))))
+  past_by_least (inr h) =
+      let p : HasPlace wake_of places least = place_of wake_of refl places leaves t least l (λ e. absurd (omega arith)) in
+      le_yes least clock h
+      ∙ sym (list_any-from_Any (is_ready_anyway clock) places
+      (p.place, slice_index_or places p.place None, p.there, default_same places p.place p.there, past_ready clock least (slice_index_or places p.place None) p.number h))
+
+  pub past_least : nat_le least clock ≡ list_any (is_ready_anyway clock) places
+  past_least = past_by_least (past_or_later clock least)
+
 -- ---- the least place by place
 
 pub none_first : (f : Option Wait → Option ℕ) (places : List (Option Wait)) → IsLeastOfFirst f places 0 no_number
 none_first f places = record { numbers = λ k h n e. absurd (omega (arith, h)); lowest = λ k h. absurd (omega (arith, h)); stands = λ d. absurd (d refl) }
-
-lesser_is : (a b : ℕ) → (b < a) ⊎ (a ≤ b) → (min a b ≡ a) ⊎ (min a b ≡ b)
-lesser_is a b (inl h) = inr (omega arith)
-lesser_is a b (inr h) = inl (omega arith)
 
 module _ (f : Option Wait → Option ℕ) (places : List (Option Wait)) (count least number : ℕ) (there : count < length places) (so : IsLeastOfFirst f places count least)
     (small : (n : ℕ) → f (slice_index_or places count None) ≡ Some n → n < no_number) (is : number ≡ number_or (f (slice_index_or places count None))) where

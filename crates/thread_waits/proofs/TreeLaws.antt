@@ -1,5 +1,5 @@
 -- The root of a tree of minima is the least leaf, and a changed node concerns the one above it alone.
-use Rattle.std.proofs.Common.{◌≡◌, ◌≢◌, ℕ, zero, suc, ◌+◌, ◌-◌, ◌*◌, ◌/◌, ◌<◌, ◌≤◌, ◌⊎◌, inl, inr, List, length, min, All, Contains, refl, ◌∙◌, subst, ap, arith, slice_index, slice_set}
+use Rattle.std.proofs.Common.{◌≡◌, ◌≢◌, ℕ, zero, suc, ◌+◌, ◌-◌, ◌*◌, ◌/◌, ◌<◌, ◌≤◌, ◌⊎◌, inl, inr, List, length, min, Contains, refl, ◌∙◌, subst, ap, arith, slice_index, slice_set}
 use Rattle.std.proofs.Math.Arith.{bin_ind}
 use Rattle.std.proofs.lemmas.List.{get_or-set_same, get_or-set_other, get_or-drop, length-drop, length-set}
 use Rattle.std.proofs.lemmas.List.Elements.{All-from_get_or, Contains-get_or}
@@ -122,16 +122,3 @@ leaf_set nodes leaf value a behind there = record {
       rw (get_or-set_other nodes leaf i value 0 (λ e. absurd (omega arith)), get_or-set_other nodes leaf (2 * i) value 0 (λ e. other (omega arith)), get_or-set_other nodes leaf (2 * i + 1) value 0 (λ e. other (omega arith)))
       (a.node i some below_half);
 }
-
--- ---- leaves by their places
-
--- the number of a leaf, by its place among the leaves
-pub leaf_number : (nodes : List ℕ) (leaf : ℕ) → length nodes / 2 ≤ leaf → slice_index (leaves_in nodes) (leaf - length nodes / 2) ≡ slice_index nodes leaf
-leaf_number nodes leaf behind =
-    let place : length nodes / 2 + (leaf - length nodes / 2) ≡ leaf = omega arith in
-    get_or-drop (length nodes / 2) nodes (leaf - length nodes / 2) 0 ∙ ap (λ k. slice_index nodes k) place
-
--- a leaf with the root's number has the least
-pub lowest_leaf : (nodes : List ℕ) (leaf : ℕ) → AreMinima nodes → length nodes / 2 ≤ leaf → slice_index nodes leaf ≡ slice_index nodes 1 →
-    All (λ number. slice_index (leaves_in nodes) (leaf - length nodes / 2) ≤ number) (leaves_in nodes)
-lowest_leaf nodes leaf a behind e = rw (leaf_number nodes leaf behind, e) ((root_least nodes a).lowest)

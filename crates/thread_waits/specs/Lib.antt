@@ -3,6 +3,5 @@ pub mod Minima
 pub mod Trees
 pub mod Waiting
 pub mod Counted
-pub mod Moving
 pub mod Needs
 pub mod Telling

@@ -1,7 +1,7 @@
 // What of a wait is counted, and where.
-ghost use Rattle.std.specs.Prelude.{◌≡◌, ℕ, ◌<◌, ◌≤◌, cond, IfSome, Some};
+ghost use Rattle.std.specs.Prelude.{◌≡◌, ℕ, ◌<◌, ◌≤◌, cond, if◌then◌else◌, IfSome, None, Option, Some};
 ghost use Rattle.thread_waits.specs.Waiting.{is_at_accept, IsWaitInRangeIf};
-ghost use Rattle.thread_waits.specs.Counted.{is_ready_anyway, is_at_channel, amount_of, later_wake, if_later, number_or, is_at, amount_at};
+ghost use Rattle.thread_waits.specs.Counted.{amount_of, if_later, is_at, is_at_channel, is_ready_always, number_or, wake_of};
 ghost use Rattle.thread_waits.specs.Telling.{is_at_message, silent_wake};
 
 use crate::min_tree::MinTree;
@@ -9,20 +9,20 @@ use crate::waits::Wait;
 use cap_word::Block;
 use thread_exchange::{Exchange, ticks_of};
 
-/// 1 where who waits so is ready whatever the queues and uses are, or else 0.
-pub(crate) fn ready_anyway(clock: u64, wait: Option<Wait>) -> usize
-    requires { IsWaitInRangeIf wait }
-    ensures { result ≡ cond (is_ready_anyway clock wait) 1 0 }
+/// 1 where who waits so is ready whatever the queues, the uses and the clock are, or else 0.
+pub(crate) fn ready_always(wait: Option<Wait>) -> usize
+    ensures { result ≡ cond (is_ready_always wait) 1 0 }
 {
     match wait {
         None => 0,
         Some(Wait::Fresh) => 1,
-        Some(Wait::At { block, since }) => match block {
-            Block::Accept | Block::Wait { .. } | Block::Take { .. } => 0,
+        Some(Wait::At { block, .. }) => match block {
             Block::Yield => 1,
-            Block::Sleep { ticks } | Block::WaitFor { ticks, .. } => {
-                usize::from(since + ticks_of(ticks) <= clock)
-            }
+            Block::Accept
+            | Block::Wait { .. }
+            | Block::Sleep { .. }
+            | Block::Take { .. }
+            | Block::WaitFor { .. } => 0,
         },
     }
 }
@@ -59,38 +59,47 @@ pub(crate) fn channel_of(wait: Option<Wait>) -> Option<usize>
     }
 }
 
-/// The resource for which who waits so waits, and the amount.
-pub(crate) fn taken_by(wait: Option<Wait>) -> Option<(usize, u64)>
-    requires { IsWaitInRangeIf wait }
-    ensures is { (r : ℕ) → amount_of r wait ≡ amount_at result r }
-    ensures below { IfSome result (λ taken. taken.0 < 8) }
+/// The amount of a resource for which who waits so waits, or else no number.
+pub(crate) fn amount_number(resource: usize, wait: Option<Wait>) -> u64
+    ensures { result ≡ number_or (amount_of resource wait) }
 {
     match wait {
-        None | Some(Wait::Fresh) => None,
+        None | Some(Wait::Fresh) => MinTree::NONE,
         Some(Wait::At { block, .. }) => match block {
-            Block::Take { resource, amount } => Some((resource as usize, amount as u64)),
+            Block::Take {
+                resource: other,
+                amount,
+            } => amount_if(other as usize == resource, amount),
             Block::Accept
             | Block::Wait { .. }
             | Block::Sleep { .. }
             | Block::Yield
-            | Block::WaitFor { .. } => None,
+            | Block::WaitFor { .. } => MinTree::NONE,
         },
     }
 }
 
-/// The time after which who waits so is ready whatever happens, where that is still to come, or else no
-/// number.
-pub(crate) fn wake_number(clock: u64, wait: Option<Wait>) -> u64
+// The amount, where it is of the resource, or else no number.
+fn amount_if(is_of: bool, amount: u32) -> u64
+    ensures { result ≡ number_or (if is_of then Some amount else None) }
+{
+    if is_of {
+        u64::from(amount)
+    } else {
+        MinTree::NONE
+    }
+}
+
+/// The time from which on who waits so is ready whatever happens, or else no number.
+pub(crate) fn wake_number(wait: Option<Wait>) -> u64
     requires { IsWaitInRangeIf wait }
-    ensures { result ≡ number_or (later_wake clock wait) }
+    ensures { result ≡ number_or (wake_of wait) }
 {
     match wait {
         None | Some(Wait::Fresh) => MinTree::NONE,
         Some(Wait::At { block, since }) => match block {
             Block::Accept | Block::Wait { .. } | Block::Yield | Block::Take { .. } => MinTree::NONE,
-            Block::Sleep { ticks } | Block::WaitFor { ticks, .. } => {
-                later(clock, since + ticks_of(ticks))
-            }
+            Block::Sleep { ticks } | Block::WaitFor { ticks, .. } => since + ticks_of(ticks),
         },
     }
 }
@@ -103,7 +112,7 @@ pub(crate) fn sleep_number(exchange: &Exchange, clock: u64, wait: Option<Wait>) 
     if is_at_message(exchange, wait) {
         MinTree::NONE
     } else {
-        wake_number(clock, wait)
+        later(clock, wake_number(wait))
     }
 }
 
@@ -125,7 +134,7 @@ fn is_at_message(exchange: &Exchange, wait: Option<Wait>) -> bool
 
 // A time that is still to come, or else no number.
 fn later(clock: u64, time: u64) -> u64
-    ensures { result ≡ number_or (if_later clock (Some time)) }
+    ensures { (o : Option ℕ) → time ≡ number_or o → result ≡ number_or (if_later clock o) }
 {
     if clock < time { time } else { MinTree::NONE }
 }

@@ -1,4 +1,4 @@
-ghost use Rattle.std.specs.Prelude.{◌≡◌, ◌+◌, ◌/◌, ◌-◌, ◌*◌, ◌<◌, ◌≤◌, ◌^◌, List, ◌++◌, length, replicate, All, slice_set, slice_index, IfOk, OnOk, OnErr};
+ghost use Rattle.std.specs.Prelude.{◌≡◌, ◌+◌, ◌/◌, ◌-◌, ◌*◌, ◌<◌, ◌≤◌, ◌^◌, List, ◌++◌, length, replicate, slice_set, slice_index, IfOk, OnOk, OnErr};
 ghost use Rattle.thread_waits.specs.Least.{IsLeast};
 ghost use Rattle.thread_waits.specs.Minima.{AreMinima, AreMinimaBut, leaves_in};
 
@@ -73,15 +73,6 @@ impl MinTree {
         nodes[1]
     }
 
-    /// A place of the least number.
-    pub fn place_of_least(&self) -> usize
-        ensures there { result < length self.now }
-        ensures lowest { All (λ number. slice_index self.now result ≤ number) self.now }
-    {
-        let nodes = self.nodes.as_slice();
-        leaf_of_least(nodes) - nodes.len() / 2
-    }
-
     /// Makes so many places of it, the new ones without numbers.
     pub fn grow(&mut self, alloc: Global, count: usize) -> Result<(), AllocError>
         requires more { length self.old ≤ count }
@@ -112,22 +103,4 @@ fn renew_above(nodes: &mut [u64], changed: usize)
         node /= 2;
         nodes[node] = nodes[2 * node].min(nodes[2 * node + 1]);
     }
-}
-
-// A leaf with the number of the root.
-fn leaf_of_least(nodes: &[u64]) -> usize
-    requires { AreMinima nodes.now }
-    ensures behind { length nodes.now / 2 ≤ result }
-    ensures there { result < length nodes.now }
-    ensures number { slice_index nodes.now result ≡ slice_index nodes.now 1 }
-{
-    let mut node = 1;
-    while node < nodes.len() / 2 {
-        node = if nodes[2 * node] == nodes[node] {
-            2 * node
-        } else {
-            2 * node + 1
-        };
-    }
-    node
 }

@@ -1,5 +1,6 @@
 ghost use Rattle.std.specs.Prelude.{◌≡◌};
 ghost use Rattle.std.specs.List.{list_any};
+ghost use Rattle.thread_waits.specs.Counted.{is_ready_anyway};
 ghost use Rattle.thread_waits.specs.Telling.{is_at_message, is_taking, silent_wake, IsLeastNumber};
 ghost use Rattle.thread_waits.specs.Waiting.{any_ready_in, any_elsewhere_in, IsWake};
 
@@ -26,7 +27,7 @@ impl Waits {
     pub fn any_elsewhere(&self, exchange: &Exchange) -> bool
         ensures { result ≡ any_elsewhere_in exchange.now.caps exchange.now.exchange self.now }
     {
-        if self.ready_anyway > 0 {
+        if self.any_anyway() {
             return true;
         }
         if self.any_at_channel(exchange) {
@@ -35,8 +36,8 @@ impl Waits {
         self.any_at_resource(exchange)
     }
 
-    /// The least time until which somebody sleeps, or None where nobody sleeps. Who is ready doesn't sleep. Where no message
-    /// waits for anybody it takes a few steps, or else as many as there are places.
+    /// The least time until which somebody sleeps, or None where nobody sleeps. Who is ready doesn't sleep. Where nobody is ready
+    /// by a message or a time it takes a few steps, or else as many as there are places.
     pub fn wake(&self, exchange: &Exchange) -> Option<u64>
         ensures { IsWake exchange.now.caps exchange.now.exchange self.now result }
     {
@@ -52,15 +53,17 @@ impl Waits {
     fn least_time(&self, exchange: &Exchange) -> u64
         ensures { IsLeastNumber (silent_wake exchange.now.exchange self.now.clock) self.now.places result }
     {
-        let messages = self.any_at_channel(exchange);
-        if messages {
-            self.least_asleep(exchange)
-        } else {
-            self.sleepers.least()
+        if self.any_at_channel(exchange) {
+            return self.least_asleep(exchange);
         }
+        let least = self.sleepers.least();
+        if least <= self.clock {
+            return self.least_asleep(exchange);
+        }
+        least
     }
 
-    // The same, looked for at each place: some whose times are in the tree are ready by a message.
+    // The same, looked for at each place: some whose times are in the tree are ready.
     fn least_asleep(&self, exchange: &Exchange) -> u64
         ensures { IsLeastNumber (silent_wake exchange.now.exchange self.now.clock) self.now.places result }
     {
@@ -70,6 +73,16 @@ impl Waits {
             least = least.min(sleep_number(exchange, self.clock, wait));
         }
         least
+    }
+
+    // Whether somebody is ready whatever the queues and uses are.
+    fn any_anyway(&self) -> bool
+        ensures { result ≡ list_any (is_ready_anyway self.now.clock) self.now.places }
+    {
+        if self.ready_always > 0 {
+            return true;
+        }
+        self.sleepers.least() <= self.clock
     }
 
     // Whether a message waits in a channel at which somebody waits.

@@ -1,11 +1,11 @@
 ghost use Rattle.std.specs.Prelude.{◌≡◌, ℕ, ◌<◌, ◌≤◌, ◌^◌, ◌∷◌, [], length, Some, None, IsSome, IfOk, OnOk, OnErr, slice_set};
 ghost use Rattle.thread_waits.specs.Waiting.{wait_at, IsWaitInRange, IsWaitInRangeIf, latest};
 
-use crate::kinds::{at_accept, channel_of, ready_anyway, taken_by, wake_number};
+use crate::blocks::{BLOCK, renew_sleepers, renew_takers};
+use crate::kinds::{at_accept, channel_of, ready_always};
 use crate::min_tree::MinTree;
 use crate::parts::{
-    clear_amount, count_in, count_out, enter_amount, grow_places, grow_tree, grow_trees, one_place,
-    one_place_each,
+    count_in, count_out, grow_places, grow_tree, grow_trees, one_block_each, one_place,
 };
 use cap_word::Block;
 use std::alloc::{AllocError, Global};
@@ -25,7 +25,7 @@ pub enum Wait {
 pub struct Waits {
     pub(crate) places: Vec<Option<Wait>>,
     pub(crate) clock: u64,
-    pub(crate) ready_anyway: usize,
+    pub(crate) ready_always: usize,
     pub(crate) at_accept: usize,
     pub(crate) at_channels: [usize; 64],
     pub(crate) sleepers: MinTree,
@@ -51,11 +51,11 @@ impl Waits {
     {
         let places = one_place(alloc)?;
         let sleepers = MinTree::new(alloc, 1)?;
-        let takers = one_place_each(alloc)?;
+        let takers = one_block_each(alloc)?;
         Ok(Waits {
             places,
             clock: 0,
-            ready_anyway: 0,
+            ready_always: 0,
             at_accept: 0,
             at_channels: [0; 64],
             sleepers,
@@ -75,8 +75,9 @@ impl Waits {
             return Ok(());
         }
         let count = place + 1 + place / 2;
-        grow_tree(&mut self.sleepers, alloc, count)?;
-        grow_trees(&mut self.takers, alloc, count)?;
+        let blocks = count / BLOCK + 1;
+        grow_tree(&mut self.sleepers, alloc, blocks)?;
+        grow_trees(&mut self.takers, alloc, blocks)?;
         grow_places(&mut self.places, count)?;
         Ok(())
     }
@@ -119,11 +120,6 @@ impl Waits {
         requires possible { to ≤ latest }
         ensures { self.new ≡ record self.old { clock = to } }
     {
-        while self.sleepers.least() <= to {
-            let place = self.sleepers.place_of_least();
-            self.sleepers.set(place, MinTree::NONE);
-            self.ready_anyway += 1;
-        }
         self.clock = to;
     }
 
@@ -134,15 +130,12 @@ impl Waits {
         ensures { self.new ≡ record self.old { places = slice_set self.old.places place next } }
     {
         let now = self.places[place];
-        let clock = self.clock;
-        self.ready_anyway = self.ready_anyway + ready_anyway(clock, next)
-            - ready_anyway(clock, now);
+        self.ready_always = self.ready_always + ready_always(next) - ready_always(now);
         self.at_accept = self.at_accept + at_accept(next) - at_accept(now);
         count_out(&mut self.at_channels, channel_of(now));
         count_in(&mut self.at_channels, channel_of(next));
-        self.sleepers.set(place, wake_number(clock, next));
-        clear_amount(&mut self.takers, place, taken_by(now));
-        enter_amount(&mut self.takers, place, taken_by(next));
+        renew_sleepers(&mut self.sleepers, &self.places, place, next);
+        renew_takers(&mut self.takers, &self.places, place, next);
         self.places[place] = next;
     }
 }

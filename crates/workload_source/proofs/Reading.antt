@@ -2,7 +2,7 @@
 use Rattle.std.proofs.Common.{ℕ, ◌≡◌, ◌≤◌, ap, ◌∙◌}
 use Rattle.c_tree.specs.Trees.{ProgramTree}
 use Rattle.c_scope.specs.SourceText.{ReadsAs}
-use Rattle.c_scope.proofs.SourceTexts.{one_program}
+use Rattle.c_scope.proofs.EveryWhole.{one_program}
 use Rattle.scope_rules.specs.Items.{definitions, program_of}
 use Rattle.workload_source.specs.Programs.{program_text}
 use Rattle.workload_source.proofs.Lexed.{program_tokens, program_lexed}

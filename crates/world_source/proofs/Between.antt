@@ -113,7 +113,7 @@ starts_on program image certificate w areas (Some taken) scoped valid same_globa
     let signed = (let main = scoped.main_defined in params_at program program.main (omega (arith, main, length-map program.functions Rattle.c_tree.specs.WellScoped.signature_of))) in
     let params : length {A = ℕ} [] ≡ (function_at program program.main).params = sym (sym signed ∙ scoped.main_params) in
     let globals = subst (AreGlobals (lowered program) (start_globals program)) (sym same_globals) (globals_start program image certificate valid) in
-    let new = new_stands program image certificate scoped valid areas taken (fact_at certificate program.main).bound program.main 0 [] (start_globals program) formed found there (omega arith) params (λ k lt. absurd (omega (arith, lt))) globals in
+    let new = new_stands program image certificate scoped valid areas taken (fact_at certificate program.main).bound program.main 0 [] (start_globals program) formed found (omega arith) there (omega arith) params (λ k lt. absurd (omega (arith, lt))) globals in
     let thread : Thread = record { number = 0; core = start_core taken (fact_at certificate program.main).entry 0; blocked = None } in
     subst (λ (v : World). StandsSettled c program v (source.start_world program)) same (record {
       stands = record {

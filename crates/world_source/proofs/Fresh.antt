@@ -1,8 +1,8 @@
 -- A new thread on a chunk that was free: it rests at its start for the source thread, and the others keep their chunks.
-use Rattle.std.proofs.Common.{◌≡◌, ◌≢◌, ℕ, ◌+◌, ◌^◌, ◌<◌, nat_eq, ltb, List, [], ◌∷◌, length, Some, refl, sym, ap, subst, ◌∙◌, arith, cond}
+use Rattle.std.proofs.Common.{◌≡◌, ◌≢◌, ℕ, ◌+◌, ◌^◌, ◌<◌, ◌≤◌, nat_eq, ltb, List, [], ◌∷◌, length, Some, refl, sym, ap, subst, ◌∙◌, arith, cond}
 use Rattle.std.specs.Prelude.{slice_index}
 use Rattle.std.proofs.lemmas.Bool.{cond-true, eq-eqb}
-use Rattle.std.proofs.lemmas.List.{get_or-map, get_or-set_other}
+use Rattle.std.proofs.lemmas.List.{get_or-set_other}
 use Rattle.std.proofs.lemmas.List.Sums.{sum_by-cons}
 use Rattle.c_lower.specs.ProgramCode.{lowered_function, lowered}
 use Rattle.c_mean.specs.Frames.{function_at, pushed}
@@ -116,13 +116,13 @@ module _ (program : ProgramTree) (image : Image) (certificate : Certificate) (sc
       let at = in_place.pc in
       absurd (omega (arith, at, pc, entries))
 
-  pub new_stands : (areas : Areas) (taken : Taken) (need g argument : ℕ) (arguments : List ℕ) (globals : List (List ℕ)) → AreWellFormed checked areas → taken_for areas.pool need ≡ Some taken → g < length (lowered program).functions → argument < 2 ^ 32 →
+  pub new_stands : (areas : Areas) (taken : Taken) (need g argument : ℕ) (arguments : List ℕ) (globals : List (List ℕ)) → AreWellFormed checked areas → taken_for areas.pool need ≡ Some taken → (fact_at certificate g).bound ≤ need → g < length (lowered program).functions → argument < 2 ^ 32 →
       length arguments ≡ (function_at program g).params → ((k : ℕ) → k < length arguments → slice_index arguments k ≡ read (new_thread checked areas taken g argument).core.x (a0 + k)) → AreGlobals (lowered program) globals areas.globals
       → StartsAt (new_thread checked areas taken g argument).areas.pool (new_thread checked areas taken g argument).core g arguments
-  new_stands areas taken need g argument arguments globals form e there small count registers globals_are =
+  new_stands areas taken need g argument arguments globals form e enough there small count registers globals_are =
       let code = lowered program in
       let well = formed program image certificate scoped valid in
       let program_there : g < length program.functions = omega (arith, there, Rattle.std.proofs.lemmas.List.length-map program.functions lowered_function) in
       let params : (codes.function_at code g).params ≡ (function_at program g).params = ap (λ (h : FlatFunction). h.params) (function_is program scoped g program_there) in
-      let new = starting.starts checked image.code areas taken need g argument arguments globals (CallFacts-valid code image certificate well valid) (NeedsFit-valid code image certificate well valid) form e there small (count ∙ sym params) registers globals_are in
+      let new = starting.starts checked image.code areas taken need g argument arguments globals (CallFacts-valid code image certificate well valid) (NeedsFit-valid code image certificate well valid) form e enough there small (count ∙ sym params) registers globals_are in
       starts_at (new_thread checked areas taken g argument).areas.pool (new_thread checked areas taken g argument).core g arguments new.stands.rests there refl count new.stands.stands

@@ -30,7 +30,7 @@ found_from from next n (u ∷ us) t rise found = ⊎_elim
     (cases_eq u.number n)
 
 -- what holds of each thread that is found by its number holds of all
-each_live : (P : Thread → Type 0) (from next : ℕ) (threads : List Thread) → RiseBetween from next threads → ((n : ℕ) (t : Thread) → first_with n threads ≡ Some t → P t) → AllByRecursion P threads
+pub each_live : (P : Thread → Type 0) (from next : ℕ) (threads : List Thread) → RiseBetween from next threads → ((n : ℕ) (t : Thread) → first_with n threads ≡ Some t → P t) → AllByRecursion P threads
 each_live P from next [] rise each = tt
 each_live P from next (t ∷ ts) rise each = (
   each t.number t (cond-true (nat_eq t.number t.number) (Some t) (first_with t.number ts) (eq-eqb t.number t.number refl)),

@@ -1,5 +1,5 @@
 -- A step of a segment that starts a thread, beside the source's run.
-use Rattle.std.proofs.Common.{◌≡◌, ◌≢◌, ℕ, zero, suc, ◌+◌, ◌^◌, ◌<◌, List, [], ◌∷◌, ◌++◌, length, map, Option, Some, None, refl, sym, ap, subst, ◌∙◌, arith, length-append, ⊎_elim}
+use Rattle.std.proofs.Common.{◌≡◌, ◌≢◌, ℕ, zero, suc, ◌+◌, ◌^◌, ◌<◌, ◌≤◌, List, [], ◌∷◌, ◌++◌, length, map, Option, Some, None, refl, sym, ap, subst, ◌∙◌, arith, length-append, ⊎_elim}
 use Rattle.std.specs.Prelude.{slice_get, slice_index, nat_le}
 use Rattle.std.proofs.lemmas.Bool.{cases_eq, cond_both}
 use Rattle.cap_word.specs.Calls.{spawn_of}
@@ -112,8 +112,8 @@ module _ (program : ProgramTree) (image : Image) (certificate : Certificate) (sc
     given zero argument taken lt = refl
     given (suc k) argument taken lt = absurd (omega arith)
 
-    under_now : (taken : Taken) (need argument : ℕ) → taken_for w.areas.pool need ≡ Some taken → IsWellFormed checked s (world_now taken g argument) → IsUnderWay checked program s (world_now taken g argument) (segment_now waiting globals g argument)
-    under_now taken need argument e formed_now =
+    under_now : (taken : Taken) (need argument : ℕ) → taken_for w.areas.pool need ≡ Some taken → (fact_at certificate g).bound ≤ need → IsWellFormed checked s (world_now taken g argument) → IsUnderWay checked program s (world_now taken g argument) (segment_now waiting globals g argument)
+    under_now taken need argument e enough formed_now =
         let u = r.under_way in
         let pool_now = with_header taken.pool taken.chunk 0 0 in
         let core_now = passed thread.core (Some w.next) in
@@ -126,7 +126,7 @@ module _ (program : ProgramTree) (image : Image) (certificate : Certificate) (sc
         let stands_now : StandsForThread checked program l_now (Waits waiting) globals = record { rests = on.rests; stands = on.stands program (Waits waiting) p.stands; globals_are = globals_are } in
         let new_form = has_form checked s (world_now taken g argument) w.next (fresh taken g argument) formed_now (found_fresh taken g argument) in
         let small : argument < 2 ^ 32 = new_form.core.registers 10 0 (omega arith) in
-        let new = new_stands program image certificate scoped valid w.areas taken need g argument (argument ∷ []) globals formed_w.areas e there_g small (sym params_g) (λ k lt. given k argument taken lt) globals_are in
+        let new = new_stands program image certificate scoped valid w.areas taken need g argument (argument ∷ []) globals formed_w.areas e enough there_g small (sym params_g) (λ k lt. given k argument taken lt) globals_are in
         let threads = segment.world.threads ++ source.Fresh g (argument ∷ []) ∷ [] in
         let more : length threads ≡ length segment.world.threads + 1 = length-append segment.world.threads (source.Fresh g (argument ∷ []) ∷ []) in
         record {
@@ -161,17 +161,17 @@ module _ (program : ProgramTree) (image : Image) (certificate : Certificate) (sc
           next = (let next = u.next in omega (arith, next, more));
         }
 
-    spawned_by : (need argument : ℕ) (found : Option Taken) → taken_for w.areas.pool need ≡ found → moves (segment_machine program s.caps) m segment ≡ source.calls s.caps segment globals waiting (spawn_of g argument)
+    spawned_by : (need argument : ℕ) (found : Option Taken) → taken_for w.areas.pool need ≡ found → (fact_at certificate g).bound ≤ need → moves (segment_machine program s.caps) m segment ≡ source.calls s.caps segment globals waiting (spawn_of g argument)
         → KeepsWellFormed checked s (spawned w thread (fact_at certificate g).entry argument found) → StepReaches checked program s start number puts (spawned w thread (fact_at certificate g).entry argument found)
-    spawned_by need argument None e comes keeps = tt
-    spawned_by need argument (Some taken) e comes keeps =
-        reach program image certificate scoped valid s code_is start number puts w formed_w r (world_now taken g argument) puts m (segment_now waiting globals g argument) comes refl r.outputs (under_now taken need argument e keeps)
+    spawned_by need argument None e enough comes keeps = tt
+    spawned_by need argument (Some taken) e enough comes keeps =
+        reach program image certificate scoped valid s code_is start number puts w formed_w r (world_now taken g argument) puts m (segment_now waiting globals g argument) comes refl r.outputs (under_now taken need argument e enough keeps)
 
-    pub spawn_reach : (need argument : ℕ) → moves (segment_machine program s.caps) m segment ≡ source.calls s.caps segment globals waiting (spawn_of g argument)
+    pub spawn_reach : (need argument : ℕ) → (fact_at certificate g).bound ≤ need → moves (segment_machine program s.caps) m segment ≡ source.calls s.caps segment globals waiting (spawn_of g argument)
         → KeepsWellFormed checked s (starts w thread (fact_at certificate g).entry argument need) → StepReaches checked program s start number puts (starts w thread (fact_at certificate g).entry argument need)
-    spawn_reach need argument comes keeps =
+    spawn_reach need argument enough comes keeps =
         cond_both (nat_le most_threads (length w.threads)) (machine.Stops Stop.Threads) (spawned w thread (fact_at certificate g).entry argument (taken_for w.areas.pool need))
         (λ (move : Move). KeepsWellFormed checked s move → StepReaches checked program s start number puts move)
         (λ full keeps'. tt)
-        (λ room keeps'. spawned_by need argument (taken_for w.areas.pool need) refl comes keeps')
+        (λ room keeps'. spawned_by need argument (taken_for w.areas.pool need) refl enough comes keeps')
         keeps

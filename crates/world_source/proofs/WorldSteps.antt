@@ -1,5 +1,5 @@
 -- The step of a world with a segment under way, and the pick with which one begins.
-use Rattle.std.proofs.Common.{◌≡◌, ℕ, nat_eq, List, Option, Some, refl, sym, ap, subst, ◌∙◌, cond}
+use Rattle.std.proofs.Common.{◌≡◌, ℕ, nat_eq, List, Option, Some, refl, sym, ap, subst, ◌∙◌, cond, arith}
 use Rattle.std.proofs.lemmas.Bool.{cond_both}
 use Rattle.cap_word.specs.Calls.{Call, Blocking, Immediate, call_of}
 use Rattle.cap_word.specs.Runs.{Goes, Asks, Stops, moves}
@@ -24,7 +24,9 @@ use Rattle.machine_world.specs.Threads as machine
 use Rattle.machine_world.specs.Threads.{Thread, World, Setting, thread_of, Move, asked, moved, stopped, step_of, step_on, step}
 use Rattle.machine_world.specs.WellFormed.{IsWellFormed, KeepsWellFormed}
 use Rattle.machine_world.proofs.FormWorlds.{KeepsWellFormed-step}
+use Rattle.lowered_facts.proofs.Formed.{formed}
 use Rattle.segment_source.specs.AsSource.{AsksCall, IsStepAsSource}
+use Rattle.segment_steps.proofs.Needs.{NeedsFit-valid}
 use Rattle.stack_certificate.specs.Certificates.{need_of}
 use Rattle.stack_certificate.specs.Templates.{kind_of}
 use Rattle.stack_certificate.specs.declared.certificates.Certificate.{Certificate}
@@ -35,7 +37,7 @@ use Rattle.world_source.proofs.Steps.{along, goes_reach, ended_reach, trapped_re
 use Rattle.world_source.proofs.Spawns.{spawn_reach}
 
 -- one step of a world whose running thread is there
-step_is : (s : Setting) (w : World) (number : ℕ) (thread : Thread) → w.running ≡ Some number → thread_of w number ≡ Some thread → step s w ≡ cond (nat_eq w.cost s.fuel) (machine.Stops Stop.Fuel) (moved s w thread (local_step s.code (local_in w thread)))
+pub step_is : (s : Setting) (w : World) (number : ℕ) (thread : Thread) → w.running ≡ Some number → thread_of w number ≡ Some thread → step s w ≡ cond (nat_eq w.cost s.fuel) (machine.Stops Stop.Fuel) (moved s w thread (local_step s.code (local_in w thread)))
 unfolding step
 step_is s w number thread running found = ap (step_on s w) running ∙ ap (step_of s w) found
 
@@ -68,6 +70,11 @@ module _ (program : ProgramTree) (image : Image) (certificate : Certificate) (sc
   op_reach m waiting globals f i word (Op.Spawn site d g x) frames rests stands globals_are question call h comes =
       subst (λ (q : local.Question). Reaches (asked s w thread q)) (sym h.2)
       (spawn_reach program image certificate scoped valid s code_is start number puts w formed_w r m waiting globals f i word site g x d frames rests stands globals_are (need_of (kind_of certificate (Op.Spawn site d g x))) h.0
+      (omega (
+        arith,
+        (NeedsFit-valid (lowered program) image certificate (formed program image certificate scoped valid) valid).spawned_is f i site g x d
+            rests.frames_are.at.0 rests.operation,
+      ))
       (subst (λ (c : Call). moves (segment_machine program s.caps) m segment ≡ source.calls s.caps segment globals waiting c) h.1 comes))
   op_reach m waiting globals f i word (Op.Call site d g args) frames rests stands globals_are question call h comes = absurd h
   op_reach m waiting globals f i word (Op.CallTable site d t k x) frames rests stands globals_are question call h comes = absurd h

@@ -1,4 +1,4 @@
-use Rattle.c_scope.proofs.SourceTexts.{only_program, only_refusal}
+use Rattle.c_scope.proofs.EveryWhole.{only_program, only_refusal}
 use Rattle.c_scope.proofs.source_text.read_program.Goals as goal
 
 pub returns-clause-only_program : goal.returns-clause-only_program

@@ -99,3 +99,11 @@ returns-in-Demo g c =
     let after : Outside = record { files = F.files a.shelf.now; loads = F.load_faults a.shelf.now; stores = F.store_faults a.shelf.now; left = S.left a.trace.now; reads = S.faults a.trace.now; taken = K.taken c.demo.new.out; writes = K.faults c.demo.new.out } in
     let Q : Command → Type 0 = λ x. EndsAs (Does (request_of x) before) before after c.demo.result in
     subst Q (sym c.in-Demo.is) (c.demo.ensures before.files before.loads before.stores before.left before.reads)
+
+pub returns-in-Budget : goal.returns-in-Budget
+returns-in-Budget g c =
+    let F = g.F.Shelf in let S = g.S.Source in let K = g.K.Sink in let a = c.args in
+    let before : Outside = record { files = F.files a.shelf.now; loads = F.load_faults a.shelf.now; stores = F.store_faults a.shelf.now; left = S.left a.trace.now; reads = S.faults a.trace.now; taken = K.taken a.out.now; writes = K.faults a.out.now } in
+    let after : Outside = record { files = F.files c.budget.new.shelf; loads = F.load_faults c.budget.new.shelf; stores = F.store_faults c.budget.new.shelf; left = S.left a.trace.now; reads = S.faults a.trace.now; taken = K.taken c.budget.new.out; writes = K.faults c.budget.new.out } in
+    let Q : Command → Type 0 = λ x. EndsAs (Does (request_of x) before) before after c.budget.result in
+    subst Q (sym c.in-Budget.is) (c.budget.ensures before.left before.reads)

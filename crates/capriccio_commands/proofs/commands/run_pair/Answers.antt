@@ -10,7 +10,7 @@ pub run_accepted-requires-clause-pool : goal.run_accepted-requires-clause-pool
 run_accepted-requires-clause-pool g c = let is = c.in_ok-accepted.ensures.answer (g.S.Source.left c.args.trace.now) in is.1
 
 pub accept_files-requires : goal.accept_files-requires
-accept_files-requires g c = let h = c.requires in h.chunks
+accept_files-requires g c = c.requires
 
 pub returns-in_err-accepted : goal.returns-in_err-accepted
 returns-in_err-accepted g c =

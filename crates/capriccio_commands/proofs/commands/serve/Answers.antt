@@ -1,4 +1,4 @@
-use Rattle.std.proofs.Common.{◌≤◌, ◌*◌, refl, sym, subst}
+use Rattle.std.proofs.Common.{◌≤◌, ◌+◌, ◌*◌, refl, sym, subst}
 use Rattle.std.proofs.lemmas.Result.{err_from_is_err_and}
 use Rattle.certificate_check.specs.Accepting.{accepted_tree}
 use Rattle.command_outcomes.specs.Done.{Outside}
@@ -9,7 +9,7 @@ use Rattle.capriccio_commands.proofs.commands.serve.Goals as goal
 pub run_accepted-requires-clause-pool : goal.run_accepted-requires-clause-pool
 run_accepted-requires-clause-pool g c =
     let is = c.in_ok-accepted.ensures.answer (g.S.Source.left c.args.trace.now) c.args.policy in
-    subst (λ n. c.args.policy.chunks * n ≤ 67108864) (sym is.1) c.requires.pool
+    subst (λ n. c.args.policy.chunks * n + c.args.policy.extra * c.args.policy.extra_bytes ≤ 67108864) (sym is.1) c.requires.pool
 
 pub returns-in_err-accepted : goal.returns-in_err-accepted
 returns-in_err-accepted g c =

@@ -1,10 +1,10 @@
-use Rattle.std.proofs.Common.{◌≤◌, ◌*◌, ℕ, List, Some, Ok, Err, subst, sym}
+use Rattle.std.proofs.Common.{◌≤◌, ℕ, List, Some, Ok, Err, subst, sym}
 use Rattle.command_outcomes.specs.Steps.{RunEnds}
 use Rattle.std.proofs.lemmas.Result.{err_from_is_err_and}
 use Rattle.certificate_check.specs.Accepting.{accepted_tree}
 use Rattle.command_words.specs.declared.options.Policy.{Policy}
 use Rattle.capriccio_commands.specs.Demos.{demo_policy}
-use Rattle.capriccio_commands.specs.Runs.{RunsOn, setup_of}
+use Rattle.capriccio_commands.specs.Runs.{RunsOn, pool_bytes, setup_of}
 use Rattle.capriccio_commands.proofs.Shown.{no-stop, served, served-world, shows-due}
 use Rattle.capriccio_commands.proofs.Workloads.{demo-run-policy, demo-pool}
 use Rattle.capriccio_commands.proofs.demo_command.show_run.Goals as goal
@@ -14,7 +14,7 @@ run_accepted-requires-clause-range c = rw c.workload_policy.ensures demo-run-pol
 
 pub run_accepted-requires-clause-pool : goal.run_accepted-requires-clause-pool
 run_accepted-requires-clause-pool c =
-    subst (λ (p : Policy). p.chunks * c.args.accepted.certificate.chunk ≤ 67108864) (sym c.workload_policy.ensures) (demo-pool c.args.accepted.certificate.chunk c.requires)
+    subst (λ (p : Policy). pool_bytes p c.args.accepted.certificate ≤ 67108864) (sym c.workload_policy.ensures) (demo-pool c.args.accepted.certificate.chunk c.requires)
 
 pub show-requires : goal.show-requires
 show-requires c =

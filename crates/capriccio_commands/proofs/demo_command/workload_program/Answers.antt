@@ -4,6 +4,7 @@ use Rattle.std.proofs.lemmas.Result.{MatchResult-weaker}
 use Rattle.c_tree.specs.ProgramView.{program_tree}
 use Rattle.c_tree.specs.declared.programs.Program.{Program}
 use Rattle.c_scope.specs.SourceText.{ReadsAs}
+use Rattle.c_hoist.proofs.WholeReads.{reads_nested}
 use Rattle.workload_source.specs.Programs.{program_text}
 use Rattle.command_outcomes.specs.Outcome.{NoMore}
 use Rattle.command_outcomes.specs.Loads.{AfterSource, IsSourceText}
@@ -21,6 +22,6 @@ returns-in-Ok c =
     let n = c.args.number in
     let is = c.as_slice.ensures.value ∙ c.in-Ok.ensures.text in
     let reads = c.in-Ok.ensures.read in
-    let here = subst (λ (l : List ℕ). ReadsAs l reads.0) c.in-Ok.ensures.text reads.1 in
+    let here = reads_nested (program_text n) reads.0 (subst (λ (l : List ℕ). ReadsAs l reads.0) c.in-Ok.ensures.text reads.1) in
     let read = subst (λ (l : List ℕ). MatchResult c.read_source.result (λ (program : Program). IsSourceText l (program_tree program)) (IsStop (AfterSource l NoMore))) is c.read_source.ensures in
     MatchResult-weaker c.read_source.result read (λ program h. h) (λ stop h. no-source-error n (program_text n) reads.0 stop here h)

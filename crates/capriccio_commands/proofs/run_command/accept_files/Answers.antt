@@ -1,8 +1,8 @@
-use Rattle.std.proofs.Common.{◌≤◌, ◌*◌}
+use Rattle.std.proofs.Common.{◌≤◌}
 use Rattle.std.proofs.lemmas.Result.{err_from_is_err_and}
 use Rattle.certificate_check.specs.Acceptance.{Acceptance}
 use Rattle.command_outcomes.specs.Loads.{AfterThree}
-use Rattle.capriccio_commands.specs.Runs.{RunsBytes}
+use Rattle.capriccio_commands.specs.Runs.{RunsBytes, pool_bytes}
 use Rattle.command_outcomes.proofs.Follows.{Nothing, three-follow, shelf-stop-follows}
 use Rattle.capriccio_commands.proofs.Leading.{leads-after-three}
 use Rattle.capriccio_commands.proofs.run_command.accept_files.Goals as goal
@@ -21,5 +21,5 @@ pub returns-clause-answer : goal.returns-clause-answer
 returns-clause-answer g c = λ trace.
     let accepted = rw (c.as_slice.ensures.value, c.as_slice-2.ensures.value, c.as_slice-3.ensures.value) at c.accept_bytes.ensures in
     let a = c.args in
-    leads-after-three (λ (x : Acceptance). a.policy.chunks * x.certificate.chunk ≤ 67108864) trace a.policy (g.F.Shelf.files a.shelf.now) a.source_name.now a.image_name.now a.certificate_name.now
+    leads-after-three (λ (x : Acceptance). pool_bytes a.policy x.certificate ≤ 67108864) trace a.policy (g.F.Shelf.files a.shelf.now) a.source_name.now a.image_name.now a.certificate_name.now
     (g.F.Shelf.load_faults a.shelf.now) (g.F.Shelf.load_faults c.load_three.new.shelf) c.in_ok-files.files (RunsBytes trace a.policy) c.accept_bytes.result c.in_ok-files.ensures.answer (accepted trace)

@@ -2,11 +2,16 @@ use Rattle.std.proofs.Common.{ℕ, List, Option, subst, sym}
 use Rattle.std.specs.Prelude.{◌-◌}
 use Rattle.clap.specs.Words.{first_value, found_of}
 use Rattle.command_words.specs.Values.{IsNumber}
-use Rattle.command_words.proofs.Chosen.{if_none, no_low}
+use Rattle.command_words.proofs.Chosen.{if_none, no_low, no_extra}
 use Rattle.command_words.proofs.reading.policy.Goals as goal
 
 pub returns-in_err-low-clause-none : goal.returns-in_err-low-clause-none
 returns-in_err-low-clause-none c =
     if_none c.from_residual-in_err-low.result (no_low (λ name. first_value (found_of c.args.matches.now) name) c.in_ok-high.high
-    (subst (λ (text : Option (List ℕ)). IsNumber text 900 1 1000 c.in_ok-high.high) c.get_str-5.ensures c.in_ok-high.ensures.found)
-    (λ n is. c.in_err-low.ensures.none n (subst (λ (text : Option (List ℕ)). IsNumber text 700 0 (c.in_ok-high.high - 1) n) (sym c.get_str-6.ensures) is)))
+    (subst (λ (text : Option (List ℕ)). IsNumber text 900 1 1000 c.in_ok-high.high) c.get_str-7.ensures c.in_ok-high.ensures.found)
+    (λ n is. c.in_err-low.ensures.none n (subst (λ (text : Option (List ℕ)). IsNumber text 700 0 (c.in_ok-high.high - 1) n) (sym c.get_str-8.ensures) is)))
+
+pub returns-then-extra_bytes-ne0-clause-none : goal.returns-then-extra_bytes-ne0-clause-none
+returns-then-extra_bytes-ne0-clause-none c =
+    no_extra (λ name. first_value (found_of c.args.matches.now) name) c.in_ok-extra_bytes.field-0
+    (subst (λ (text : Option (List ℕ)). IsNumber text 64 32 65536 c.in_ok-extra_bytes.field-0) c.get_str-3.ensures c.in_ok-extra_bytes.ensures.found) c.if-extra_bytes-ne0.true

@@ -9,5 +9,5 @@ loop-resource-init c = fits_none c.args.amounts.now c.args.unused.now
 pub loop-resource-preserved : goal.loop-resource-preserved
 loop-resource-preserved c = elim c.if-fits.branch [
   | then-fits w ↦ w.fits-is ∙ w.if-fits.true ∙ fits_then c.args.amounts.now c.args.unused.now c.loop-resource.resource c.loop-resource.fits c.loop-resource.invariant w.if-fits.true
-  | else-fits w ↦ w.fits-is ∙ rw w.from.ensures (fits_else c.args.amounts.now c.args.unused.now c.loop-resource.resource c.loop-resource.fits c.loop-resource.invariant w.if-fits.false)
+  | else-fits w ↦ w.fits-is ∙ fits_else c.args.amounts.now c.args.unused.now c.loop-resource.resource c.loop-resource.fits c.loop-resource.invariant w.if-fits.false
 ]

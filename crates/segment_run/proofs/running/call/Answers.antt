@@ -1,12 +1,11 @@
 use Rattle.std.proofs.Common.{refl, ap, subst, ◌∙◌}
-use Rattle.machine_world.specs.Local.{Starts, a0, a1, a2, system_call, linked_on}
+use Rattle.machine_world.specs.Local.{Starts, a0, a1, a2, system_call}
 use Rattle.rv_machine.specs.Registers.{read}
 use Rattle.segment_run.specs.Contexts.{checked_of}
 use Rattle.segment_run.specs.Safe.{IsSafeMove, AsksAt}
 use Rattle.segment_run.specs.Turns.{thread_of}
 use Rattle.segment_run.proofs.Calls.{spawned_entry, at_spawn, last_chunk}
 use Rattle.segment_run.proofs.running.call.Goals as goal
-use Rattle.segment_steps.specs.Alike.{FindsNoChunk}
 
 pub function_with_entry-requires-clause-there : goal.function_with_entry-requires-clause-there
 function_with_entry-requires-clause-there c =
@@ -31,11 +30,3 @@ returns-in-4 c =
     let asks : AsksAt checked l (Starts (read l.core.x a0) (read l.core.x a1) (read l.core.x a2)) =
     subst (IsSafeMove checked l) step c.requires.safe.move in
     (at_spawn checked.flat c.args.accepted.now.image c.args.accepted.now.certificate l (read l.core.x a0) (read l.core.x a1) (read l.core.x a2) c.function_with_entry.result c.requires.valid asks step c.function_with_entry.ensures, refl)
-
-pub link-requires-clause-room : goal.link-requires-clause-room
-link-requires-clause-room c none =
-    let checked = checked_of c.args.accepted.now in
-    let l = thread_of c.args.areas.now c.args.thread.now in
-    let step = c.requires.calls ∙ ap (system_call l) c.in-1.is ∙ ap (linked_on l) none in
-    let short : FindsNoChunk checked l = subst (IsSafeMove checked l) step c.requires.safe.move in
-    short.none

@@ -3,18 +3,19 @@ use Rattle.chunk_pool.specs.Pool.{IsPool}
 use Rattle.machine_world.specs.Areas.{Areas}
 use Rattle.machine_world.specs.WellFormed.{AreWords, AreWellFormed}
 use Rattle.segment_run.specs.Contexts.{checked_of}
-use Rattle.thread_core.proofs.MakingLaws.{areas_start, areas_at, areas_are, pool_is}
+use Rattle.thread_core.specs.Making.{start_areas}
+use Rattle.thread_core.proofs.MakingLaws.{areas_start, areas_are, pool_is}
 use Rattle.thread_core.proofs.making.take_parts.Goals as goal
 
 pub returns : goal.returns
 returns c =
-    let first : Areas = areas_at c.args.accepted.now c.args.policy.chunks in
-    let is = c.in_ok-areas.ensures ∙ areas_are c.args.accepted.now c.args.policy.chunks c.image.result.now c.certificate.result.now c.in_ok-pool.pool c.image.ensures.value c.certificate.ensures c.in_ok-pool.ensures.start in
-    let pool : IsPool first.pool = subst IsPool (pool_is c.args.accepted.now c.args.policy.chunks c.certificate.result.now c.in_ok-pool.pool c.certificate.ensures c.in_ok-pool.ensures.start) c.in_ok-pool.ensures.sound in
+    let first : Areas = start_areas c.args.accepted.now c.args.policy in
+    let is = c.in_ok-areas.ensures ∙ areas_are c.args.accepted.now c.args.policy c.image.result.now c.certificate.result.now c.in_ok-pool.pool c.image.ensures.value c.certificate.ensures c.in_ok-pool.ensures.start in
+    let pool : IsPool first.pool = subst IsPool (pool_is c.args.accepted.now c.args.policy c.certificate.result.now c.in_ok-pool.pool c.certificate.ensures c.in_ok-pool.ensures.start) c.in_ok-pool.ensures.sound in
     let words : AreWords first.globals = subst (λ (a : Areas). AreWords a.globals) (c.areas.view_is ∙ is) c.areas.invariant.0.global_words in
     record {
       areas = is;
-      formed = subst (AreWellFormed (checked_of c.args.accepted.now)) (sym is) (areas_start c.args.accepted.now c.args.policy.chunks c.image.ensures.valid pool words c.sizes_law.ensures.aligned);
+      formed = subst (AreWellFormed (checked_of c.args.accepted.now)) (sym is) (areas_start c.args.accepted.now c.args.policy c.image.ensures.valid pool words c.sizes_law.ensures.aligned);
       exchange = c.in_ok-exchange.ensures;
       waits = c.in_ok-waits.ensures;
       records = c.in_ok-records.ensures.empty;

@@ -1,9 +1,14 @@
 use Rattle.std.proofs.Common.{◌≡◌, Some, None, refl, ap, ◌∙◌}
-use Rattle.thread_core.proofs.MakingLaws.{main_fact, made_law, IsMade}
+use Rattle.thread_core.proofs.MakingLaws.{main_fact, main_fits, made_law, IsMade}
 use Rattle.thread_core.proofs.making.with_main.Goals as goal
 
 pub start-requires-clause-function : goal.start-requires-clause-function
 start-requires-clause-function c = main_fact c.args.accepted c.args.accepted.program.well_scoped c.image-image.ensures.valid c.main_number-main.result (c.main_number-main.ensures ∙ ap (λ p. p.main) c.program.ensures)
+
+pub unreachable-requires : goal.unreachable-requires
+unreachable-requires c =
+    main_fits c.args.accepted c.args.accepted.program.well_scoped c.image-image.ensures.valid c.args.policy c.args.parts c.requires.parts c.main_number-main.result
+    (c.main_number-main.ensures ∙ ap (λ p. p.main) c.program.ensures) (c.in-None.ensures.none.0 refl)
 
 made : (c : goal.After-wait) → IsMade c.args.accepted c.args.policy c.args.fuel (record {
   alloc = c.args.alloc;
@@ -33,7 +38,7 @@ made c = made_law c.args.accepted c.args.accepted.program.well_scoped c.image-im
       stopped = None;
     })
     c.main_number-main.result c.in-Some.context (c.main_number-main.ensures ∙ ap (λ p. p.main) c.program.ensures)
-    (λ need le. rw c.in-Some.is at (c.start.ensures.machine need le)) c.start.ensures.areas
+    (rw c.in-Some.is at c.start.ensures.machine) c.start.ensures.areas
     (rw c.insert_reserved-slot.ensures.key at c.insert_reserved-slot.ensures.updates) (rw c.insert_reserved-slot.ensures.key at c.wait.ensures)
     refl refl refl refl refl refl
 

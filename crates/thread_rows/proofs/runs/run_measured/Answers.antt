@@ -1,5 +1,5 @@
-use Rattle.std.proofs.Common.{refl, arith}
-use Rattle.std.specs.Prelude.{replicate}
+use Rattle.std.proofs.Common.{◌≡◌, ℕ, ◌+◌, ◌∷◌, refl, sym, subst, arith}
+use Rattle.std.specs.Prelude.{replicate, drop}
 use Rattle.certificate_check.specs.Accepting.{accepted_tree}
 use Rattle.choice_rules.specs.Policy.{by_graph}
 use Rattle.lawful_log.specs.Setup.{Setup}
@@ -22,6 +22,8 @@ run-end-requires g c =
       certificate = c.args.world.accepted.certificate;
       policy = record {
         chunks = c.args.setup.chunks;
+        extra = 0;
+        extra_bytes = 64;
         fuel = c.args.setup.fuel;
         backlog = c.args.setup.backlog;
         caps = caps_of c.args.setup.cap;
@@ -31,6 +33,8 @@ run-end-requires g c =
         rule = by_graph;
       };
     } in
+    -- no chunk of the second size is there
+    let whole : c.args.setup.chunks + 0 ≡ c.args.setup.chunks = omega arith in
     let is : IsAtStart setup c.args.world c.in-Ok.monitor = record {
       program = refl;
       image = refl;
@@ -38,7 +42,7 @@ run-end-requires g c =
       rule = refl;
       ranges = c.requires.made.ranges;
       made = c.requires.made.made;
-      monitor_is = record { curves = c.in-Ok.ensures.0; caps = c.in-Ok.ensures.1; high = c.in-Ok.ensures.2; low = c.in-Ok.ensures.3 };
+      monitor_is = record { curves = c.in-Ok.ensures.0; caps = subst (λ (n : ℕ). c.in-Ok.monitor.caps ≡ (n ∷ drop 1 (caps_of c.args.setup.cap))) (sym whole) c.in-Ok.ensures.1; high = c.in-Ok.ensures.2; low = c.in-Ok.ensures.3 };
       gate = c.in-Ok.ensures.4;
     } in
     (setup, is)

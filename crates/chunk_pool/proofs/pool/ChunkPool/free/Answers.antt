@@ -1,14 +1,15 @@
-use Rattle.std.proofs.Common.{◌≤◌, length, subst, arith}
+use Rattle.std.proofs.Common.{◌+◌, ◌≤◌, subst, arith}
 use Rattle.chunk_pool.specs.Pool.{Pool}
-use Rattle.chunk_pool.specs.Chunks.{pool_of}
-use Rattle.chunk_pool.proofs.FreeLaws.{free_bounded}
-use Rattle.chunk_pool.proofs.Kept.{free_is}
+use Rattle.chunk_pool.proofs.Kept.{all_free_is, free_most}
 use Rattle.chunk_pool.proofs.pool.ChunkPool.free.Goals as goal
 
 pub returns-clause-count : goal.returns-clause-count
-returns-clause-count c = free_is c.self.inside c.args.self.now c.self.view_is
+returns-clause-count c = all_free_is c.self.inside c.args.self.now c.self.view_is
 
 pub returns-clause-bounded : goal.returns-clause-bounded
 returns-clause-bounded c =
-    let all = subst (λ (p : Pool). length p.free ≤ p.count) c.self.view_is (free_bounded (pool_of c.self.inside) c.self.invariant.pool) in
-    omega (arith, all, returns-clause-count c)
+    subst (λ (p : Pool). c.self.inside.free + c.self.inside.extra_free ≤ p.count) c.self.view_is (free_most c.self.inside c.args.self.now c.self.view_is c.self.invariant)
+
+pub overflow_add-result : goal.overflow_add-result
+overflow_add-result c =
+    omega (arith, free_most c.self.inside c.args.self.now c.self.view_is c.self.invariant, c.self.invariant.pool.shape.extra_bounded, c.self.invariant.pool.shape.chunks_bounded)

@@ -1,11 +1,12 @@
-use Rattle.std.proofs.Common.{◌≡◌, ℕ, ◌+◌, ◌*◌, ◌%◌, ◌∙◌, ap, arith}
-use Rattle.chunk_pool.specs.Pool.{first_place, place_of, start_in}
+use Rattle.std.proofs.Common.{◌+◌, ◌*◌, ◌%◌, ℕ, ◌∙◌, ap, subst}
+use Rattle.chunk_pool.specs.Pool.{first_place, IsPool}
 use Rattle.chunk_pool.specs.Chunks.{pool_of}
-use Rattle.chunk_pool.proofs.AddressLaws.{place_of-aligned}
+use Rattle.chunk_pool.proofs.AddressLaws.{place_of-aligned, place_of-bounded}
 use Rattle.chunk_pool.proofs.pool.ChunkPool.place_of.Goals as goal
 
 pub returns-clause-aligned : goal.returns-clause-aligned
-unfolding start_in
 returns-clause-aligned c =
-    let place : first_place + c.args.id * (4 * c.self.inside.words) ≡ place_of (pool_of c.self.inside) c.args.id = omega arith in
-    ap (λ (n : ℕ). n % 16) place ∙ place_of-aligned (pool_of c.self.inside) c.args.id c.self.invariant.pool
+    ap (λ (n : ℕ). (first_place + 4 * n) % 16) c.start_of.ensures.start ∙ place_of-aligned (pool_of c.self.inside) c.args.id c.self.invariant.pool
+
+pub returns-clause-below_end : goal.returns-clause-below_end
+returns-clause-below_end c = place_of-bounded c.args.self.now c.args.id (subst IsPool c.self.view_is c.self.invariant.pool) c.requires

@@ -1,47 +1,39 @@
-use Rattle.std.proofs.Common.{ℕ, ◌<◌, List, ◌∙◌, ap, sym, subst, Some, slice_get}
-use Rattle.chunk_pool.specs.Pool.{Pool, word_of, first_free, after_take, IsFree, IsHeld}
-use Rattle.chunk_pool.specs.Chunks.{pool_of}
-use Rattle.chunk_pool.proofs.FreeLaws.{IsTaken-after_take, taken_is_held}
-use Rattle.chunk_pool.proofs.Kept.{none_taken, first_within, taken_from, taken}
+use Rattle.std.proofs.Common.{ℕ, ◌∙◌, sym, ap, subst, Option, Some}
+use Rattle.chunk_pool.specs.Pool.{taken_for, IsTaken}
+use Rattle.chunk_pool.proofs.NeedLaws.{IsTaken-first, IsTaken-extra, IsTaken-none, take_tells}
 use Rattle.chunk_pool.proofs.pool.ChunkPool.take.Goals as goal
 
-pub read-self-inside-requires-clause-id_in_range : goal.read-self-inside-requires-clause-id_in_range
-read-self-inside-requires-clause-id_in_range c =
-    subst (λ (p : Pool). c.self.inside.first < p.count) c.self.view_is (first_within c.self.inside c.self.invariant c.if-self-eq0.false)
+pub returns-in_err-class-clause-taken : goal.returns-in_err-class-clause-taken
+returns-in_err-class-clause-taken c =
+    subst (λ (a : Option ℕ). IsTaken (taken_for c.args.self.now c.args.need) a c.args.self.now c.args.self.now) (sym c.from_residual.ensures)
+    (IsTaken-none c.args.self.now c.args.need (sym c.in_err-class.ensures.value))
 
-pub invariant_of-self : goal.invariant_of-self
-invariant_of-self c =
-    (taken c.self.inside c.read-self-inside.result c.self.invariant c.if-self-eq0.false
-    (c.read-self-inside.ensures.value ∙ ap (λ (p : Pool). word_of p c.self.inside.first 0) (sym c.self.view_is))).kept
+pub returns-in_err-class-clause-none : goal.returns-in_err-class-clause-none
+returns-in_err-class-clause-none c =
+    (take_tells c.args.self.now c.args.need c.from_residual.result c.args.self.now c.in_err-class.ensures.sound (returns-in_err-class-clause-taken c)).0
 
-pub returns-clause-first : goal.returns-clause-first
-returns-clause-first c =
-    let split =
-    (taken c.self.inside c.read-self-inside.result c.self.invariant c.if-self-eq0.false
-    (c.read-self-inside.ensures.value ∙ ap (λ (p : Pool). word_of p c.self.inside.first 0) (sym c.self.view_is))).split in
-    ap (λ (free : List ℕ). slice_get free 0) (sym split) ∙ ap first_free c.self.view_is
+pub returns-in-First-clause-taken : goal.returns-in-First-clause-taken
+returns-in-First-clause-taken c =
+    IsTaken-first c.args.self.now c.args.need c.take_first.result c.take_first.new.self (sym c.in_ok-class.ensures.value ∙ ap Some c.in-First.is)
+    c.take_first.ensures.first c.take_first.ensures.after
 
-pub returns-clause-after : goal.returns-clause-after
-returns-clause-after c =
-    (taken c.self.inside c.read-self-inside.result c.self.invariant c.if-self-eq0.false
-    (c.read-self-inside.ensures.value ∙ ap (λ (p : Pool). word_of p c.self.inside.first 0) (sym c.self.view_is))).pool
-    ∙ ap after_take c.self.view_is
+pub returns-in-First-clause-none : goal.returns-in-First-clause-none
+returns-in-First-clause-none c =
+    (take_tells c.args.self.now c.args.need (Some c.take_first.result) c.take_first.new.self c.in_ok-class.ensures.sound (returns-in-First-clause-taken c)).0
 
-pub returns-clause-held : goal.returns-clause-held
-returns-clause-held c =
-    let is =
-    taken c.self.inside c.read-self-inside.result c.self.invariant c.if-self-eq0.false
-    (c.read-self-inside.ensures.value ∙ ap (λ (p : Pool). word_of p c.self.inside.first 0) (sym c.self.view_is)) in
-    let id = c.self.inside.first in
-    let both = taken_is_held (pool_of c.self.inside) id (pool_of (taken_from c.self.inside c.read-self-inside.result)).free c.self.invariant.pool is.split in
-    (subst (λ (p : Pool). IsFree p id) c.self.view_is both.0, subst (λ (p : Pool). IsHeld p id) (sym is.pool) both.1)
+pub returns-in-First-clause-held : goal.returns-in-First-clause-held
+returns-in-First-clause-held c =
+    (take_tells c.args.self.now c.args.need (Some c.take_first.result) c.take_first.new.self c.in_ok-class.ensures.sound (returns-in-First-clause-taken c)).1
 
-pub returns-clause-needed : goal.returns-clause-needed
-returns-clause-needed c need each = IsTaken-after_take c.args.self.now need (Some c.self.inside.first) _ (returns-clause-first c) (returns-clause-after c) each
+pub returns-in-Extra-clause-taken : goal.returns-in-Extra-clause-taken
+returns-in-Extra-clause-taken c =
+    IsTaken-extra c.args.self.now c.args.need c.take_extra.result c.take_extra.new.self (sym c.in_ok-class.ensures.value ∙ ap Some c.in-Extra.is)
+    c.take_extra.ensures.first c.take_extra.ensures.after
 
-pub returns-clause-sound : goal.returns-clause-sound
-returns-clause-sound c = (invariant_of-self c).pool
+pub returns-in-Extra-clause-none : goal.returns-in-Extra-clause-none
+returns-in-Extra-clause-none c =
+    (take_tells c.args.self.now c.args.need (Some c.take_extra.result) c.take_extra.new.self c.in_ok-class.ensures.sound (returns-in-Extra-clause-taken c)).0
 
-pub returns-then-self-eq0-clause-needed : goal.returns-then-self-eq0-clause-needed
-returns-then-self-eq0-clause-needed c need each =
-    none_taken c.self.inside c.args.self.now need c.self.view_is c.if-self-eq0.true each
+pub returns-in-Extra-clause-held : goal.returns-in-Extra-clause-held
+returns-in-Extra-clause-held c =
+    (take_tells c.args.self.now c.args.need (Some c.take_extra.result) c.take_extra.new.self c.in_ok-class.ensures.sound (returns-in-Extra-clause-taken c)).1

@@ -4,15 +4,15 @@ use Rattle.runner.proofs.Looked.{seen_before}
 use Rattle.runner.proofs.course.Course.look.Goals as goal
 
 pub returns-in-Event-clause-looks : goal.returns-in-Event-clause-looks
-returns-in-Event-clause-looks g c = λ s state held left knows stands.
-    seen_before s state c.args.self.now held left (g.S.Source.left c.args.trace.now) (Some c.in-Event.event) stands knows (ap known (ap (λ (k : Kept). k.next) (sym c.self.view_is) ∙ c.in-Event.is))
+returns-in-Event-clause-looks g c = λ left knows.
+    (left, knows, λ has. has, λ has. has, λ s state held stands. seen_before s state c.args.self.now held left (Some c.in-Event.event) stands (ap known (ap (λ (k : Kept). k.next) (sym c.self.view_is) ∙ c.in-Event.is)))
 
 pub returns-in-Event-clause-nears : goal.returns-in-Event-clause-nears
 returns-in-Event-clause-nears g c = inl refl
 
 pub returns-in-Over-clause-looks : goal.returns-in-Over-clause-looks
-returns-in-Over-clause-looks g c = λ s state held left knows stands.
-    seen_before s state c.args.self.now held left (g.S.Source.left c.args.trace.now) None stands knows (ap known (ap (λ (k : Kept). k.next) (sym c.self.view_is) ∙ c.in-Over.is))
+returns-in-Over-clause-looks g c = λ left knows.
+    (left, knows, λ has. has, λ has. has, λ s state held stands. seen_before s state c.args.self.now held left None stands (ap known (ap (λ (k : Kept). k.next) (sym c.self.view_is) ∙ c.in-Over.is)))
 
 pub returns-in-Over-clause-nears : goal.returns-in-Over-clause-nears
 returns-in-Over-clause-nears g c = inl refl

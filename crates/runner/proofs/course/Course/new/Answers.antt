@@ -5,8 +5,9 @@ use Rattle.event_trace.specs.Reader.{ReaderState}
 use Rattle.lawful_log.specs.State.{start_of}
 use Rattle.rule_state.specs.Rules.{HasStarted}
 use Rattle.runner.specs.Kept.{Kept}
-use Rattle.runner.specs.Stands.{StandsBetween, bytes_of}
+use Rattle.runner.specs.Stands.{StandsBetween}
 use Rattle.runner.specs.declared.looking.Next.{Next}
+use Rattle.runner.specs.Rest.{bytes_of}
 use Rattle.runner.proofs.Started.{start_between}
 use Rattle.runner.proofs.Rules.{may_start_first}
 use Rattle.runner.proofs.course.Course.new.Goals as goal

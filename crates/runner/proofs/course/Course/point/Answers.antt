@@ -1,4 +1,4 @@
-use Rattle.std.proofs.Common.{◌≡◌, ◌∙◌, List, None, Option, Err, length, refl, sym, ap, subst}
+use Rattle.std.proofs.Common.{◌≡◌, ◌∙◌, List, Option, Err, length, refl, sym, ap, subst}
 use Rattle.std.proofs.lemmas.List.{nil_from_length}
 use Rattle.std.proofs.lemmas.Result.{err_from_is_err_and}
 use Rattle.machine_world.specs.Threads.{Thread}
@@ -8,15 +8,17 @@ use Rattle.runner.specs.declared.ends.Halt.{Halt}
 use Rattle.runner.specs.Counts.{CountsStep}
 use Rattle.runner.specs.Kept.{Kept}
 use Rattle.runner.specs.Ranks.{rank, FallsTo}
+use Rattle.runner.specs.Rest.{Rest, Unasked}
+use Rattle.runner.specs.Stands.{StandsBetween}
 use Rattle.runner.specs.Steps.{StepEnds}
-use Rattle.runner.proofs.LookedOn.{forget, unrefused, done_halts, refused_halts, read_fails, at_point, from_before, look_failed, part_counts, look_falls, falls_from}
+use Rattle.runner.proofs.LookedOn.{forget, unasked, unrefused, done_halts, refused_halts, read_fails, at_point, from_before, look_failed, part_counts, look_falls, falls_from}
 use Rattle.runner.proofs.Parts.{to_between}
 use Rattle.runner.proofs.Stepping.{keeps_same}
 use Rattle.runner.proofs.course.Course.point.Goals as goal
 
 pub returns-then-live-eq0-clause-ends : goal.returns-then-live-eq0-clause-ends
-returns-then-live-eq0-clause-ends g c = λ s state left knows stands.
-    (left, knows, done_halts s state c.args.self.now c.args.world.now left stands (output_of c.args.writer.now (g.K.Sink.taken c.args.out.now)) (nil_from_length c.args.world.now.machine.threads (sym c.live.ensures ∙ c.if-live-eq0.true)))
+returns-then-live-eq0-clause-ends g c = λ left knows.
+    (left, knows, λ has. has, λ has. has, λ s state stands. done_halts s state c.args.self.now c.args.world.now left stands (output_of c.args.writer.now (g.K.Sink.taken c.args.out.now)) (nil_from_length c.args.world.now.machine.threads (sym c.live.ensures ∙ c.if-live-eq0.true)))
 
 pub returns-then-live-eq0-clause-counts : goal.returns-then-live-eq0-clause-counts
 returns-then-live-eq0-clause-counts g c = (refl, refl)
@@ -28,9 +30,11 @@ pub look-requires : goal.look-requires
 look-requires g c = record { unrefused = unrefused c.args.self.now c.args.world.now c.requires.between c.requires.stands }
 
 pub returns-in_err-line-clause-ends : goal.returns-in_err-line-clause-ends
-returns-in_err-line-clause-ends g c = λ s state left knows stands.
+returns-in_err-line-clause-ends g c = λ after knows.
     let p = err_from_is_err_and c.from_residual.result c.from_residual.ensures.1 in
-    (None, tt, subst (λ r. StepEnds s state left c.look.new.self c.args.world.now None (output_of c.args.writer.now (g.K.Sink.taken c.args.out.now)) (output_of c.args.writer.now (g.K.Sink.taken c.args.out.now)) r) (sym p.1) (read_fails s state c.args.self.now c.args.world.now left stands (output_of c.args.writer.now (g.K.Sink.taken c.args.out.now)) (c.in_err-line.ensures.looks s state c.args.world.now left knows stands).1))
+    let looks = c.in_err-line.ensures.looks after knows in
+    let left = looks.0 in
+    (left, looks.1, looks.2, looks.3, λ s state stands. subst (λ r. StepEnds s state left c.look.new.self c.args.world.now after (output_of c.args.writer.now (g.K.Sink.taken c.args.out.now)) (output_of c.args.writer.now (g.K.Sink.taken c.args.out.now)) r) (sym p.1) (read_fails s state c.args.self.now c.args.world.now left stands (output_of c.args.writer.now (g.K.Sink.taken c.args.out.now)) (looks.4 s state c.args.world.now stands).1))
 
 pub returns-in_err-line-clause-counts : goal.returns-in_err-line-clause-counts
 returns-in_err-line-clause-counts g c =
@@ -52,20 +56,25 @@ pub go_on-requires-clause-stands : goal.go_on-requires-clause-stands
 go_on-requires-clause-stands g c =
     let p = c.requires.stands in
     let stands = forget p.0 p.1 c.args.self.now c.args.world.now p.2 (to_between p.0 p.1 c.args.self.now c.args.world.now p.2 c.requires.between p.3) in
-    let sees = rw c.in-Comes.is at (c.in_ok-line.ensures.looks p.0 p.1 c.args.world.now None tt stands) in (
+    let looks = c.in_ok-line.ensures.looks Unasked tt in
+    let before : looks.0 ≡ Unasked = unasked looks.0 looks.2 in
+    let sees = rw c.in-Comes.is at (looks.4 p.0 p.1 c.args.world.now (subst (λ (r : Rest). StandsBetween p.0 p.1 c.args.self.now c.args.world.now r) (sym before) stands)) in (
       p.0,
       p.1,
-      sees.left,
-      at_point p.0 p.1 None c.look.new.self c.args.world.now _ _ sees (ap (λ (k : Kept). k.under) c.look.ensures.rest ∙ c.requires.between) (λ e. c.if-live-eq0.false (c.live.ensures ∙ ap (λ (l : List Thread). length l) e)),
+      Unasked,
+      at_point p.0 p.1 Unasked c.look.new.self c.args.world.now _ sees (ap (λ (k : Kept). k.under) c.look.ensures.rest ∙ c.requires.between) (λ e. c.if-live-eq0.false (c.live.ensures ∙ ap (λ (l : List Thread). length l) e)),
     )
 
 pub returns-in-Refused-clause-ends : goal.returns-in-Refused-clause-ends
-returns-in-Refused-clause-ends g c = λ s state left knows stands.
-    let refuses = rw c.in-Refused.is at (c.in_ok-line.ensures.looks s state c.args.world.now left knows stands) in (
-      None,
-      tt,
-      refused_halts s state c.args.self.now c.args.world.now left stands c.look.new.self _ (output_of c.args.writer.now (g.K.Sink.taken c.args.out.now)) (ap (λ (k : Kept). k.graph) c.look.ensures.rest)
-          (λ e. c.if-live-eq0.false (c.live.ensures ∙ ap (λ (l : List Thread). length l) e)) refuses,
+returns-in-Refused-clause-ends g c = λ after knows.
+    let looks = c.in_ok-line.ensures.looks after knows in
+    let left = looks.0 in (
+      left,
+      looks.1,
+      looks.2,
+      looks.3,
+      λ s state stands. refused_halts s state c.args.self.now c.args.world.now left stands c.look.new.self _ (output_of c.args.writer.now (g.K.Sink.taken c.args.out.now)) (ap (λ (k : Kept). k.graph) c.look.ensures.rest)
+          (λ e. c.if-live-eq0.false (c.live.ensures ∙ ap (λ (l : List Thread). length l) e)) (rw c.in-Refused.is at (looks.4 s state c.args.world.now stands)),
     )
 
 pub returns-in-Refused-clause-counts : goal.returns-in-Refused-clause-counts
@@ -75,12 +84,17 @@ pub returns-in-Refused-clause-keeps : goal.returns-in-Refused-clause-keeps
 returns-in-Refused-clause-keeps g c = keeps_same c.args.world.now
 
 pub returns-in-Comes-clause-ends : goal.returns-in-Comes-clause-ends
-returns-in-Comes-clause-ends g c = λ s state left knows stands.
-    let sees = rw c.in-Comes.is at (c.in_ok-line.ensures.looks s state c.args.world.now left knows stands) in
-    let at = at_point s state left c.look.new.self c.args.world.now _ _ sees (ap (λ (k : Kept). k.under) c.look.ensures.rest ∙ c.requires.between) (λ e. c.if-live-eq0.false (c.live.ensures ∙ ap (λ (l : List Thread). length l) e)) in (
-      sees.left,
-      sees.knows,
-      from_before s state left sees.left c.go_on.new.self c.go_on.new.world sees.left (output_of c.args.writer.now (g.K.Sink.taken c.args.out.now)) (output_of c.go_on.new.writer (g.K.Sink.taken c.go_on.new.out)) c.go_on.result sees.still_told (c.go_on.ensures.ends s state sees.left at),
+returns-in-Comes-clause-ends g c = λ after knows.
+    let looks = c.in_ok-line.ensures.looks after knows in
+    let left = looks.0 in (
+      left,
+      looks.1,
+      looks.2,
+      looks.3,
+      λ s state stands.
+          let sees = rw c.in-Comes.is at (looks.4 s state c.args.world.now stands) in
+          let at = at_point s state after c.look.new.self c.args.world.now _ sees (ap (λ (k : Kept). k.under) c.look.ensures.rest ∙ c.requires.between) (λ e. c.if-live-eq0.false (c.live.ensures ∙ ap (λ (l : List Thread). length l) e)) in
+          from_before s state left after c.go_on.new.self c.go_on.new.world after (output_of c.args.writer.now (g.K.Sink.taken c.args.out.now)) (output_of c.go_on.new.writer (g.K.Sink.taken c.go_on.new.out)) c.go_on.result looks.2 (c.go_on.ensures.ends s state after at),
     )
 
 pub returns-in-Comes-clause-counts : goal.returns-in-Comes-clause-counts

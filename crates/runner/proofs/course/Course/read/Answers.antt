@@ -1,40 +1,68 @@
-use Rattle.std.proofs.Common.{◌≡◌, None, ℕ, refl, sym, subst}
+use Rattle.std.proofs.Common.{◌≡◌, [], refl, sym, subst}
+use Rattle.event_trace.specs.declared.refusals.TraceError.{TraceError}
 use Rattle.runner.specs.Kept.{Kept}
-use Rattle.runner.specs.Looks.{Refuses}
 use Rattle.runner.specs.Stands.{StandsBetween}
 use Rattle.runner.specs.declared.looking.Next.{Next}
-use Rattle.runner.proofs.Looked.{over_seen, event_seen, order_seen, machine_same}
+use Rattle.runner.proofs.Looked.{back, knows_back, had_back, has_back, rest_in, over_seen, event_seen, refused_seen, machine_same}
+use Rattle.runner.proofs.Spelled.{line_and, bad_line}
 use Rattle.runner.proofs.course.Course.read.Goals as goal
 
 pub returns-in-Ok-None-clause-looks : goal.returns-in-Ok-None-clause-looks
-returns-in-Ok-None-clause-looks g c = λ s state held left knows stands.
-    let is = subst (λ (k : Kept). StandsBetween s state k held left) (sym c.self.view_is) stands in
-    let unread = subst (λ (k : Kept). k.next ≡ Next.Unread) (sym c.self.view_is) c.requires.unread in
-    let unrefused = subst (λ (k : Kept). k.reader.refused ≡ None) (sym c.self.view_is) c.requires.unrefused in
-    over_seen s state _ held left is unread c.next.new.self (g.S.Source.left c.args.trace.now) (g.S.Source.left c.next.new.source) knows
-    (rw c.in-Ok-None.field-0-is at (c.in-Ok-None.ensures.told unrefused)) (rw c.in-Ok-None.field-0-is at (c.in-Ok-None.ensures.kept unrefused))
+returns-in-Ok-None-clause-looks g c = λ after knows.
+    let told = g.S.Source.left c.args.trace.now in
+    let unread = subst (λ (k : Kept). k.next ≡ Next.Unread) (sym c.self.view_is) c.requires.unread in (
+      back after told [],
+      knows_back after told [],
+      had_back after told [],
+      has_back after told [],
+      λ s state held stands. over_seen s state _ held unread c.next.new.self told (g.S.Source.left c.next.new.source) after (subst (λ (k : Kept). StandsBetween s state k held (back after told [])) (sym c.self.view_is) stands)
+          (rw c.in-Ok-None.field-0-is at c.in-Ok-None.ensures.told) (rw c.in-Ok-None.field-0-is at c.in-Ok-None.ensures.kept),
+    )
 
 pub returns-in-Ok-Some-clause-looks : goal.returns-in-Ok-Some-clause-looks
-returns-in-Ok-Some-clause-looks g c = λ s state held left knows stands.
-    let is = subst (λ (k : Kept). StandsBetween s state k held left) (sym c.self.view_is) stands in
-    let unread = subst (λ (k : Kept). k.next ≡ Next.Unread) (sym c.self.view_is) c.requires.unread in
-    let unrefused = subst (λ (k : Kept). k.reader.refused ≡ None) (sym c.self.view_is) c.requires.unrefused in
-    let kept = rw c.in-Ok-Some.field-0-is at (c.in-Ok-Some.ensures.kept unrefused) in
-    let fits = rw c.in-Ok-Some.field-0-is at c.in-Ok-Some.ensures.fits in
-    event_seen s state _ held left is unread c.next.new.self (g.S.Source.left c.args.trace.now) (g.S.Source.left c.next.new.source) knows c.in-Ok-Some.event
-    (rw c.in-Ok-Some.field-0-is at (c.in-Ok-Some.ensures.told unrefused)) kept.0 kept.1 kept.2 fits.0
+returns-in-Ok-Some-clause-looks g c = λ after knows.
+    let told = g.S.Source.left c.args.trace.now in
+    let bytes = line_and c.in-Ok-Some.event (rest_in c.next.new.self after) in
+    let unread = subst (λ (k : Kept). k.next ≡ Next.Unread) (sym c.self.view_is) c.requires.unread in (
+      back after told bytes,
+      knows_back after told bytes,
+      had_back after told bytes,
+      has_back after told bytes,
+      λ s state held stands. event_seen s state _ held unread c.next.new.self told (g.S.Source.left c.next.new.source) after c.in-Ok-Some.event knows (subst (λ (k : Kept). StandsBetween s state k held (back after told bytes)) (sym c.self.view_is) stands)
+          (rw c.in-Ok-Some.field-0-is at c.in-Ok-Some.ensures.told) (rw c.in-Ok-Some.field-0-is at c.in-Ok-Some.ensures.kept) (rw c.in-Ok-Some.field-0-is at c.in-Ok-Some.ensures.fits) c.next.ensures.counted,
+    )
+
+pub returns-in-Err-Line-clause-looks : goal.returns-in-Err-Line-clause-looks
+returns-in-Err-Line-clause-looks g c = λ after knows.
+    let told = g.S.Source.left c.args.trace.now in
+    let unread = subst (λ (k : Kept). k.next ≡ Next.Unread) (sym c.self.view_is) c.requires.unread in (
+      back after told bad_line,
+      knows_back after told bad_line,
+      had_back after told bad_line,
+      has_back after told bad_line,
+      λ s state held stands. refused_seen s state _ held unread c.next.new.self told (g.S.Source.left c.next.new.source) after (TraceError.Line _) c.number.result (subst (λ (k : Kept). StandsBetween s state k held (back after told bad_line)) (sym c.self.view_is) stands) tt
+          (rw c.in-Err-Line.field-0-is at c.in-Err-Line.ensures.told) (rw c.in-Err-Line.field-0-is at c.in-Err-Line.ensures.kept).1 c.number.ensures,
+    )
 
 pub returns-in-Err-Order-clause-looks : goal.returns-in-Err-Order-clause-looks
-returns-in-Err-Order-clause-looks g c = λ s state held left knows stands.
-    let is = subst (λ (k : Kept). StandsBetween s state k held left) (sym c.self.view_is) stands in
-    let unread = subst (λ (k : Kept). k.next ≡ Next.Unread) (sym c.self.view_is) c.requires.unread in
-    let unrefused = subst (λ (k : Kept). k.reader.refused ≡ None) (sym c.self.view_is) c.requires.unrefused in
-    subst (λ (n : ℕ). Refuses s state left held n) (sym c.from-in-Err-Order.ensures)
-    (order_seen s state _ held left is unread c.next.new.self (g.S.Source.left c.args.trace.now) (g.S.Source.left c.next.new.source) knows c.in-Err-Order.number _ _
-    (rw c.in-Err-Order.field-0-is at (c.in-Err-Order.ensures.told unrefused)))
+returns-in-Err-Order-clause-looks g c = λ after knows.
+    let told = g.S.Source.left c.args.trace.now in
+    let unread = subst (λ (k : Kept). k.next ≡ Next.Unread) (sym c.self.view_is) c.requires.unread in (
+      back after told bad_line,
+      knows_back after told bad_line,
+      had_back after told bad_line,
+      has_back after told bad_line,
+      λ s state held stands. refused_seen s state _ held unread c.next.new.self told (g.S.Source.left c.next.new.source) after (TraceError.Order _ _ _) c.number-in-Err-Order.result (subst (λ (k : Kept). StandsBetween s state k held (back after told bad_line)) (sym c.self.view_is) stands) tt
+          (rw c.in-Err-Order.field-0-is at c.in-Err-Order.ensures.told) (rw c.in-Err-Order.field-0-is at c.in-Err-Order.ensures.kept).1 c.number-in-Err-Order.ensures,
+    )
 
 pub returns-in-Err-ReadFault-clause-looks : goal.returns-in-Err-ReadFault-clause-looks
-returns-in-Err-ReadFault-clause-looks g c = λ s state held left knows stands.
-    let is = subst (λ (k : Kept). StandsBetween s state k held left) (sym c.self.view_is) stands in
-    let unread = subst (λ (k : Kept). k.next ≡ Next.Unread) (sym c.self.view_is) c.requires.unread in
-    (refl, machine_same s state _ held left is unread)
+returns-in-Err-ReadFault-clause-looks g c = λ after knows.
+    let told = g.S.Source.left c.args.trace.now in
+    let unread = subst (λ (k : Kept). k.next ≡ Next.Unread) (sym c.self.view_is) c.requires.unread in (
+      back after told [],
+      knows_back after told [],
+      had_back after told [],
+      has_back after told [],
+      λ s state held stands. (refl, machine_same s state _ held (back after told []) (subst (λ (k : Kept). StandsBetween s state k held (back after told [])) (sym c.self.view_is) stands) unread),
+    )

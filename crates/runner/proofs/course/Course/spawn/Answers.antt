@@ -40,7 +40,7 @@ returns-clause-ends g c = λ s state left now stands.
     let with_rule : RuleState → Kept = λ rule. record { rule = rule; graph = c.self.inside.graph; monitor = c.self.inside.monitor; reader = c.self.inside.reader; next = c.self.inside.next; under = c.self.inside.under } in
     let is = subst (λ (k : Kept). StandsWithin s state k c.args.world.now left c.args.under) (sym c.self.view_is) stands in
     let inside = spawned_inside s state (with_rule c.self.inside.rule) c.args.world.now left c.args.under is c.args.thread c.requires.4 c.start.new.self c.in_ok-start.ensures.ok in
-    silent s state left c.proceed.new.self c.proceed.new.world left now (λ told. told) (c.proceed.ensures.goes_on s state left inside)
+    silent s state left c.proceed.new.self c.proceed.new.world left now (c.proceed.ensures.goes_on s state left inside)
 
 pub returns-clause-falls : goal.returns-clause-falls
 returns-clause-falls g c = λ under_is.

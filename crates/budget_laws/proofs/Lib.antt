@@ -1,0 +1,9 @@
+pub mod StackLemmas
+pub mod BoundLemmas
+pub mod CountLemmas
+pub mod RestLemmas
+pub mod StepLemmas
+pub mod StartLemmas
+pub mod EnoughLemmas
+pub mod RunLemmas
+pub mod LogLemmas

@@ -1,0 +1,139 @@
+-- What a step of the world leaves of the number of the next thread and of the pool's shape, and when it finds no chunk.
+use Rattle.std.proofs.Common.{◌≡◌, ℕ, ◌+◌, nat_eq, nat_le, length, Option, Some, None, refl, subst, arith, cond}
+use Rattle.std.proofs.lemmas.Bool.{cond_both}
+use Rattle.cap_word.specs.Calls.{Call, Blocking, Immediate}
+use Rattle.cap_word.specs.Runs.{Goes, Asks, Stops}
+use Rattle.cap_word.specs.declared.stops.Stop.{Stop}
+use Rattle.cap_word.specs.declared.traps.TrapKind.{TrapKind}
+use Rattle.c_mean.specs.ModelledCalls.{immediate_row, blocking_row}
+use Rattle.chunk_pool.specs.Pool.{Taken, taken_for, shape_of}
+use Rattle.chunk_pool.proofs.NeedLaws.{taken_for-shape}
+use Rattle.machine_world.specs.Held.{KeepsShape}
+use Rattle.machine_world.specs.Local as local
+use Rattle.machine_world.specs.Local.{Local, LocalMove, Ended, Trapped, NoRoom, Wrong, local_step}
+use Rattle.machine_world.specs.Threads as machine
+use Rattle.machine_world.specs.Threads.{Thread, World, Setting, Move, moved, most_threads, package_call, printed, spawned, unless_trap}
+use Rattle.machine_world.proofs.HeldLaws.{KeepsShape-step}
+
+-- the next number is the same, or one more where a thread has started; the pool has its shape
+pub record Stays (w after : World) (more : ℕ) : Type 0 where
+  pub next : after.next ≡ w.next + more
+  pub shape : shape_of after.areas.pool ≡ shape_of w.areas.pool
+
+abbrev pub StaysAt : World → Move → Type 0
+StaysAt w (machine.Goes after) = Stays w after 0
+StaysAt w (machine.Puts value after) = Stays w after 0
+StaysAt w (machine.Spawns number after) = Stays w after 1
+StaysAt w (machine.Blocks after) = Stays w after 0
+StaysAt w (machine.Ends after) = Stays w after 0
+StaysAt w (machine.Stops stop) = Unit {0}
+StaysAt w machine.Wrong = Unit {0}
+
+module _ (s : Setting) (w : World) (thread : Thread) where
+  stays-trap : (trap : Option TrapKind) (move : Move) → StaysAt w move → StaysAt w (unless_trap trap move)
+  stays-trap (Some kind) move stays = tt
+  stays-trap None move stays = stays
+
+  stays-printed : (value : Option ℕ) (after : World) → Stays w after 0 → StaysAt w (printed value after)
+  stays-printed None after stays = stays
+  stays-printed (Some value) after stays = stays
+
+  stays-call : (call : Call) → StaysAt w (package_call s w thread call)
+  stays-call (Blocking block) = stays-trap (blocking_row s.caps w.exchange block).trap _ (record { next = omega arith; shape = refl })
+  stays-call (Immediate ask) =
+      let row = immediate_row s.caps w.exchange thread.number w.next ask in
+      stays-trap row.trap _ (stays-printed row.prints _ (record { next = omega arith; shape = refl }))
+
+  stays-spawned : (entry argument need : ℕ) (found : Option Taken) → taken_for w.areas.pool need ≡ found → StaysAt w (spawned w thread entry argument found)
+  stays-spawned entry argument need None e = tt
+  stays-spawned entry argument need (Some taken) e = record { next = refl; shape = taken_for-shape w.areas.pool need taken e }
+
+  stays-moved : (move : LocalMove) → KeepsShape (record { areas = w.areas; core = thread.core }) move → StaysAt w (moved s w thread move)
+  stays-moved (Goes after) keeps = record { next = omega arith; shape = keeps }
+  stays-moved (Asks (local.Calls call) still) keeps = stays-call call
+  stays-moved (Asks (local.Starts entry argument need) still) keeps =
+      cond_both (nat_le most_threads (length w.threads)) (machine.Stops Stop.Threads) (spawned w thread entry argument (taken_for w.areas.pool need)) (StaysAt w)
+      (λ _. tt)
+      (λ _. stays-spawned entry argument need (taken_for w.areas.pool need) refl)
+  stays-moved (Stops (Ended areas)) keeps = record { next = omega arith; shape = keeps }
+  stays-moved (Stops (Trapped kind)) keeps = tt
+  stays-moved (Stops NoRoom) keeps = tt
+  stays-moved (Stops Wrong) keeps = tt
+
+  -- what a step of the thread leaves
+  pub stays-step : (move : Move) → cond (nat_eq w.cost s.fuel) (machine.Stops Stop.Fuel) (moved s w thread (local_step s.code (record { areas = w.areas; core = thread.core }))) ≡ move → StaysAt w move
+  stays-step move e =
+      subst (StaysAt w) e
+      (cond_both (nat_eq w.cost s.fuel) (machine.Stops Stop.Fuel) (moved s w thread (local_step s.code (record { areas = w.areas; core = thread.core }))) (StaysAt w)
+      (λ _. tt)
+      (λ _. stays-moved (local_step s.code (record { areas = w.areas; core = thread.core })) (KeepsShape-step s.code (record { areas = w.areas; core = thread.core }))))
+
+  -- ---- where no chunk is found
+
+  -- a local move after which the step of the world stops for want of a chunk
+  abbrev pub FindsNone : LocalMove → Type 0
+  FindsNone (Goes after) = ⊥
+  FindsNone (Asks (local.Calls call) still) = ⊥
+  FindsNone (Asks (local.Starts entry argument need) still) = taken_for w.areas.pool need ≡ None
+  FindsNone (Stops NoRoom) = Unit {0}
+  FindsNone (Stops (Ended areas)) = ⊥
+  FindsNone (Stops (Trapped kind)) = ⊥
+  FindsNone (Stops Wrong) = ⊥
+
+  abbrev HasChunk : Move → Type 0
+  HasChunk (machine.Stops Stop.NoChunk) = ⊥
+  HasChunk (machine.Stops (Stop.Trap kind)) = Unit {0}
+  HasChunk (machine.Stops Stop.Fuel) = Unit {0}
+  HasChunk (machine.Stops Stop.Threads) = Unit {0}
+  HasChunk (machine.Goes after) = Unit {0}
+  HasChunk (machine.Puts value after) = Unit {0}
+  HasChunk (machine.Spawns number after) = Unit {0}
+  HasChunk (machine.Blocks after) = Unit {0}
+  HasChunk (machine.Ends after) = Unit {0}
+  HasChunk machine.Wrong = Unit {0}
+
+  has-trap : (trap : Option TrapKind) (move : Move) → HasChunk move → HasChunk (unless_trap trap move)
+  has-trap (Some kind) move has = tt
+  has-trap None move has = has
+
+  has-printed : (value : Option ℕ) (after : World) → HasChunk (printed value after)
+  has-printed None after = tt
+  has-printed (Some value) after = tt
+
+  has-call : (call : Call) → HasChunk (package_call s w thread call)
+  has-call (Blocking block) = has-trap (blocking_row s.caps w.exchange block).trap _ tt
+  has-call (Immediate ask) =
+      let row = immediate_row s.caps w.exchange thread.number w.next ask in
+      has-trap row.trap _ (has-printed row.prints _)
+
+  -- a move that finds a chunk, or one that finds none
+  abbrev OneOf : LocalMove → Move → Type 0
+  OneOf local move = (move ≡ machine.Stops Stop.NoChunk) → FindsNone local
+
+  of-has : (local : LocalMove) (move : Move) → HasChunk move → OneOf local move
+  of-has local move has e = absurd (subst HasChunk e has)
+
+  one-spawned : (entry argument need : ℕ) (still : Local) (found : Option Taken) → taken_for w.areas.pool need ≡ found → OneOf (Asks (local.Starts entry argument need) still) (spawned w thread entry argument found)
+  one-spawned entry argument need still None e none = e
+  one-spawned entry argument need still (Some taken) e none = absurd (subst HasChunk none tt)
+
+  one-moved : (move : LocalMove) → OneOf move (moved s w thread move)
+  one-moved (Goes after) = of-has (Goes after) _ tt
+  one-moved (Asks (local.Calls call) still) = of-has (Asks (local.Calls call) still) _ (has-call call)
+  one-moved (Asks (local.Starts entry argument need) still) =
+      cond_both (nat_le most_threads (length w.threads)) (machine.Stops Stop.Threads) (spawned w thread entry argument (taken_for w.areas.pool need)) (OneOf (Asks (local.Starts entry argument need) still))
+      (λ _. of-has (Asks (local.Starts entry argument need) still) (machine.Stops Stop.Threads) tt)
+      (λ _. one-spawned entry argument need still (taken_for w.areas.pool need) refl)
+  one-moved (Stops (Ended areas)) = of-has (Stops (Ended areas)) _ tt
+  one-moved (Stops (Trapped kind)) = of-has (Stops (Trapped kind)) _ tt
+  one-moved (Stops NoRoom) = λ e. tt
+  one-moved (Stops Wrong) = of-has (Stops Wrong) _ tt
+
+  -- a step stops for want of a chunk only at a LINK or where a thread is about to start
+  pub finds-none : cond (nat_eq w.cost s.fuel) (machine.Stops Stop.Fuel) (moved s w thread (local_step s.code (record { areas = w.areas; core = thread.core }))) ≡ machine.Stops Stop.NoChunk →
+      FindsNone (local_step s.code (record { areas = w.areas; core = thread.core }))
+  finds-none e =
+      cond_both (nat_eq w.cost s.fuel) (machine.Stops Stop.Fuel) (moved s w thread (local_step s.code (record { areas = w.areas; core = thread.core })))
+      (OneOf (local_step s.code (record { areas = w.areas; core = thread.core })))
+      (λ _. of-has (local_step s.code (record { areas = w.areas; core = thread.core })) (machine.Stops Stop.Fuel) tt)
+      (λ _. one-moved (local_step s.code (record { areas = w.areas; core = thread.core }))) e

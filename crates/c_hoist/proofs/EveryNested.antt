@@ -1,0 +1,63 @@
+-- The laws of source texts, where a call may stand inside an expression.
+use Rattle.std.proofs.Common.{ℕ, ◌≡◌, ◌≢◌, ◌⊎◌, sym, ◌∙◌, List, Result}
+use Rattle.std.specs.Prelude.{IfOk, IfErr, IsErrOf, MatchResult}
+use Rattle.c_lex.specs.declared.tokens.Token.{Token}
+use Rattle.c_lex.specs.declared.tokens.LexError.{LexError}
+use Rattle.c_lex.specs.Tokens.{AreTokensOf, IsLexErrorOf}
+use Rattle.c_tree.specs.RawTrees.{RawItemTree}
+use Rattle.c_tree.specs.Trees.{ProgramTree}
+use Rattle.c_tree.specs.ProgramView.{program_tree}
+use Rattle.c_tree.specs.declared.programs.Program.{Program}
+use Rattle.c_grammar.specs.declared.errors.ParseError.{ParseError}
+use Rattle.c_parse.specs.ForParts.{AreForPartsWhole, nested_in_fors}
+use Rattle.c_parse.specs.Parsed.{IsParsedNested, IsNestedErrorOf}
+use Rattle.c_parse.proofs.ForWhole.{for_parts_whole, for_parts_none}
+use Rattle.scope_rules.specs.declared.errors.ScopeError.{ScopeError}
+use Rattle.scope_rules.specs.Outcomes.{IsNoMemory}
+use Rattle.scope_rules.proofs.Made.{in_order}
+use Rattle.scope_rules.proofs.OneOutcome.{never_both, one_refusal}
+use Rattle.c_scope.specs.declared.source_errors.SourceError.{SourceError}
+use Rattle.c_scope.specs.declared.source_errors.SourceError.TheVariants as refusals
+use Rattle.c_scope.specs.SourceText.{by_lex, by_parse, by_scope}
+use Rattle.c_scope.proofs.SourceTexts as texts
+use Rattle.grammar_places.specs.Ranks.{site_numbers}
+use Rattle.hoist_rules.specs.Statements.{items_hoisted}
+use Rattle.c_hoist.specs.NestedText.{IsHoistedTo, IsRefusedHoisted, ReadsNested, IsNestedSourceErrorOf}
+
+one_hoisted : (t : List RawItemTree) (p q : ProgramTree) → IsHoistedTo t p → IsHoistedTo t q → p ≡ q
+one_hoisted t p q h k = h.tree ∙ sym k.tree
+
+never_hoisted : (t : List RawItemTree) (p : ProgramTree) (x : ScopeError) → IsHoistedTo t p → IsRefusedHoisted t x → IsNoMemory x → ⊥
+never_hoisted t p x h k n = never_both (items_hoisted t) _ x (in_order (site_numbers (items_hoisted t)) (items_hoisted t) p h) k n
+
+one_refused : (t : List RawItemTree) (x y : ScopeError) → IsRefusedHoisted t x → IsNoMemory x → IsRefusedHoisted t y → IsNoMemory y → x ≡ y
+one_refused t x y = one_refusal (items_hoisted t) x y
+
+pub no_tokens : (source : List ℕ) (e : LexError) → (e ≢ LexError.Memory → IsLexErrorOf source e) → by_lex e ≢ refusals.Memory → IsNestedSourceErrorOf source (by_lex e)
+no_tokens = texts.no_tokens AreForPartsWhole nested_in_fors for_parts_whole for_parts_none IsHoistedTo IsRefusedHoisted one_hoisted never_hoisted one_refused
+
+pub no_tree : (source : List ℕ) (tokens : List Token) (e : ParseError) → AreTokensOf source tokens → (e ≢ ParseError.Memory → IsNestedErrorOf source tokens e) → by_parse e ≢ refusals.Memory → IsNestedSourceErrorOf source (by_parse e)
+no_tree = texts.no_tree AreForPartsWhole nested_in_fors for_parts_whole for_parts_none IsHoistedTo IsRefusedHoisted one_hoisted never_hoisted one_refused
+
+pub no_program : (source : List ℕ) (tokens : List Token) (tree : List RawItemTree) (e : ScopeError) → AreTokensOf source tokens → IsParsedNested source tokens tree → IsRefusedHoisted tree e → by_scope e ≢ refusals.Memory → IsNestedSourceErrorOf source (by_scope e)
+no_program = texts.no_program AreForPartsWhole nested_in_fors for_parts_whole for_parts_none IsHoistedTo IsRefusedHoisted one_hoisted never_hoisted one_refused
+
+pub reads_as : (source : List ℕ) (tokens : List Token) (tree : List RawItemTree) (p : ProgramTree) → AreTokensOf source tokens → IsParsedNested source tokens tree → IsHoistedTo tree p → ReadsNested source p
+reads_as = texts.reads_as AreForPartsWhole nested_in_fors for_parts_whole for_parts_none IsHoistedTo IsRefusedHoisted one_hoisted never_hoisted one_refused
+
+pub never : (source : List ℕ) (p : ProgramTree) (e : SourceError) → ReadsNested source p → IsNestedSourceErrorOf source e → ⊥
+never = texts.never AreForPartsWhole nested_in_fors for_parts_whole for_parts_none IsHoistedTo IsRefusedHoisted one_hoisted never_hoisted one_refused
+
+pub one_source_error : (source : List ℕ) (e d : SourceError) → IsNestedSourceErrorOf source e → IsNestedSourceErrorOf source d → e ≡ d
+one_source_error = texts.one_source_error AreForPartsWhole nested_in_fors for_parts_whole for_parts_none IsHoistedTo IsRefusedHoisted one_hoisted never_hoisted one_refused
+
+pub one_program : (source : List ℕ) (p q : ProgramTree) → ReadsNested source p → ReadsNested source q → p ≡ q
+one_program = texts.one_program AreForPartsWhole nested_in_fors for_parts_whole for_parts_none IsHoistedTo IsRefusedHoisted one_hoisted never_hoisted one_refused
+
+pub only_program : (source : List ℕ) (r : Result Program SourceError) → IfOk r (λ p. ReadsNested source (program_tree p)) → IfErr r (λ e. e ≢ refusals.Memory → IsNestedSourceErrorOf source e)
+    → (p : ProgramTree) → ReadsNested source p → MatchResult r (λ q. program_tree q ≡ p) (λ e. e ≡ refusals.Memory)
+only_program = texts.only_program AreForPartsWhole nested_in_fors for_parts_whole for_parts_none IsHoistedTo IsRefusedHoisted one_hoisted never_hoisted one_refused
+
+pub only_refusal : (source : List ℕ) (r : Result Program SourceError) → IfOk r (λ p. ReadsNested source (program_tree p)) → IfErr r (λ e. e ≢ refusals.Memory → IsNestedSourceErrorOf source e)
+    → (e : SourceError) → IsNestedSourceErrorOf source e → IsErrOf r e ⊎ IsErrOf r refusals.Memory
+only_refusal = texts.only_refusal AreForPartsWhole nested_in_fors for_parts_whole for_parts_none IsHoistedTo IsRefusedHoisted one_hoisted never_hoisted one_refused

@@ -1,0 +1,77 @@
+-- A source in which each call is whole stays as it is.
+use Rattle.std.proofs.Common.{ℕ, ◌+◌, ◌≡◌, refl, ap, ◌∙◌, List, [], ◌∷◌, Option, Some, None}
+use Rattle.c_tree.specs.RawTrees.{RawExprTree, RawStmtTree, RawStmtTrees, RawDo, RawEmpty, RawBlock, RawIf, RawIfElse, RawWhile, RawFor, RawBreak, RawContinue, RawReturn, NoRawStmts, RawThen, RawItemTree, RawGlobal, RawGlobalArray, RawTableItem, RawPrototypeItem, RawFunctionItem}
+use Rattle.c_tree.specs.RawViews.{raw_in_order}
+use Rattle.c_tree.specs.WholeCalls.{IsReturnWhole, IsStmtWhole, AreStmtsWhole, IsItemWhole, AreCallsWhole}
+use Rattle.c_parse.specs.ForParts.{IsForWhole, AreForsWhole, IsItemForWhole, AreForPartsWhole}
+use Rattle.hoist_rules.specs.Expressions.{names_in}
+use Rattle.hoist_rules.specs.Statements.{stmt_names, returned_before, returned_left, hoisted, all_hoisted, item_hoisted, items_hoisted}
+use Rattle.hoist_rules.proofs.NoCalls.{no_left, no_before}
+use Rattle.hoist_rules.proofs.Kept.{held_not, value_kept, no_value_before, simple_kept, no_simple_before}
+
+returned_kept : (k : ℕ) (v : Option RawExprTree) → IsReturnWhole v → returned_left k v ≡ v
+returned_kept k None h = refl
+returned_kept k (Some v) h = ap Some (value_kept k v h)
+
+no_returned_before : (k : ℕ) (v : Option RawExprTree) → IsReturnWhole v → returned_before k v ≡ []
+no_returned_before k None h = refl
+no_returned_before k (Some v) h = no_value_before k v h
+
+mutual
+  stmt_kept : (k : ℕ) (s : RawStmtTree) → IsStmtWhole s → hoisted k s ≡ s ∷ []
+  stmt_kept k (RawDo s) h = rw (no_simple_before k s h, simple_kept k s h) refl
+  stmt_kept k RawEmpty h = refl
+  stmt_kept k (RawBlock ss) h = ap (λ x. RawBlock x ∷ []) (stmts_kept k ss h)
+  stmt_kept k (RawIf c s) h = rw (no_before k c (held_not c h.0), no_left k c (held_not c h.0), stmt_kept (k + names_in c) s h.1) refl
+  stmt_kept k (RawIfElse c s r) h =
+      rw (no_before k c (held_not c h.0), no_left k c (held_not c h.0), stmt_kept (k + names_in c) s h.1, stmt_kept (k + names_in c + stmt_names s) r h.2) refl
+  stmt_kept k (RawWhile c s) h = rw (held_not c h.0, stmt_kept k s h.1) refl
+  stmt_kept k (RawFor init c step s) h = rw (stmt_kept k s h.3) refl
+  stmt_kept k (RawBreak at) h = refl
+  stmt_kept k (RawContinue at) h = refl
+  stmt_kept k (RawReturn at v) h = rw (no_returned_before k v h, returned_kept k v h) refl
+
+  stmts_kept : (k : ℕ) (ss : RawStmtTrees) → AreStmtsWhole ss → raw_in_order (all_hoisted k ss) ≡ ss
+  stmts_kept k NoRawStmts h = refl
+  stmts_kept k (RawThen s ss) h = rw (stmt_kept k s h.0) (ap (RawThen s) (stmts_kept (k + stmt_names s) ss h.1))
+
+item_kept : (i : RawItemTree) → IsItemWhole i → item_hoisted i ≡ i
+item_kept (RawGlobal n start) h = refl
+item_kept (RawGlobalArray n size) h = refl
+item_kept (RawTableItem n size members) h = refl
+item_kept (RawPrototypeItem gives n params) h = refl
+item_kept (RawFunctionItem gives n params body) h = ap (RawFunctionItem gives n params) (stmts_kept 0 body h)
+
+pub items_kept : (is : List RawItemTree) → AreCallsWhole is → items_hoisted is ≡ is
+items_kept [] h = refl
+items_kept (i ∷ is) h = ap (λ x. x ∷ items_hoisted is) (item_kept i h.0) ∙ ap (λ x. i ∷ x) (items_kept is h.1)
+
+-- ---- each call in the parentheses of a `for` is whole too
+
+mutual
+  stmt_for : (s : RawStmtTree) → IsStmtWhole s → IsForWhole s
+  stmt_for (RawDo s) h = tt
+  stmt_for RawEmpty h = tt
+  stmt_for (RawBlock ss) h = stmts_for ss h
+  stmt_for (RawIf c s) h = stmt_for s h.1
+  stmt_for (RawIfElse c s r) h = (stmt_for s h.1, stmt_for r h.2)
+  stmt_for (RawWhile c s) h = stmt_for s h.1
+  stmt_for (RawFor init c step s) h = (h.0, h.1, h.2, stmt_for s h.3)
+  stmt_for (RawBreak at) h = tt
+  stmt_for (RawContinue at) h = tt
+  stmt_for (RawReturn at v) h = tt
+
+  stmts_for : (ss : RawStmtTrees) → AreStmtsWhole ss → AreForsWhole ss
+  stmts_for NoRawStmts h = tt
+  stmts_for (RawThen s ss) h = (stmt_for s h.0, stmts_for ss h.1)
+
+item_for : (i : RawItemTree) → IsItemWhole i → IsItemForWhole i
+item_for (RawGlobal n start) h = tt
+item_for (RawGlobalArray n size) h = tt
+item_for (RawTableItem n size members) h = tt
+item_for (RawPrototypeItem gives n params) h = tt
+item_for (RawFunctionItem gives n params body) h = stmts_for body h
+
+pub parts_whole : (is : List RawItemTree) → AreCallsWhole is → AreForPartsWhole is
+parts_whole [] h = tt
+parts_whole (i ∷ is) h = (item_for i h.0, parts_whole is h.1)

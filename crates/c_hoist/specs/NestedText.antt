@@ -1,0 +1,29 @@
+-- What a source text is where calls may stand inside expressions: the one definition of which program its bytes are, and of what they
+-- are refused for.
+use Rattle.std.specs.Prelude.{ℕ, List}
+use Rattle.c_tree.specs.RawTrees.{RawItemTree}
+use Rattle.c_tree.specs.Trees.{ProgramTree}
+use Rattle.c_parse.specs.ForParts.{AreForPartsWhole, nested_in_fors}
+use Rattle.scope_rules.specs.declared.errors.ScopeError.{ScopeError}
+use Rattle.scope_rules.specs.Outcomes.{IsRefused}
+use Rattle.scope_rules.specs.Numbered.{IsResolvedBy}
+use Rattle.c_scope.specs.declared.source_errors.SourceError.{SourceError}
+use Rattle.c_scope.specs.SourceText.{ReadsWhere, IsSourceErrorWhere}
+use Rattle.hoist_rules.specs.Statements.{items_hoisted}
+use Rattle.grammar_places.specs.Ranks.{site_numbers}
+
+-- The rewritten tree breaks no rule of scope, defines `main` and exceeds no limit, and the program is that tree with numbers in the
+-- place of its names. The numbers of its calls are those of their names' places in the text.
+abbrev pub IsHoistedTo : List RawItemTree → ProgramTree → Type 0
+IsHoistedTo tree program = IsResolvedBy (site_numbers (items_hoisted tree)) (items_hoisted tree) program
+
+abbrev pub IsRefusedHoisted : List RawItemTree → ScopeError → Type 0
+IsRefusedHoisted tree error = IsRefused (items_hoisted tree) error
+
+-- the source reads as this program: every call in the parentheses of a `for` is whole
+abbrev pub ReadsNested : List ℕ → ProgramTree → Type 0
+ReadsNested source program = ReadsWhere AreForPartsWhole IsHoistedTo source program
+
+-- what the source is refused for
+abbrev pub IsNestedSourceErrorOf : List ℕ → SourceError → Type 0
+IsNestedSourceErrorOf source error = IsSourceErrorWhere AreForPartsWhole nested_in_fors IsRefusedHoisted source error

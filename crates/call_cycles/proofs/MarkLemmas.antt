@@ -1,0 +1,154 @@
+-- Marks that are set, and the list of what was marked.
+use Rattle.std.proofs.Common.{◌≡◌, ◌≢◌, inl, inr, ⊎_elim, ◌⊎◌, ℕ, zero, suc, ◌+◌, ◌<◌, ◌≤◌, ◌==◌, ◌||◌, Bool, true, false, if◌then◌else◌, List, [], ◌∷◌, ◌++◌, length, length-append, set, take, get_or, refl, sym, ap, ◌∙◌, subst, arith}
+use Rattle.std.specs.Prelude.{Some, slice_get, slice_index}
+use Rattle.std.proofs.lemmas.Bool.{cases_lt}
+use Rattle.std.proofs.lemmas.Bool.Decides.{nat_tests}
+use Rattle.std.proofs.lemmas.List.{length-set, get_or-set_same, get_or-set_other, get_or_past, take_all}
+use Rattle.std.proofs.lemmas.List.Folds.{list_any-append, list_any_more}
+use Rattle.std.proofs.lemmas.Option.{slice_get_within, same_Some}
+use Rattle.flat_code.specs.declared.operations.Op.{Op}
+use Rattle.flat_code.specs.Codes.{FlatCode, function_at, operation_at}
+use Rattle.call_graph.specs.Lists.{has}
+use Rattle.call_graph.proofs.ListLemmas.{by_test}
+use Rattle.call_graph.proofs.IndexLemmas.{by_eq}
+use Rattle.cycle_break.proofs.NumberLemmas.{has-head, has-cases, true_false}
+use Rattle.call_cycles.specs.Cycles.{functions_called, Calls}
+use Rattle.call_cycles.specs.Marks.{is_marked, unmarked, Marks}
+
+-- ---- numbers in lists
+
+pub has-left : (n : ℕ) (xs ys : List ℕ) → has n xs ≡ true → has n (xs ++ ys) ≡ true
+has-left n xs ys h = list_any-append (λ x. x == n) xs ys ∙ rw h refl
+
+pub has-last : (n : ℕ) (xs : List ℕ) → has n (xs ++ n ∷ []) ≡ true
+has-last n xs = list_any-append (λ x. x == n) xs (n ∷ []) ∙ by_test (has n xs) (λ t. rw t refl) (λ f. rw (f, has-head n []) refl)
+
+pub has-either : (n x : ℕ) (xs : List ℕ) → has n (xs ++ x ∷ []) ≡ true → (has n xs ≡ true) ⊎ (x ≡ n)
+has-either n x xs h =
+    by_test (has n xs) (λ t. inl t)
+    (λ f. let last : has n (x ∷ []) ≡ true = let both = sym (list_any-append (λ y. y == n) xs (x ∷ [])) ∙ h in rw f at both in
+    inr (has-cases n x [] last (λ e. e) (λ none. true_false false none refl)))
+
+-- ---- marks
+
+pub marked-below : (marks : List Bool) (g : ℕ) → is_marked marks g ≡ true → g < length marks
+marked-below marks g h = ⊎_elim (λ lt. lt) (λ le. true_false (is_marked marks g) h (get_or_past marks g false le)) (cases_lt g (length marks))
+
+unmarked-set : (marks : List Bool) (g : ℕ) → g < length marks → is_marked marks g ≡ false → unmarked marks ≡ suc (unmarked (set marks g true))
+unmarked-set [] g within out = absurd (omega arith)
+unmarked-set (b ∷ bs) zero within out = rw out (omega arith)
+unmarked-set (b ∷ bs) (suc g) within out = let rest : unmarked bs ≡ suc (unmarked (set bs g true)) = unmarked-set bs g (omega arith) out in omega (arith, rest)
+
+-- nothing is marked
+pub marks-none : (P : ℕ → Type 0) (marks : List Bool) (left : List ℕ) → ((g : ℕ) → P g → is_marked marks g ≡ true) → Marks P marks left marks left
+marks-none P marks left all = record {
+  each = refl;
+  done = all;
+  kept = λ g h. h;
+  from = λ g h. inl h;
+  later = λ g h. inl h;
+  still = λ g h. h;
+  added = λ g h. inl h;
+  work = refl;
+}
+
+-- one function is marked
+pub marks-one : (f : ℕ) (marks : List Bool) (left : List ℕ) → f < length marks → is_marked marks f ≡ false → Marks (λ g. g ≡ f) marks left (set marks f true) (left ++ f ∷ [])
+marks-one f marks left within out =
+    let here : is_marked (set marks f true) f ≡ true = get_or-set_same marks f true false within in
+    let work = unmarked-set marks f within out in
+    let more : length (left ++ f ∷ []) ≡ length left + 1 = length-append left (f ∷ []) in
+    record {
+      each = length-set marks f true;
+      done = λ g e. subst (λ n. is_marked (set marks f true) n ≡ true) (sym e) here;
+      kept = λ g h. by_eq g f (λ e. subst (λ n. is_marked (set marks f true) n ≡ true) (sym e) here) (λ ne. get_or-set_other marks f g true false ne ∙ h);
+      from = λ g h. by_eq g f (λ e. inr e) (λ ne. inl (sym (get_or-set_other marks f g true false ne) ∙ h));
+      later = λ g h. by_eq g f (λ e. inr (subst (λ n. has n (left ++ f ∷ []) ≡ true) (sym e) (has-last f left))) (λ ne. inl (sym (get_or-set_other marks f g true false ne) ∙ h));
+      still = λ g h. has-left g left (f ∷ []) h;
+      added = λ g h. ⊎_elim (λ before. inl before) (λ e. inr (subst (λ n. is_marked (set marks f true) n ≡ true) e here)) (has-either g f left h);
+      work = omega (arith, work, more);
+    }
+
+-- some functions are marked, and then others
+pub marks-then : (P Q R : ℕ → Type 0) (m : List Bool) (l : List ℕ) (m1 : List Bool) (l1 : List ℕ) (m2 : List Bool) (l2 : List ℕ) →
+    ((g : ℕ) → R g → P g ⊎ Q g) → ((g : ℕ) → P g → R g) → ((g : ℕ) → Q g → R g) → Marks P m l m1 l1 → Marks Q m1 l1 m2 l2 → Marks R m l m2 l2
+marks-then P Q R m l m1 l1 m2 l2 split first second a b = record {
+  each = b.each ∙ a.each;
+  done = λ g r. ⊎_elim (λ p. b.kept g (a.done g p)) (λ q. b.done g q) (split g r);
+  kept = λ g h. b.kept g (a.kept g h);
+  from = λ g h. ⊎_elim (λ was. ⊎_elim (λ old. inl old) (λ p. inr (first g p)) (a.from g was)) (λ q. inr (second g q)) (b.from g h);
+  later = λ g h. ⊎_elim (λ was. ⊎_elim (λ old. inl old) (λ there. inr (b.still g there)) (a.later g was)) (λ there. inr there) (b.later g h);
+  still = λ g h. b.still g (a.still g h);
+  added = λ g h. ⊎_elim (λ was. ⊎_elim (λ old. inl old) (λ marked. inr (b.kept g marked)) (a.added g was)) (λ marked. inr marked) (b.added g h);
+  work = b.work ∙ a.work;
+}
+
+pub marks-same : (P Q : ℕ → Type 0) (m : List Bool) (l : List ℕ) (m' : List Bool) (l' : List ℕ) → ((g : ℕ) → P g → Q g) → ((g : ℕ) → Q g → P g) → Marks P m l m' l' → Marks Q m l m' l'
+marks-same P Q m l m' l' to from marks = record {
+  each = marks.each;
+  done = λ g q. marks.done g (from g q);
+  kept = marks.kept;
+  from = λ g h. ⊎_elim (λ was. inl was) (λ p. inr (to g p)) (marks.from g h);
+  later = marks.later;
+  still = marks.still;
+  added = marks.added;
+  work = marks.work;
+}
+
+-- ---- the loop over some functions
+
+pub has-more : (n : ℕ) (xs : List ℕ) (i : ℕ) → i < length xs → has n (take (i + 1) xs) ≡ true → (has n (take i xs) ≡ true) ⊎ (n ≡ get_or xs i 0)
+has-more n xs i within h =
+    by_test (has n (take i xs)) (λ t. inl t)
+    (λ f. let here : (get_or xs i 0 == n) ≡ true = let both = sym (list_any_more (λ x. x == n) xs i 0 within) ∙ h in rw f at both in
+    inr (grind (arith, nat_tests)))
+
+pub has-before : (n : ℕ) (xs : List ℕ) (i : ℕ) → i < length xs → has n (take i xs) ≡ true → has n (take (i + 1) xs) ≡ true
+has-before n xs i within h = list_any_more (λ x. x == n) xs i 0 within ∙ rw h refl
+
+pub has-here : (n : ℕ) (xs : List ℕ) (i : ℕ) → i < length xs → n ≡ get_or xs i 0 → has n (take (i + 1) xs) ≡ true
+has-here n xs i within e =
+    let here : (get_or xs i 0 == n) ≡ true = grind (arith, nat_tests) in
+    list_any_more (λ x. x == n) xs i 0 within ∙ by_test (has n (take i xs)) (λ t. rw t refl) (λ f. rw (f, here) refl)
+
+pub each-more : (functions : List ℕ) (i f : ℕ) (m : List Bool) (l : List ℕ) (m1 : List Bool) (l1 : List ℕ) (m2 : List Bool) (l2 : List ℕ) → i < length functions → f ≡ get_or functions i 0 →
+    Marks (λ g. has g (take i functions) ≡ true) m l m1 l1 → Marks (λ g. g ≡ f) m1 l1 m2 l2 → Marks (λ g. has g (take (i + 1) functions) ≡ true) m l m2 l2
+each-more functions i f m l m1 l1 m2 l2 within is a b =
+    marks-then (λ g. has g (take i functions) ≡ true) (λ g. g ≡ f) (λ g. has g (take (i + 1) functions) ≡ true) m l m1 l1 m2 l2
+    (λ g h. ⊎_elim (λ before. inl before) (λ e. inr (e ∙ sym is)) (has-more g functions i within h))
+    (λ g h. has-before g functions i within h)
+    (λ g e. has-here g functions i within (e ∙ is)) a b
+
+pub each-over : (functions : List ℕ) (i : ℕ) (m : List Bool) (l : List ℕ) (m' : List Bool) (l' : List ℕ) → length functions ≤ i →
+    Marks (λ g. has g (take i functions) ≡ true) m l m' l' → Marks (λ g. has g functions ≡ true) m l m' l'
+each-over functions i m l m' l' le marks = subst (λ fs. Marks (λ g. has g fs ≡ true) m l m' l') (take_all i functions le) marks
+
+-- ---- the loop over the operations of a function
+
+-- one of the first so many operations calls a function
+pub record CallsBefore (ops : List Op) (code : FlatCode) (end g : ℕ) : Type 0 where
+  pub k : ℕ
+  pub before : k < end
+  pub op : Op
+  pub there : slice_get ops k ≡ Some op
+  pub called : has g (functions_called code op) ≡ true
+
+pub ops-none : (ops : List Op) (code : FlatCode) (marks : List Bool) (left : List ℕ) → Marks (CallsBefore ops code 0) marks left marks left
+ops-none ops code marks left = marks-none (CallsBefore ops code 0) marks left (λ g h. absurd (let lt = h.before in omega arith))
+
+pub ops-more : (ops : List Op) (code : FlatCode) (i : ℕ) (op : Op) (m : List Bool) (l : List ℕ) (m1 : List Bool) (l1 : List ℕ) (m2 : List Bool) (l2 : List ℕ) → slice_get ops i ≡ Some op →
+    Marks (CallsBefore ops code i) m l m1 l1 → Marks (λ g. has g (functions_called code op) ≡ true) m1 l1 m2 l2 → Marks (CallsBefore ops code (i + 1)) m l m2 l2
+ops-more ops code i op m l m1 l1 m2 l2 at a b =
+    marks-then (CallsBefore ops code i) (λ g. has g (functions_called code op) ≡ true) (CallsBefore ops code (i + 1)) m l m1 l1 m2 l2
+    (λ g h. by_eq h.k i
+    (λ e. let same : h.op ≡ op = same_Some h.op op (sym h.there ∙ (ap (slice_get ops) e ∙ at)) in inr (subst (λ o. has g (functions_called code o) ≡ true) same h.called))
+    (λ ne. inl (record { k = h.k; before = (let lt = h.before in omega (arith, lt, ne)); op = h.op; there = h.there; called = h.called })))
+    (λ g h. record { k = h.k; before = (let lt = h.before in omega (arith, lt)); op = h.op; there = h.there; called = h.called })
+    (λ g h. record { k = i; before = omega arith; op = op; there = at; called = h }) a b
+
+pub ops-over : (code : FlatCode) (f i : ℕ) (m : List Bool) (l : List ℕ) (m' : List Bool) (l' : List ℕ) → length (function_at code f).ops ≤ i →
+    Marks (CallsBefore (function_at code f).ops code i) m l m' l' → Marks (Calls code f) m l m' l'
+ops-over code f i m l m' l' le marks =
+    marks-same (CallsBefore (function_at code f).ops code i) (Calls code f) m l m' l'
+    (λ g h. record { k = h.k; op = h.op; there = h.there; called = h.called })
+    (λ g h. record { k = h.k; before = (let lt = slice_get_within (function_at code f).ops h.k h.op h.there in omega (arith, lt, le)); op = h.op; there = h.there; called = h.called }) marks

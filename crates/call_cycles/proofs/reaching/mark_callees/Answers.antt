@@ -1,0 +1,23 @@
+use Rattle.std.proofs.Common.{◌≡◌, List, length, refl, ap, ◌∙◌, subst, arith}
+use Rattle.std.proofs.lemmas.Option.{slice_get_read}
+use Rattle.flat_code.specs.declared.operations.Op.{Op}
+use Rattle.flat_code.specs.Codes.{function_at}
+use Rattle.flat_code.specs.ProgramView.{program_code}
+use Rattle.call_cycles.specs.Marks.{Marks}
+use Rattle.call_cycles.proofs.MarkLemmas.{CallsBefore, ops-more, ops-over}
+use Rattle.call_cycles.proofs.reaching.mark_callees.Goals as goal
+
+pub loop-op-preserved : goal.loop-op-preserved
+loop-op-preserved c =
+    let ops = c.as_slice-ops.result.now in
+    let i = c.loop-op.op-index in
+    ops-more ops (program_code c.args.flat.now) i c.op-item.result c.args.marks.now c.args.left.now.items c.loop-op.marks c.loop-op.left.items c.mark_called.new.marks c.mark_called.new.left.items
+    (slice_get_read ops (length ops) i c.op-item.result refl c.loop-op-test.true c.op-item.is) c.loop-op.invariant c.in_ok-mark_called.ensures
+
+pub returns : goal.returns
+returns c =
+    let code = program_code c.args.flat.now in
+    let i = c.loop-op.op-index in
+    let same : c.as_slice-ops.result.now ≡ (function_at code c.args.function).ops = c.as_slice-ops.ensures ∙ ap (λ f. f.ops) c.function_of.ensures.value in
+    ops-over code c.args.function i c.args.marks.now c.args.left.now.items c.loop-op.marks c.loop-op.left.items (omega (arith, ap length same, c.loop-op-test.false))
+    (subst (λ (ops : List Op). Marks (CallsBefore ops code i) c.args.marks.now c.args.left.now.items c.loop-op.marks c.loop-op.left.items) same c.loop-op.invariant)

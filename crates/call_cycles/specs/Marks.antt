@@ -1,0 +1,24 @@
+-- Functions that are marked once, and kept in a list until they were looked at.
+use Rattle.std.specs.Prelude.{ℕ, ◌≡◌, ◌⊎◌, ◌+◌, Bool, true, false, if◌then◌else◌, List, [], ◌∷◌, length}
+use Rattle.std.specs.List.{slice_index_or}
+use Rattle.call_graph.specs.Lists.{has}
+
+-- whether a function is marked
+abbrev pub is_marked : List Bool → ℕ → Bool
+is_marked marks f = slice_index_or marks f false
+
+-- how many functions aren't marked
+abbrev pub unmarked : List Bool → ℕ
+unmarked [] = 0
+unmarked (b ∷ bs) = (if b then 0 else 1) + unmarked bs
+
+-- each function with P is marked, and those that weren't before are added to a list
+pub record Marks (P : ℕ → Type 0) (marks : List Bool) (left : List ℕ) (marks' : List Bool) (left' : List ℕ) : Type 0 where
+  pub each : length marks' ≡ length marks
+  pub done : (g : ℕ) → P g → is_marked marks' g ≡ true
+  pub kept : (g : ℕ) → is_marked marks g ≡ true → is_marked marks' g ≡ true
+  pub from : (g : ℕ) → is_marked marks' g ≡ true → (is_marked marks g ≡ true) ⊎ P g
+  pub later : (g : ℕ) → is_marked marks' g ≡ true → (is_marked marks g ≡ true) ⊎ (has g left' ≡ true)
+  pub still : (g : ℕ) → has g left ≡ true → has g left' ≡ true
+  pub added : (g : ℕ) → has g left' ≡ true → (has g left ≡ true) ⊎ (is_marked marks' g ≡ true)
+  pub work : unmarked marks' + length left' ≡ unmarked marks + length left

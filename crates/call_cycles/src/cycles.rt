@@ -1,0 +1,57 @@
+ghost use Rattle.std.specs.Prelude.{◌≡◌, ◌<◌, ◌≤◌, ◌^◌, true, false, length, IfOk};
+ghost use Rattle.flat_code.specs.ProgramView.{program_code};
+ghost use Rattle.call_cycles.specs.Cycles.{IsOnCycle, IsLeastOf};
+ghost use Rattle.call_cycles.specs.Orders.{IsGraph};
+
+use crate::reaching::mark_callees;
+use call_graph::CallGraph;
+use cycle_break::back_edges;
+use flat_code::FlatProgram;
+use std::alloc::{AllocError, Global};
+
+// Whether calls lead from a function back to itself: all that it reaches by calls is marked.
+fn is_on_cycle(alloc: Global, flat: &FlatProgram, function: u32) -> Result<bool, AllocError>
+    requires { function < length (program_code flat.now).functions }
+    ensures found { IfOk result (λ found. found ≡ true → IsOnCycle (program_code flat.now) function) }
+    ensures none { IfOk result (λ found. found ≡ false → IsOnCycle (program_code flat.now) function → ⊥) }
+{
+    let mut of_functions = vec![in alloc; false; flat.functions().len()]?;
+    let marks = of_functions.as_mut_slice();
+    let mut left = Vec::new(alloc);
+    mark_callees(flat, function, marks, &mut left)?;
+    while let Some(next) = left.pop() {
+        mark_callees(flat, next, marks, &mut left)?;
+    }
+    Ok(marks[function as usize])
+}
+
+// The least function that lies on a cycle, found by a walk from each function.
+fn least_on_cycle(alloc: Global, flat: &FlatProgram) -> Result<Option<u32>, AllocError>
+    requires { length (program_code flat.now).functions ≤ 2 ^ 32 }
+    ensures { IfOk result (IsLeastOf (IsOnCycle (program_code flat.now))) }
+{
+    for number in 0..flat.functions().len() {
+        let function = number as u32;
+        if is_on_cycle(alloc, flat, function)? {
+            return Ok(Some(function));
+        }
+    }
+    Ok(None)
+}
+
+// The least function of a program that lies on a cycle. A graph without back edges has none.
+pub(crate) fn cycle_of(
+    alloc: Global,
+    flat: &FlatProgram,
+    graph: &CallGraph,
+) -> Result<Option<u32>, AllocError>
+    requires graph { IsGraph (program_code flat.now) graph.now }
+    requires few { length (program_code flat.now).functions ≤ 2 ^ 32 }
+    ensures { IfOk result (IsLeastOf (IsOnCycle (program_code flat.now))) }
+{
+    let back = back_edges(alloc, graph)?;
+    if back.is_empty() {
+        return Ok(None);
+    }
+    least_on_cycle(alloc, flat)
+}

@@ -1,0 +1,13 @@
+// Cycles of calls in a program's flat code, and an order of its functions from the bottom up.
+//
+// A program in flat code comes in. `bottom_up_order` gives its functions, each behind those that it calls at a call of a
+// function or a table, or names the least function from which calls lead back to it; a start of a thread is no call.
+// specs/Cycles.antt says on the code alone what a call and a cycle are, specs/Orders.antt what the order is. The order is that
+// of `cycle_break` over the program's call graph; the cycles are found on the code itself, by a walk from each function.
+#![tactic(auto)]
+
+mod cycles;
+mod orders;
+mod reaching;
+
+pub use orders::{OrderError, bottom_up_order};

@@ -1,0 +1,64 @@
+ghost use Rattle.std.specs.Prelude.{◌<◌, ◌≤◌, ◌^◌, ℕ, length, IfOk, IfErr};
+ghost use Rattle.std.specs.List.{AllByRecursion};
+ghost use Rattle.flat_code.specs.ProgramView.{program_code};
+ghost use Rattle.call_cycles.specs.Cycles.{IsOnCycle};
+ghost use Rattle.call_cycles.specs.Orders.{IsGraph, IsFromBottom, IsOrderRefusal, StandsBefore};
+
+use crate::cycles::cycle_of;
+use call_graph::{CallGraph, graph};
+use cycle_break::leaving_order;
+use flat_code::FlatProgram;
+use std::alloc::{AllocError, Global};
+
+/// Why no order of a program's functions is given.
+#[derive(Clone, Copy, PartialEq, Eq)]
+pub enum OrderError {
+    /// From this function, the least one, calls lead back to it.
+    Cycle { function: u32 },
+    /// Memory is lacking.
+    Memory,
+}
+
+/// The functions of a program in an order in which each stands behind all that it calls. `Cycle` comes exactly where a
+/// function lies on a cycle of calls, and names the least. More than 2^32 functions count as want of memory.
+pub fn bottom_up_order(alloc: Global, flat: &FlatProgram) -> Result<Vec<u32>, OrderError>
+    ensures order { IfOk result (λ order. IsFromBottom (program_code flat.now) order.items) }
+    ensures all { IfOk result (λ order. (f : ℕ) → f < length (program_code flat.now).functions → StandsBefore order.items (length order.items) f) }
+    ensures functions { IfOk result (λ order. AllByRecursion (λ f. f < length (program_code flat.now).functions) order.items) }
+    ensures acyclic { IfOk result (λ _. (f : ℕ) → IsOnCycle (program_code flat.now) f → ⊥) }
+    ensures refused { IfErr result (IsOrderRefusal (program_code flat.now)) }
+{
+    let Ok(graph) = graph_of(alloc, flat) else {
+        return Err(OrderError::Memory);
+    };
+    match cycle_of(alloc, flat, &graph) {
+        Err(AllocError) => Err(OrderError::Memory),
+        Ok(Some(function)) => Err(OrderError::Cycle { function }),
+        Ok(None) => match order_of(alloc, flat, &graph) {
+            Ok(order) => Ok(order),
+            Err(AllocError) => Err(OrderError::Memory),
+        },
+    }
+}
+
+// The call graph of a program, in which no function weighs anything.
+fn graph_of(alloc: Global, flat: &FlatProgram) -> Result<CallGraph, AllocError>
+    ensures graph { IfOk result (λ graph. IsGraph (program_code flat.now) graph) }
+    ensures few { IfOk result (λ _. length (program_code flat.now).functions ≤ 2 ^ 32) }
+{
+    let weights = vec![in alloc; 0; flat.functions().len()]?;
+    let graph = graph(alloc, flat, weights.as_slice())?;
+    let _functions = graph.weights().len();
+    Ok(graph)
+}
+
+// The order of a program without cycles.
+fn order_of(alloc: Global, flat: &FlatProgram, graph: &CallGraph) -> Result<Vec<u32>, AllocError>
+    requires graph { IsGraph (program_code flat.now) graph.now }
+    requires acyclic { (f : ℕ) → IsOnCycle (program_code flat.now) f → ⊥ }
+    ensures order { IfOk result (λ order. IsFromBottom (program_code flat.now) order.items) }
+    ensures all { IfOk result (λ order. (f : ℕ) → f < length (program_code flat.now).functions → StandsBefore order.items (length order.items) f) }
+    ensures functions { IfOk result (λ order. AllByRecursion (λ f. f < length (program_code flat.now).functions) order.items) }
+{
+    leaving_order(alloc, graph, &[])
+}

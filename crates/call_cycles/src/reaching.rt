@@ -1,0 +1,81 @@
+ghost use Rattle.std.specs.Prelude.{◌≡◌, ◌<◌, true, length, OnOk};
+ghost use Rattle.std.specs.List.{AllByRecursion};
+ghost use Rattle.call_graph.specs.Lists.{has};
+ghost use Rattle.flat_code.specs.Codes.{function_at};
+ghost use Rattle.flat_code.specs.ProgramView.{program_code};
+ghost use Rattle.flat_code.specs.WellFormed.{IsFunction, IsOperation, context_of};
+ghost use Rattle.call_cycles.specs.Cycles.{Calls, functions_called};
+ghost use Rattle.call_cycles.specs.Marks.{Marks};
+
+use flat_code::{FlatFunction, FlatProgram, Op};
+use std::alloc::AllocError;
+
+// A function of a program.
+fn function_of(flat: &FlatProgram, function: usize) -> &FlatFunction
+    requires { function < length (program_code flat.now).functions }
+    ensures value { result.now ≡ function_at (program_code flat.now) function }
+    ensures formed { IsFunction (program_code flat.now) result.now }
+{
+    &flat.functions()[function]
+}
+
+// Marks a function, and keeps it for later, unless it was marked before.
+fn mark(function: u32, marks: &mut [bool], left: &mut Vec<u32>) -> Result<(), AllocError>
+    requires { function < length marks.old }
+    ensures { OnOk result (Marks (λ g. g ≡ function) marks.old left.old.items marks.new left.new.items) }
+{
+    if marks[function as usize] {
+        return Ok(());
+    }
+    marks[function as usize] = true;
+    left.push(function)?;
+    Ok(())
+}
+
+// The same for each of some functions.
+fn mark_each(functions: &[u32], marks: &mut [bool], left: &mut Vec<u32>) -> Result<(), AllocError>
+    requires { AllByRecursion (λ f. f < length marks.old) functions.now }
+    ensures { OnOk result (Marks (λ g. has g functions.now ≡ true) marks.old left.old.items marks.new left.new.items) }
+{
+    for function in functions {
+        mark(*function, marks, left)?;
+    }
+    Ok(())
+}
+
+// The same for each function that an operation calls.
+fn mark_called(
+    flat: &FlatProgram,
+    function: u32,
+    op: &Op,
+    marks: &mut [bool],
+    left: &mut Vec<u32>,
+) -> Result<(), AllocError>
+    requires marks { length marks.old ≡ length (program_code flat.now).functions }
+    requires formed { IsOperation (context_of (program_code flat.now) (function_at (program_code flat.now) function)) op.now }
+    ensures { OnOk result (Marks (λ g. has g (functions_called (program_code flat.now) op.now) ≡ true) marks.old left.old.items marks.new left.new.items) }
+{
+    match op {
+        Op::Call { f, .. } => mark(*f, marks, left),
+        Op::CallTable { t, .. } => mark_each(flat.tables()[*t as usize].as_slice(), marks, left),
+        _ => Ok(()),
+    }
+}
+
+// The same for each function that a function calls.
+pub(crate) fn mark_callees(
+    flat: &FlatProgram,
+    function: u32,
+    marks: &mut [bool],
+    left: &mut Vec<u32>,
+) -> Result<(), AllocError>
+    requires marks { length marks.old ≡ length (program_code flat.now).functions }
+    requires function { function < length (program_code flat.now).functions }
+    ensures { OnOk result (Marks (Calls (program_code flat.now) function) marks.old left.old.items marks.new left.new.items) }
+{
+    let ops = function_of(flat, function as usize).ops.as_slice();
+    for op in ops {
+        mark_called(flat, function, op, marks, left)?;
+    }
+    Ok(())
+}

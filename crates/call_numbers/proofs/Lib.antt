@@ -1,0 +1,3 @@
+pub mod ChainPlaces
+pub mod Counts
+pub mod NoNames

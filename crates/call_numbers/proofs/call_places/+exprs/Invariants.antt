@@ -1,0 +1,15 @@
+use Rattle.std.proofs.Common.{◌≡◌, ◌++◌, map, drop}
+use Rattle.c_tree.specs.RawViews.{raw_expr_tree, raw_expr_trees}
+use Rattle.c_tree.proofs.RawExprEquations.{raw_operand_tree}
+use Rattle.grammar_places.specs.Nested.{is_call}
+use Rattle.grammar_places.specs.Places.{expr_places, exprs_places}
+use Rattle.call_numbers.proofs.ChainPlaces.{operands_places}
+use Rattle.call_numbers.proofs.call_places.+exprs.Given as goal
+
+abbrev pub invariant-add_expr-loop-operand : goal.invariant-add_expr-loop-operand
+invariant-add_expr-loop-operand l =
+    l.places.items ++ operands_places (map raw_operand_tree (drop l.operand-index l.operand-items)) ≡ l.fn.places.items ++ expr_places is_call (raw_expr_tree l.expr)
+
+abbrev pub invariant-add_exprs-loop-expr : goal.invariant-add_exprs-loop-expr
+invariant-add_exprs-loop-expr l =
+    l.places.items ++ exprs_places is_call (raw_expr_trees (drop l.expr-index l.exprs)) ≡ l.initial.places.items ++ exprs_places is_call (raw_expr_trees l.exprs)

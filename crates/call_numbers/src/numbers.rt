@@ -1,0 +1,73 @@
+// The numbers of calls by the places of their names.
+ghost use Rattle.std.specs.Prelude.{◌≡◌, ◌<◌, ◌^◌, ℕ, length, slice_index, EachIndex, IfOk};
+ghost use Rattle.c_tree.specs.RawProgramView.{raw_program_tree};
+ghost use Rattle.c_tree.specs.WellScoped.{AreSiteNumbers};
+ghost use Rattle.grammar_places.specs.Ranks.{lesser, ranks, site_numbers};
+
+use crate::call_places::call_places;
+use c_tree::RawProgram;
+use std::alloc::{AllocError, Global};
+
+/// The number of each call of a tree, in the order of the tree: how many calls have their names before its name in the text.
+///
+/// # Errors
+///
+/// There is no room for them, or there are 2^32 calls or more.
+pub fn site_numbers(alloc: Global, raw: &RawProgram) -> Result<Vec<u32>, AllocError>
+    ensures numbers { IfOk result (λ ns. ns.items ≡ site_numbers (raw_program_tree raw.now)) }
+    ensures distinct { IfOk result (λ ns. AreSiteNumbers ns.items) }
+{
+    let places = call_places(alloc, raw)?;
+    if places.len() > u32::MAX as usize {
+        return Err(AllocError);
+    }
+    let numbers = ranks(alloc, &places)?;
+    Ok(numbers)
+}
+
+// The rank of each place. Places are few above a million in a source, so a table of all of them is small.
+fn ranks(alloc: Global, places: &[u32]) -> Result<Vec<u32>, AllocError>
+    requires { length places.now < 2 ^ 32 }
+    ensures { IfOk result (λ ns. ns.items ≡ ranks places.now) }
+{
+    let mut starts = starts(alloc, places)?;
+    let mut numbers = Vec::new(alloc);
+    for place in places {
+        let rank = starts[*place as usize];
+        numbers.push(rank)?;
+        starts[*place as usize] = rank + 1;
+    }
+    Ok(numbers)
+}
+
+// For each place up to the greatest how many of the places are less.
+fn starts(alloc: Global, places: &[u32]) -> Result<Vec<u32>, AllocError>
+    requires { length places.now < 2 ^ 32 }
+    ensures all { IfOk result (λ v. EachIndex places.now (λ k. slice_index places.now k < length v.items)) }
+    ensures each { IfOk result (λ v. EachIndex v.items (λ at. slice_index v.items at ≡ lesser at places.now)) }
+{
+    let mut counts = Vec::from_elem(alloc, 0, end_of(places))?;
+    for place in places {
+        counts[*place as usize] += 1;
+    }
+    let mut sum = 0;
+    for at in 0..counts.len() {
+        let here = counts[at];
+        counts[at] = sum;
+        sum += here;
+    }
+    Ok(counts)
+}
+
+// The place after the greatest of these, or 0.
+fn end_of(places: &[u32]) -> usize
+    ensures { EachIndex places.now (λ k. slice_index places.now k < result) }
+{
+    let mut end = 0;
+    for place in places {
+        if *place as usize >= end {
+            end = *place as usize + 1;
+        }
+    }
+    end
+}

@@ -1,0 +1,2 @@
+pub mod ChainPlaces
+pub mod NoNames

@@ -1,0 +1,18 @@
+-- Names that are declared or used are no calls.
+use Rattle.std.proofs.Common.{◌≡◌, List, [], ◌∷◌, Option, Some, None, refl}
+use Rattle.c_tree.specs.RawTrees.{NameTree}
+use Rattle.grammar_places.specs.Nested.{is_call}
+use Rattle.grammar_places.specs.Places.{Declared, Used, names_places, parameters_places}
+
+pub no_declared : (ns : List NameTree) → names_places is_call Declared ns ≡ []
+no_declared [] = refl
+no_declared (n ∷ ns) = no_declared ns
+
+pub no_used : (ns : List NameTree) → names_places is_call Used ns ≡ []
+no_used [] = refl
+no_used (n ∷ ns) = no_used ns
+
+pub no_parameters : (ps : List (Option NameTree)) → parameters_places is_call ps ≡ []
+no_parameters [] = refl
+no_parameters (None ∷ ps) = no_parameters ps
+no_parameters (Some n ∷ ps) = no_parameters ps

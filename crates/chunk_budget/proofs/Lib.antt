@@ -1,0 +1,6 @@
+pub mod LeastLemmas
+pub mod CoverLemmas
+pub mod RootLemmas
+pub mod CheckLemmas
+pub mod MadeLemmas
+pub mod LeastBudgetLemmas

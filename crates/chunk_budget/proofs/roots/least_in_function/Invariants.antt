@@ -1,0 +1,8 @@
+use Rattle.std.proofs.Common.{◌≡◌, drop}
+use Rattle.chunk_budget.specs.Least.{least_in}
+use Rattle.chunk_budget.specs.Tests.{high_root}
+use Rattle.chunk_budget.proofs.roots.least_in_function.Given as goal
+
+abbrev pub invariant-loop-op : goal.invariant-loop-op
+invariant-loop-op l =
+    least_in (high_root l.chunks l.heights l.function) (drop l.op-index l.ops) l.least ≡ least_in (high_root l.chunks l.heights l.function) l.ops l.fn.first

@@ -1,0 +1,9 @@
+use Rattle.std.proofs.Common.{◌≡◌}
+use Rattle.flat_code.specs.ProgramView.{program_code}
+use Rattle.chunk_budget.specs.Least.{least_below}
+use Rattle.chunk_budget.specs.Tests.{high_function, high_root}
+use Rattle.chunk_budget.proofs.roots.least_of_roots.Given as goal
+
+abbrev pub invariant-loop-function : goal.invariant-loop-function
+invariant-loop-function l =
+    l.least ≡ least_below (high_root l.chunks l.heights) (program_code l.flat) (high_function l.chunks l.heights (program_code l.flat).main) l.function

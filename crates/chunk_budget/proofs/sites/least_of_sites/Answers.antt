@@ -1,0 +1,17 @@
+use Rattle.std.proofs.Common.{ap, sym, ◌∙◌, None}
+use Rattle.flat_code.specs.Codes.{function_at}
+use Rattle.flat_code.specs.ProgramView.{program_code}
+use Rattle.chunk_budget.specs.Least.{least_in}
+use Rattle.chunk_budget.specs.Tests.{low_site}
+use Rattle.chunk_budget.proofs.LeastLemmas.{below_more}
+use Rattle.chunk_budget.proofs.sites.least_of_sites.Goals as goal
+
+pub loop-function-preserved : goal.loop-function-preserved
+loop-function-preserved c =
+    let code = program_code c.args.flat.now in
+    let number = low_site code c.args.certificate.now c.args.heights.now in
+    let f = c.loop-function.function in
+    record {
+      known = c.least_in_function-least.ensures.known;
+      least = c.least_in_function-least.ensures.least ∙ (ap (least_in (number f) (function_at code f).ops) c.loop-function.invariant.least ∙ sym (below_more number code None f));
+    }

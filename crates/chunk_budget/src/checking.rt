@@ -1,0 +1,58 @@
+ghost use Rattle.std.specs.Prelude.{IfOk, IfErr};
+ghost use Rattle.std.specs.List.Sorted.{IsStrictlyIncreasing};
+ghost use Rattle.c_lower.specs.ProgramCode.{lowered};
+ghost use Rattle.certificate_check.specs.Accepting.{accepted_tree};
+ghost use Rattle.certificate_rules.specs.Sites.{fact_numbers};
+ghost use Rattle.flat_code.specs.ProgramView.{program_code};
+ghost use Rattle.chunk_budget.specs.Budgets.{IsBudget, IsRefusal};
+
+use crate::budgets::{Budget, BudgetError};
+use crate::roots::least_high_root;
+use crate::sites::least_low_site;
+use certificate_check::Accepted;
+use flat_code::FlatProgram;
+use stack_certificate::Certificate;
+
+/// Whether a budget holds of an accepted program. At each call of a function or a table the caller's height is at least
+/// that of each function that may be called, and one more where the site is linked; `main` and each function that a thread
+/// is started with are lower than the chunks of a thread. It takes no memory.
+///
+/// It refuses, in this order: with `Length` exactly where there isn't one height for each function; with `Zero` exactly
+/// where a thread has no chunk; with `Low` the least site, by number, at which the caller is too low; with `Root` the least
+/// of `main` and the functions that threads are started with that is too high.
+pub fn check_budget(accepted: &Accepted, budget: &Budget) -> Result<(), BudgetError>
+    ensures budget { IfOk result (λ _. IsBudget (lowered (accepted_tree accepted.now)) accepted.now.certificate budget.now) }
+    ensures refused { IfErr result (IsRefusal (lowered (accepted_tree accepted.now)) accepted.now.certificate budget.now) }
+{
+    accepted.is_valid();
+    check_code(accepted.flat(), accepted.certificate(), budget)
+}
+
+// Whether a budget holds of a program with a certificate.
+fn check_code(
+    flat: &FlatProgram,
+    certificate: &Certificate,
+    budget: &Budget,
+) -> Result<(), BudgetError>
+    requires { IsStrictlyIncreasing (fact_numbers certificate.now.sites) }
+    ensures budget { IfOk result (λ _. IsBudget (program_code flat.now) certificate.now budget.now) }
+    ensures refused { IfErr result (IsRefusal (program_code flat.now) certificate.now budget.now) }
+{
+    let functions = flat.functions().len();
+    if budget.heights.len() != functions {
+        return Err(BudgetError::Length {
+            heights: budget.heights.len(),
+            functions,
+        });
+    }
+    if budget.per_thread == 0 {
+        return Err(BudgetError::Zero);
+    }
+    match least_low_site(flat, certificate, budget.heights.as_slice()) {
+        Some(site) => Err(BudgetError::Low { site }),
+        None => match least_high_root(flat, budget) {
+            Some(function) => Err(BudgetError::Root { function }),
+            None => Ok(()),
+        },
+    }
+}

@@ -1,0 +1,26 @@
+use Rattle.std.proofs.Common.{◌≡◌, ℕ, ◌+◌, ◌-◌, ◌*◌, ◌/◌, ◌∙◌, sym, ap, arith, Some}
+use Rattle.chunk_pool.specs.Pool.{first_place, first_end}
+use Rattle.chunk_pool.proofs.AddressLaws.{chunk_in-below, chunk_in-first, chunk_in-extra, chunk_in-above}
+use Rattle.chunk_pool.proofs.shape.Shape.chunk_at.Goals as goal
+
+pub returns-in_err-offset : goal.returns-in_err-offset
+returns-in_err-offset c = c.from_residual.ensures ∙ sym (chunk_in-below c.args.self c.args.address (omega (arith, c.in_err-offset.ensures)))
+
+pub returns-then-offset-first_bytes : goal.returns-then-offset-first_bytes
+returns-then-offset-first_bytes c =
+    let s = c.args.self in
+    let is : c.in_ok-offset.offset ≡ c.args.address - first_place = omega (arith, c.in_ok-offset.ensures) in
+    ap (λ (n : ℕ). Some (n / (4 * s.words))) is
+    ∙ sym (chunk_in-first s c.args.address (omega (arith, c.in_ok-offset.ensures)) (omega (arith, c.in_ok-offset.ensures, c.if-offset-first_bytes.true)))
+
+pub returns-then-behind-self : goal.returns-then-behind-self
+returns-then-behind-self c =
+    let s = c.args.self in
+    let is : c.in_ok-offset.offset - 4 * (s.first_count * s.words) ≡ c.args.address - first_end s = omega (arith, c.in_ok-offset.ensures) in
+    ap (λ (n : ℕ). Some (s.first_count + n / (4 * s.extra_words))) is
+    ∙ sym (chunk_in-extra s c.args.address (omega (arith, c.in_ok-offset.ensures, c.if-offset-first_bytes.false))
+    (omega (arith, c.in_ok-offset.ensures, c.if-offset-first_bytes.false, c.if-behind-self.true)))
+
+pub returns-else-behind-self : goal.returns-else-behind-self
+returns-else-behind-self c =
+    sym (chunk_in-above c.args.self c.args.address (omega (arith, c.in_ok-offset.ensures, c.if-offset-first_bytes.false, c.if-behind-self.false)))

@@ -1,0 +1,7 @@
+use Rattle.std.proofs.Common.{refl}
+use Rattle.cap_word.specs.Word.{signed, word_of, floor_div, flag, add, sub, mul, div, rem, sll, sra}
+use Rattle.deep_mean.proofs.examples.threads_start_with_results.Goals as goal
+
+pub returns : goal.returns
+unfolding signed word_of floor_div flag add sub mul div rem sll sra
+returns c = (100, refl)

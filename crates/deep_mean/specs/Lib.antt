@@ -1,0 +1,10 @@
+pub mod DeepTrees
+pub mod Evaluation
+pub mod DeepToDo
+pub mod DeepFrames
+pub mod DeepSteps
+pub mod DeepWorld
+pub mod Naming
+pub mod DeepExamples
+pub mod StatementExamples
+pub mod NameExamples

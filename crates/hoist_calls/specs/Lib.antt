@@ -1,0 +1,2 @@
+pub mod CallPlaces
+pub mod SpawnArguments

@@ -1,0 +1,42 @@
+-- One operator and its right operand, where that isn't evaluated in a branch: as any other operator.
+use Rattle.std.proofs.Common.{ℕ, ◌+◌, ◌≡◌, refl, sym, ap, ◌∙◌, Bool, false, not, ◌&&◌, List, ◌++◌, append_assoc}
+use Rattle.c_tree.specs.declared.operators.Infix.{Infix}
+use Rattle.c_tree.specs.RawTrees.{RawExprTree, RawStmtTree}
+use Rattle.c_tree.specs.RawViews.{raw_joined}
+use Rattle.hoist_rules.specs.Calls.{holds_call}
+use Rattle.hoist_rules.specs.Expressions.{one_if, part_or, part_named, left_of, before}
+use Rattle.hoist_rules.specs.Chains.{branches, operand_left, operand_before}
+use Rattle.hoist_rules.proofs.NoCalls.{no_left, no_before}
+
+plain_left_is : (k : ℕ) (op : Infix) (alone : Bool) (l r : RawExprTree) → branches op (holds_call r) ≡ false →
+    raw_joined (part_or (holds_call r && not alone) k l) op (left_of (k + one_if (holds_call r && not alone)) r) ≡ operand_left k op alone l r
+plain_left_is k (Infix.Binary op) alone l r h = refl
+plain_left_is k Infix.LogicalAnd alone l r h = let held : holds_call r ≡ false = h in rw (held, no_left (k + one_if false) r held) refl
+plain_left_is k Infix.LogicalOr alone l r h = let held : holds_call r ≡ false = h in rw (held, no_left (k + one_if false) r held) refl
+
+plain_before_is : (k : ℕ) (op : Infix) (alone : Bool) (l r : RawExprTree) → branches op (holds_call r) ≡ false →
+    part_named (holds_call r && not alone) k l ++ before (k + one_if (holds_call r && not alone)) r ≡ operand_before k op alone l r
+plain_before_is k (Infix.Binary op) alone l r h = refl
+plain_before_is k Infix.LogicalAnd alone l r h = let held : holds_call r ≡ false = h in rw (held, no_before (k + one_if false) r held) refl
+plain_before_is k Infix.LogicalOr alone l r h = let held : holds_call r ≡ false = h in rw (held, no_before (k + one_if false) r held) refl
+
+needs : (calling alone b : Bool) (r : RawExprTree) → calling ≡ holds_call r → b ≡ (calling && not alone) → b ≡ (holds_call r && not alone)
+needs calling alone b r hc hb = hb ∙ ap (λ x. x && not alone) hc
+
+pub plain_left : (k n : ℕ) (op : Infix) (calling alone b : Bool) (l r x y c : RawExprTree) → calling ≡ holds_call r → branches op calling ≡ false → b ≡ (calling && not alone) →
+    x ≡ part_or b k l → n ≡ k + one_if b → y ≡ left_of n r → c ≡ raw_joined x op y → c ≡ operand_left k op alone l r
+plain_left k n op calling alone b l r x y c hc h hb hx hn hy e =
+    let named = needs calling alone b r hc hb in
+    let left : x ≡ part_or (holds_call r && not alone) k l = hx ∙ ap (λ z. part_or z k l) named in
+    let right : y ≡ left_of (k + one_if (holds_call r && not alone)) r = hy ∙ ap (λ m. left_of m r) (hn ∙ ap (λ z. k + one_if z) named) in
+    e ∙ (λ i. raw_joined (left i) op (right i)) ∙ plain_left_is k op alone l r (ap (branches op) (sym hc) ∙ h)
+
+pub plain_before : (k n : ℕ) (op : Infix) (calling alone b : Bool) (l r : RawExprTree) (s t u : List RawStmtTree) → calling ≡ holds_call r → branches op calling ≡ false → b ≡ (calling && not alone) →
+    n ≡ k + one_if b → t ≡ s ++ part_named b k l → u ≡ t ++ before n r → u ≡ s ++ operand_before k op alone l r
+plain_before k n op calling alone b l r s t u hc h hb hn ht hu =
+    let named = needs calling alone b r hc hb in
+    let at : n ≡ k + one_if (holds_call r && not alone) = hn ∙ ap (λ z. k + one_if z) named in
+    let first : t ≡ s ++ part_named (holds_call r && not alone) k l = ht ∙ ap (λ z. s ++ part_named z k l) named in
+    hu ∙ (λ i. first i ++ before (at i) r)
+    ∙ append_assoc s (part_named (holds_call r && not alone) k l) (before (k + one_if (holds_call r && not alone)) r)
+    ∙ ap (λ x. s ++ x) (plain_before_is k op alone l r (ap (branches op) (sym hc) ∙ h))

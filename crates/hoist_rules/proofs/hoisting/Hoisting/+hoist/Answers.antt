@@ -1,0 +1,137 @@
+use Rattle.std.proofs.Common.{◌≡◌, ◌+◌, [], ◌∷◌, ◌++◌, ◌∙◌, map, drop, nat_lt, sym, ap, append-nil, arith}
+use Rattle.std.proofs.lemmas.List.{map_push, drop_all}
+use Rattle.c_tree.specs.RawTrees.{RawConditional, RawCall, RawTableCall}
+use Rattle.c_tree.specs.RawViews.{name_tree, raw_expr_tree, raw_expr_trees, raw_stmt_tree, raw_chained}
+use Rattle.c_tree.proofs.Cuts.{drop_at}
+use Rattle.c_tree.proofs.RawExprEquations.{raw_operand_tree, raw_expr_tree-Chain, raw_expr_tree-Conditional, raw_expr_tree-Call, raw_expr_tree-TableCall}
+use Rattle.hoist_rules.specs.Arguments.{calls_among}
+use Rattle.hoist_rules.specs.Chains.{chain_tree, operand_trees}
+use Rattle.hoist_rules.proofs.NoCalls.{no_left, no_before, no_names}
+use Rattle.hoist_rules.proofs.Operands as operand
+use Rattle.hoist_rules.proofs.CallTurns as calling
+use Rattle.hoist_rules.proofs.OperatorTurns as joined
+use Rattle.hoist_rules.proofs.ArgumentTurns as argument
+use Rattle.hoist_rules.proofs.hoisting.Hoisting.+hoist.Goals as goal
+
+pub expression-returns-in_ok-whole-in-Chain-clause-left : goal.expression-returns-in_ok-whole-in-Chain-clause-left
+expression-returns-in_ok-whole-in-Chain-clause-left t c =
+    let first = c.in-Chain.first in
+    let rest = c.in-Chain.rest in
+    let l = raw_expr_tree c.in_ok-operand-in-Chain.operand in
+    let whole : raw_expr_tree c.args.raw.now ≡ raw_chained (raw_expr_tree first.value) (operand_trees rest.items) =
+    ap raw_expr_tree c.in-Chain.is ∙ raw_expr_tree-Chain first rest ∙ ap (raw_chained (raw_expr_tree first.value)) (sym (operand.operands_seen rest.items)) in
+    let made = rw (c.of-left.ensures, c.deref-in-Chain-3.ensures.value) at c.in_ok-chain-in-Chain.ensures.left in
+    operand.chain_left c.args.self.now.next c.expression-in-Chain.new.self.next c.is_left_alone.result (raw_expr_tree c.args.raw.now) (raw_expr_tree first.value) l (chain_tree c.in_ok-chain-in-Chain.chain) (raw_expr_tree c.in_ok-whole-in-Chain.field-0) (operand_trees rest.items)
+    whole (rw (← c.deref-in-Chain.ensures) c.in_ok-operand-in-Chain.ensures.left) (rw (← c.deref-in-Chain.ensures) c.in_ok-operand-in-Chain.ensures.next) (rw (← c.deref-in-Chain-2.ensures) c.is_left_alone.ensures) made c.in_ok-whole-in-Chain.ensures
+
+pub expression-returns-in_ok-whole-in-Chain-clause-before : goal.expression-returns-in_ok-whole-in-Chain-clause-before
+expression-returns-in_ok-whole-in-Chain-clause-before t c =
+    let first = c.in-Chain.first in
+    let rest = c.in-Chain.rest in
+    let l = raw_expr_tree c.in_ok-operand-in-Chain.operand in
+    let whole : raw_expr_tree c.args.raw.now ≡ raw_chained (raw_expr_tree first.value) (operand_trees rest.items) =
+    ap raw_expr_tree c.in-Chain.is ∙ raw_expr_tree-Chain first rest ∙ ap (raw_chained (raw_expr_tree first.value)) (sym (operand.operands_seen rest.items)) in
+    let made = rw (c.of-left.ensures, c.deref-in-Chain-3.ensures.value) at c.in_ok-chain-in-Chain.ensures.before in
+    operand.chain_before c.args.self.now.next c.expression-in-Chain.new.self.next c.is_left_alone.result (raw_expr_tree c.args.raw.now) (raw_expr_tree first.value) l (operand_trees rest.items)
+    (map raw_stmt_tree c.args.self.now.statements.items) (map raw_stmt_tree c.expression-in-Chain.new.self.statements.items) (map raw_stmt_tree c.operands.new.self.statements.items)
+    whole (rw (← c.deref-in-Chain.ensures) c.in_ok-operand-in-Chain.ensures.left) (rw (← c.deref-in-Chain.ensures) c.in_ok-operand-in-Chain.ensures.next) (rw (← c.deref-in-Chain-2.ensures) c.is_left_alone.ensures)
+    (rw (← c.deref-in-Chain.ensures) c.in_ok-operand-in-Chain.ensures.before) made
+
+pub expression-returns-in_ok-whole-in-Chain-clause-next : goal.expression-returns-in_ok-whole-in-Chain-clause-next
+expression-returns-in_ok-whole-in-Chain-clause-next t c =
+    let first = c.in-Chain.first in
+    let rest = c.in-Chain.rest in
+    let whole : raw_expr_tree c.args.raw.now ≡ raw_chained (raw_expr_tree first.value) (operand_trees rest.items) =
+    ap raw_expr_tree c.in-Chain.is ∙ raw_expr_tree-Chain first rest ∙ ap (raw_chained (raw_expr_tree first.value)) (sym (operand.operands_seen rest.items)) in
+    operand.chain_after c.args.self.now.next c.expression-in-Chain.new.self.next c.operands.new.self.next c.is_left_alone.result (raw_expr_tree c.args.raw.now) (raw_expr_tree first.value) (operand_trees rest.items)
+    whole (rw (← c.deref-in-Chain.ensures) c.in_ok-operand-in-Chain.ensures.next) (rw (← c.deref-in-Chain-2.ensures) c.is_left_alone.ensures) (rw c.deref-in-Chain-3.ensures.value at c.in_ok-chain-in-Chain.ensures.next)
+
+pub operands-loop-operator-preserved : goal.operands-loop-operator-preserved
+operands-loop-operator-preserved t c =
+    let at = c.loop-operator in
+    let item = c.loop-operator-item.result in
+    let i = at.operator-index in
+    let rest = operand_trees (drop (i + 1) c.args.rest.now) in
+    let cut : drop i c.args.rest.now ≡ item ∷ drop (i + 1) c.args.rest.now = drop_at c.args.rest.now i item c.loop-operator-test.true c.loop-operator-item.is in
+    let p = raw_operand_tree item in
+    let made = c.in_ok-left.ensures in
+    record {
+      left = operand.turn_left at.self.next c.operand.new.self.next at.is_alone (chain_tree at.left) (chain_tree c.in_ok-left.left) _ p rest made.left made.next (rw cut at at.invariant.left);
+      before = operand.turn_before at.self.next c.operand.new.self.next at.is_alone (chain_tree at.left) (chain_tree c.in_ok-left.left) p rest _ _ _ made.before made.left made.next (rw cut at at.invariant.before);
+      next = operand.turn_after at.self.next c.operand.new.self.next at.is_alone p rest _ made.next (rw cut at at.invariant.next);
+    }
+
+pub arguments-loop-argument-preserved : goal.arguments-loop-argument-preserved
+arguments-loop-argument-preserved t c =
+    let at = c.loop-argument in
+    let item = c.argument-item.result in
+    let i = at.argument-index in
+    let raw = c.args.raw.now in
+    let e = raw_expr_tree item in
+    let es = raw_expr_trees (drop (i + 1) raw) in
+    let cut : drop i raw ≡ item ∷ drop (i + 1) raw = drop_at raw i item c.loop-argument-test.true c.argument-item.is in
+    let count : at.calls ≡ calls_among (raw_expr_trees (item ∷ drop (i + 1) raw)) = rw cut at at.invariant.calls in
+    let rest : c.calls_after-calls.result ≡ calls_among es = omega (arith, count, c.calls_after-calls.ensures) in
+    let later = ap (λ n. nat_lt 0 n) rest ∙ argument.some_hold es in
+    let made = c.in_ok-left.ensures in
+    record {
+      left = rw (c.in_ok-push.ensures.items, map_push raw_expr_tree at.arguments.items c.in_ok-left.left)
+          (argument.turn_left at.stays _ at.self.next c.argument.new.self.next (map raw_expr_tree at.arguments.items) (raw_expr_tree c.in_ok-left.left) e es _ later made.left made.next (rw cut at at.invariant.left));
+      before = argument.turn_before at.stays _ at.self.next c.argument.new.self.next e es _ _ _ later made.before made.next (rw cut at at.invariant.before);
+      next = argument.turn_after at.stays _ at.self.next c.argument.new.self.next _ e es later made.next (rw cut at at.invariant.next);
+      calls = rest;
+    }
+
+pub arguments-returns-clause-left : goal.arguments-returns-clause-left
+arguments-returns-clause-left t c =
+    let at = c.loop-argument in
+    let none : drop at.argument-index c.args.raw.now ≡ [] = drop_all at.argument-index c.args.raw.now c.loop-argument-test.false in
+    argument.done_left at.stays at.self.next (map raw_expr_tree at.arguments.items) (raw_expr_trees (drop at.argument-index c.args.raw.now)) _ (ap raw_expr_trees none) at.invariant.left
+
+pub kept-returns-clause-kept : goal.kept-returns-clause-kept
+kept-returns-clause-kept t c = c.in_ok-expression.ensures.left ∙ no_left c.args.self.now.next (raw_expr_tree c.args.raw.now) c.requires
+
+pub kept-returns-clause-outer : goal.kept-returns-clause-outer
+kept-returns-clause-outer t c =
+    let before = map raw_stmt_tree c.args.self.now.statements.items in
+    c.in_ok-expression.ensures.before ∙ ap (λ b. before ++ b) (no_before c.args.self.now.next (raw_expr_tree c.args.raw.now) c.requires) ∙ append-nil before
+
+pub kept-returns-clause-next : goal.kept-returns-clause-next
+kept-returns-clause-next t c = let none = no_names (raw_expr_tree c.args.raw.now) c.requires in omega (arith, c.in_ok-expression.ensures.next, none)
+
+pub operand-returns-in_ok-with-in-Ok-expression-clause-left : goal.operand-returns-in_ok-with-in-Ok-expression-clause-left
+operand-returns-in_ok-with-in-Ok-expression-clause-left t c =
+    joined.plain_left c.args.self.now.next _ c.args.operator _ c.args.is_alone _ (chain_tree c.args.left) (raw_expr_tree c.args.right.now) _ _ _
+    c.holds_call-is_calling.ensures (sym c.is_branching.ensures ∙ c.if-is_branching.false) c.needs_name.ensures c.in_ok-left.ensures.left c.in_ok-left.ensures.next c.in-Ok-expression.ensures.left c.in_ok-with-in-Ok-expression.ensures
+
+pub operand-returns-in_ok-with-in-Ok-expression-clause-before : goal.operand-returns-in_ok-with-in-Ok-expression-clause-before
+operand-returns-in_ok-with-in-Ok-expression-clause-before t c =
+    joined.plain_before c.args.self.now.next _ c.args.operator _ c.args.is_alone _ (chain_tree c.args.left) (raw_expr_tree c.args.right.now) (map raw_stmt_tree c.args.self.now.statements.items) _ _
+    c.holds_call-is_calling.ensures (sym c.is_branching.ensures ∙ c.if-is_branching.false) c.needs_name.ensures c.in_ok-left.ensures.next c.in_ok-left.ensures.before c.in-Ok-expression.ensures.before
+
+pub expression-returns-in_ok-name_part-in-Call-clause-before : goal.expression-returns-in_ok-name_part-in-Call-clause-before
+expression-returns-in_ok-name_part-in-Call-clause-before t c =
+    let seen : raw_expr_tree c.args.raw.now ≡ RawCall (name_tree c.in-Call.name) (raw_expr_trees c.in-Call.arguments.items) = ap raw_expr_tree c.in-Call.is ∙ raw_expr_tree-Call c.in-Call.name c.in-Call.arguments in
+    let made = c.in_ok-arguments-in-Call.ensures in
+    calling.call_pushed c.args.self.now.next _ _ (raw_expr_tree c.args.raw.now) _ (name_tree c.in-Call.name) (raw_expr_trees c.in-Call.arguments.items) _ _ (map raw_stmt_tree c.args.self.now.statements.items) _ _
+    seen c.is_spawn.ensures (ap raw_expr_trees c.deref-in-Call.ensures.value) made.left made.before made.next c.in_ok-call-in-Call.ensures c.in_ok-name_part-in-Call.ensures.statements
+
+pub expression-returns-in_ok-name_part-in-Ok-expression-clause-before : goal.expression-returns-in_ok-name_part-in-Ok-expression-clause-before
+expression-returns-in_ok-name_part-in-Ok-expression-clause-before t c =
+    let i = raw_expr_tree c.in-TableCall.index.value in
+    let e = raw_expr_tree c.in-TableCall.argument.value in
+    let seen : raw_expr_tree c.args.raw.now ≡ RawTableCall (name_tree c.in-TableCall.name) i e = ap raw_expr_tree c.in-TableCall.is ∙ raw_expr_tree-TableCall c.in-TableCall.name c.in-TableCall.index c.in-TableCall.argument in
+    let part = c.in_ok-index-in-TableCall.ensures in
+    let rest = c.in-Ok-expression.ensures in
+    calling.table_pushed c.args.self.now.next _ _ _ (raw_expr_tree c.args.raw.now) _ (name_tree c.in-TableCall.name) i e _ _ _ _ _ (map raw_stmt_tree c.args.self.now.statements.items) _ _ _
+    seen (ap raw_expr_tree c.deref-in-TableCall.ensures) (ap raw_expr_tree c.deref-in-TableCall-3.ensures) (ap raw_expr_tree c.deref-in-TableCall-2.ensures) c.holds_call.ensures part.left part.before part.next rest.left rest.before rest.next c.in_ok-call-in-Ok-expression.ensures
+    c.in_ok-name_part-in-Ok-expression.ensures.statements
+
+pub expression-returns-in_ok-choice-in-Ok-kept-2-clause-next : goal.expression-returns-in_ok-choice-in-Ok-kept-2-clause-next
+expression-returns-in_ok-choice-in-Ok-kept-2-clause-next t c =
+    let condition = raw_expr_tree c.in-Conditional.condition.value in
+    let first = raw_expr_tree c.in-Conditional.then.value in
+    let second = raw_expr_tree c.in-Conditional.otherwise.value in
+    let seen : raw_expr_tree c.args.raw.now ≡ RawConditional condition first second = ap raw_expr_tree c.in-Conditional.is ∙ raw_expr_tree-Conditional c.in-Conditional.condition c.in-Conditional.then c.in-Conditional.otherwise in
+    calling.kept_names c.args.self.now.next _ _ _ _ (raw_expr_tree c.args.raw.now) condition first second _ _ _ seen (ap raw_expr_tree c.deref-in-Conditional-3.ensures) (ap raw_expr_tree c.deref-in-Conditional.ensures) (ap raw_expr_tree c.deref-in-Conditional-2.ensures)
+    c.either_holds_call-is_branched.ensures c.if-is_branched.false c.in_ok-condition-in-Conditional.ensures.next c.in-Ok-kept.ensures.next c.in-Ok-kept-2.ensures.next

@@ -1,0 +1,43 @@
+use Rattle.std.proofs.Common.{◌≡◌, ◌+◌, ◌++◌, ◌∙◌, [], map, vec_len, sym, ap, subst}
+use Rattle.std.specs.Prelude.{IfOk, OnOk}
+use Rattle.c_tree.specs.RawTrees.{RawExprTree}
+use Rattle.c_tree.specs.RawViews.{raw_expr_tree, raw_stmt_tree, raw_chained}
+use Rattle.c_tree.proofs.RawExprEquations.{raw_operand_tree, raw_expr_tree-Chain}
+use Rattle.hoist_rules.specs.Expressions.{names_in, left_of, before}
+use Rattle.hoist_rules.specs.Statements.{value_names, value_left, value_before}
+use Rattle.hoist_rules.proofs.HeldChains.{some_mapped, some_chain}
+use Rattle.hoist_rules.proofs.ValueChains.{joined_value_left, joined_value_before, joined_value_names}
+use Rattle.hoist_rules.proofs.hoisting.Hoisting.+value.Goals as goal
+
+pub returns-else-is_empty-clause-left : goal.returns-else-is_empty-clause-left
+returns-else-is_empty-clause-left t c =
+    let first = c.in-Chain.first in
+    let rest = c.in-Chain.rest in
+    let k = c.args.self.now.next in
+    let some : map raw_operand_tree rest.items ≡ [] → ⊥ = some_mapped raw_operand_tree rest.items (vec_len rest) c.is_empty.result c.if-is_empty.false c.is_empty.ensures rest.ok.0 in
+    let same : raw_expr_tree c.args.raw.now ≡ raw_chained (raw_expr_tree first.value) (map raw_operand_tree rest.items) = ap raw_expr_tree c.in-Chain.is ∙ raw_expr_tree-Chain first rest in
+    let P : RawExprTree → Type 0 = λ e. left_of k e ≡ value_left k e in
+    let equal : left_of k (raw_expr_tree c.args.raw.now) ≡ value_left k (raw_expr_tree c.args.raw.now) = subst P (sym same) (some_chain P (joined_value_left k) (raw_expr_tree first.value) (map raw_operand_tree rest.items) some) in
+    subst (λ x. IfOk c.expression.result (λ e. raw_expr_tree e ≡ x)) equal c.expression.ensures.left
+
+pub returns-else-is_empty-clause-before : goal.returns-else-is_empty-clause-before
+returns-else-is_empty-clause-before t c =
+    let first = c.in-Chain.first in
+    let rest = c.in-Chain.rest in
+    let k = c.args.self.now.next in
+    let some : map raw_operand_tree rest.items ≡ [] → ⊥ = some_mapped raw_operand_tree rest.items (vec_len rest) c.is_empty.result c.if-is_empty.false c.is_empty.ensures rest.ok.0 in
+    let same : raw_expr_tree c.args.raw.now ≡ raw_chained (raw_expr_tree first.value) (map raw_operand_tree rest.items) = ap raw_expr_tree c.in-Chain.is ∙ raw_expr_tree-Chain first rest in
+    let P : RawExprTree → Type 0 = λ e. before k e ≡ value_before k e in
+    let equal : before k (raw_expr_tree c.args.raw.now) ≡ value_before k (raw_expr_tree c.args.raw.now) = subst P (sym same) (some_chain P (joined_value_before k) (raw_expr_tree first.value) (map raw_operand_tree rest.items) some) in
+    subst (λ x. OnOk c.expression.result (map raw_stmt_tree c.expression.new.self.statements.items ≡ map raw_stmt_tree c.args.self.now.statements.items ++ x)) equal c.expression.ensures.before
+
+pub returns-else-is_empty-clause-next : goal.returns-else-is_empty-clause-next
+returns-else-is_empty-clause-next t c =
+    let first = c.in-Chain.first in
+    let rest = c.in-Chain.rest in
+    let k = c.args.self.now.next in
+    let some : map raw_operand_tree rest.items ≡ [] → ⊥ = some_mapped raw_operand_tree rest.items (vec_len rest) c.is_empty.result c.if-is_empty.false c.is_empty.ensures rest.ok.0 in
+    let same : raw_expr_tree c.args.raw.now ≡ raw_chained (raw_expr_tree first.value) (map raw_operand_tree rest.items) = ap raw_expr_tree c.in-Chain.is ∙ raw_expr_tree-Chain first rest in
+    let P : RawExprTree → Type 0 = λ e. names_in e ≡ value_names e in
+    let equal : names_in (raw_expr_tree c.args.raw.now) ≡ value_names (raw_expr_tree c.args.raw.now) = subst P (sym same) (some_chain P joined_value_names (raw_expr_tree first.value) (map raw_operand_tree rest.items) some) in
+    subst (λ x. OnOk c.expression.result (c.expression.new.self.next ≡ k + x)) equal c.expression.ensures.next

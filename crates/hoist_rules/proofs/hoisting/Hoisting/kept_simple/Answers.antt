@@ -1,0 +1,15 @@
+use Rattle.std.proofs.Common.{◌∙◌, ◌++◌, map, ap, append-nil, arith}
+use Rattle.c_tree.specs.RawViews.{raw_simple_tree, raw_stmt_tree}
+use Rattle.hoist_rules.proofs.Kept.{simple_kept, no_simple_before, no_simple_names}
+use Rattle.hoist_rules.proofs.hoisting.Hoisting.kept_simple.Goals as goal
+
+pub returns-clause-kept : goal.returns-clause-kept
+returns-clause-kept c = c.in_ok-simple.ensures.left ∙ simple_kept c.args.self.now.next (raw_simple_tree c.args.raw.now) c.requires
+
+pub returns-clause-outer : goal.returns-clause-outer
+returns-clause-outer c =
+    let before = map raw_stmt_tree c.args.self.now.statements.items in
+    c.in_ok-simple.ensures.before ∙ ap (λ b. before ++ b) (no_simple_before c.args.self.now.next (raw_simple_tree c.args.raw.now) c.requires) ∙ append-nil before
+
+pub returns-clause-next : goal.returns-clause-next
+returns-clause-next c = let none = no_simple_names (raw_simple_tree c.args.raw.now) c.requires in omega (arith, c.in_ok-simple.ensures.next, none)

@@ -1,0 +1,10 @@
+use Rattle.c_tree.specs.RawProgramView.{raw_program_tree}
+use Rattle.hoist_rules.proofs.Temporaries.{items_small}
+use Rattle.hoist_rules.proofs.Whole.{items_hoisted_whole}
+use Rattle.hoist_rules.proofs.programs.hoist.Goals as goal
+
+pub new-requires : goal.new-requires
+new-requires c = rw (c.in_ok-items.ensures, c.items.ensures) (items_small (raw_program_tree c.args.raw.now) c.args.raw.now.within)
+
+pub returns-clause-whole : goal.returns-clause-whole
+returns-clause-whole c = rw (c.new.ensures, c.in_ok-items.ensures, c.items.ensures) (items_hoisted_whole (raw_program_tree c.args.raw.now) c.requires)

@@ -1,0 +1,7 @@
+pub mod NewNames
+pub mod Calls
+pub mod Expressions
+pub mod Statements
+pub mod HoistExamples
+pub mod Chains
+pub mod Arguments

@@ -1,0 +1,67 @@
+// Bodies, and the loop of a `while` whose condition holds a call.
+ghost use Rattle.std.specs.Prelude.{◌≡◌, [], ◌∷◌, ◌++◌, map, IfOk, OnOk};
+ghost use Rattle.c_tree.specs.RawTrees.{RawNumber, RawIf, RawWhile, RawBreak};
+ghost use Rattle.c_tree.specs.RawViews.{raw_expr_tree, raw_stmt_tree};
+ghost use Rattle.hoist_rules.specs.Expressions.{is_false, in_block};
+ghost use Rattle.hoist_rules.specs.Statements.{as_body};
+
+use crate::chains::is_false;
+use crate::hoisting::Hoisting;
+use c_tree::{RawExpr, RawStmt};
+use std::alloc::{AllocError, Global};
+
+// Statements as a body.
+fn as_body(mut statements: Vec<RawStmt>) -> RawStmt
+    ensures { raw_stmt_tree result ≡ as_body (map raw_stmt_tree statements.items) }
+{
+    if 1 < statements.len() {
+        return RawStmt::Block(statements);
+    }
+    match statements.pop() {
+        Some(one) => one,
+        None => RawStmt::Empty,
+    }
+}
+
+/// `if (!c) break;`, whose `break` stands nowhere in the text.
+pub(crate) fn ends_unless(alloc: Global, condition: RawExpr) -> Result<RawStmt, AllocError>
+    ensures { IfOk result (λ s. raw_stmt_tree s ≡ RawIf (is_false (raw_expr_tree condition)) (RawBreak 0)) }
+{
+    let condition = is_false(alloc, condition)?;
+    let then = Box::new(alloc, RawStmt::Break { at: 0 })?;
+    Ok(RawStmt::If { condition, then })
+}
+
+impl Hoisting {
+    /// The body of the statements since `enter` handed out `outer`, in a box.
+    pub(crate) fn leave_body(&mut self, outer: Vec<RawStmt>) -> Result<Box<RawStmt>, AllocError>
+        ensures body { IfOk result (λ s. raw_stmt_tree s.value ≡ as_body (map raw_stmt_tree self.old.statements.items)) }
+        ensures outer { self.new.statements ≡ outer }
+        ensures next { self.new.next ≡ self.old.next }
+    {
+        let alloc = self.alloc;
+        let body = as_body(self.leave(outer));
+        Ok(Box::new(alloc, body)?)
+    }
+
+    /// That body, after the statements of `outer`.
+    pub(crate) fn push_body(&mut self, outer: Vec<RawStmt>) -> Result<(), AllocError>
+        ensures statements { OnOk result (map raw_stmt_tree self.new.statements.items ≡ map raw_stmt_tree outer.items ++ as_body (map raw_stmt_tree self.old.statements.items) ∷ []) }
+        ensures next { self.new.next ≡ self.old.next }
+    {
+        let body = as_body(self.leave(outer));
+        Ok(self.push(body)?)
+    }
+
+    /// `while (1) { .. }` around the statements since `enter` handed out `outer`, after those of `outer`.
+    pub(crate) fn push_loop(&mut self, outer: Vec<RawStmt>) -> Result<(), AllocError>
+        ensures statements { OnOk result (map raw_stmt_tree self.new.statements.items ≡ map raw_stmt_tree outer.items ++ RawWhile (RawNumber 1) (in_block (map raw_stmt_tree self.old.statements.items)) ∷ []) }
+        ensures next { self.new.next ≡ self.old.next }
+    {
+        let alloc = self.alloc;
+        let turn = RawStmt::Block(self.leave(outer));
+        let body = Box::new(alloc, turn)?;
+        let condition = RawExpr::Number(1);
+        Ok(self.push(RawStmt::While { condition, body })?)
+    }
+}

@@ -1,0 +1,144 @@
+// What a logical operator and a conditional put before a statement: a new name, and a branch that sets it.
+ghost use Rattle.std.specs.Prelude.{◌≡◌, ◌+◌, [], ◌∷◌, ◌++◌, map, IfOk, OnOk};
+ghost use Rattle.c_tree.specs.RawTrees.{RawIf, RawIfElse};
+ghost use Rattle.c_tree.specs.RawViews.{raw_expr_tree, raw_stmt_tree};
+ghost use Rattle.hoist_rules.specs.NewNames.{used, declared, declared_as, set_to};
+ghost use Rattle.hoist_rules.specs.Expressions.{in_block, is_true};
+ghost use Rattle.hoist_rules.specs.Chains.{chain_tree, condition_by};
+
+use crate::built::boxed_pair;
+use crate::chains::{Chain, condition_by, is_true};
+use crate::hoisting::{Hoisting, used};
+use c_tree::{Infix, RawExpr, RawStmt};
+use std::alloc::AllocError;
+
+impl Hoisting {
+    /// `int h = l != 0;` of the next new name and a left operand: the name's number.
+    pub(crate) fn declare_truth(&mut self, left: Chain) -> Result<u32, AllocError>
+        ensures number { IfOk result (λ k. k ≡ self.old.next) }
+        ensures before { OnOk result (map raw_stmt_tree self.new.statements.items ≡ map raw_stmt_tree self.old.statements.items ++ declared_as self.old.next (is_true (chain_tree left)) ∷ []) }
+        ensures next { OnOk result (self.new.next ≡ self.old.next + 1) }
+    {
+        let alloc = self.alloc;
+        let whole = left.whole(alloc)?;
+        let truth = is_true(alloc, whole)?;
+        match self.number() {
+            Ok(number) => {
+                self.declare_as(number, truth)?;
+                Ok(number)
+            }
+            Err(error) => {
+                drop(truth);
+                Err(error)
+            }
+        }
+    }
+
+    /// `int h;` of the next new name: its number.
+    pub(crate) fn declare_next(&mut self) -> Result<u32, AllocError>
+        ensures number { IfOk result (λ k. k ≡ self.old.next) }
+        ensures before { OnOk result (map raw_stmt_tree self.new.statements.items ≡ map raw_stmt_tree self.old.statements.items ++ declared self.old.next ∷ []) }
+        ensures next { OnOk result (self.new.next ≡ self.old.next + 1) }
+    {
+        let number = self.number()?;
+        self.declare(number)?;
+        Ok(number)
+    }
+
+    /// The block of the statements since `enter` handed out `outer`, and then `h = value;` of the new name of a number.
+    pub(crate) fn set_in_block(
+        &mut self,
+        outer: Vec<RawStmt>,
+        number: u32,
+        value: RawExpr,
+    ) -> Result<RawStmt, AllocError>
+        ensures block { IfOk result (λ s. raw_stmt_tree s ≡ in_block (map raw_stmt_tree self.old.statements.items ++ set_to number (raw_expr_tree value) ∷ [])) }
+        ensures outer { OnOk result (self.new.statements ≡ outer) }
+        ensures next { OnOk result (self.new.next ≡ self.old.next) }
+    {
+        match self.set(number, value) {
+            Ok(()) => Ok(RawStmt::Block(self.leave(outer))),
+            Err(error) => {
+                drop(outer);
+                Err(error)
+            }
+        }
+    }
+
+    // `if (condition) block`, where the condition is that of a logical operator.
+    fn push_decision(
+        &mut self,
+        operator: Infix,
+        number: u32,
+        block: RawStmt,
+    ) -> Result<(), AllocError>
+        ensures statements { OnOk result (map raw_stmt_tree self.new.statements.items ≡ map raw_stmt_tree self.old.statements.items ++ RawIf (condition_by operator number) (raw_stmt_tree block) ∷ []) }
+        ensures next { OnOk result (self.new.next ≡ self.old.next) }
+    {
+        let alloc = self.alloc;
+        let then = Box::new(alloc, block)?;
+        match condition_by(alloc, operator, number) {
+            Ok(condition) => Ok(self.push(RawStmt::If { condition, then })?),
+            Err(error) => {
+                drop(then);
+                Err(error)
+            }
+        }
+    }
+
+    /// `if (c) { P(r) h = r != 0; }`, where P(r) stands since `enter` handed out `outer`, and `value` is left of r: what is left of all.
+    pub(crate) fn decide(
+        &mut self,
+        outer: Vec<RawStmt>,
+        operator: Infix,
+        number: u32,
+        value: RawExpr,
+    ) -> Result<Chain, AllocError>
+        ensures left { IfOk result (λ c. chain_tree c ≡ used number) }
+        ensures before { OnOk result (map raw_stmt_tree self.new.statements.items ≡ map raw_stmt_tree outer.items ++ RawIf (condition_by operator number) (in_block (map raw_stmt_tree self.old.statements.items ++ set_to number (is_true (raw_expr_tree value)) ∷ [])) ∷ []) }
+        ensures next { OnOk result (self.new.next ≡ self.old.next) }
+    {
+        let alloc = self.alloc;
+        match is_true(alloc, value) {
+            Ok(truth) => {
+                let block = self.set_in_block(outer, number, truth)?;
+                self.push_decision(operator, number, block)?;
+                let name = used(alloc, number)?;
+                Ok(Chain::of(alloc, name))
+            }
+            Err(error) => {
+                drop(outer);
+                Err(error)
+            }
+        }
+    }
+
+    /// `if (condition) first else second`, of two blocks that set the new name of a number: what is left of the conditional.
+    pub(crate) fn choose(
+        &mut self,
+        number: u32,
+        condition: RawExpr,
+        first: RawStmt,
+        second: RawStmt,
+    ) -> Result<RawExpr, AllocError>
+        ensures left { IfOk result (λ e. raw_expr_tree e ≡ used number) }
+        ensures before { OnOk result (map raw_stmt_tree self.new.statements.items ≡ map raw_stmt_tree self.old.statements.items ++ RawIfElse (raw_expr_tree condition) (raw_stmt_tree first) (raw_stmt_tree second) ∷ []) }
+        ensures next { OnOk result (self.new.next ≡ self.old.next) }
+    {
+        let alloc = self.alloc;
+        match boxed_pair(alloc, first, second) {
+            Ok((then, otherwise)) => {
+                self.push(RawStmt::IfElse {
+                    condition,
+                    then,
+                    otherwise,
+                })?;
+                Ok(used(alloc, number)?)
+            }
+            Err(error) => {
+                drop(condition);
+                Err(error)
+            }
+        }
+    }
+}

@@ -1,0 +1,302 @@
+// The rewriting of an expression.
+ghost use Rattle.std.specs.Prelude.{◌≡◌, ◌+◌, false, [], ◌∷◌, ◌++◌, map, IfOk, OnOk};
+ghost use Rattle.c_tree.specs.RawViews.{name_tree, raw_expr_tree, raw_expr_trees, raw_stmt_tree};
+ghost use Rattle.hoist_rules.specs.NewNames.{set_to};
+ghost use Rattle.hoist_rules.specs.Calls.{is_named, is_spawn, holds_call};
+ghost use Rattle.hoist_rules.specs.Chains.{chain_tree, operand_trees, operand_left, operand_before, operand_after, operands_left, operands_before, operands_after};
+ghost use Rattle.hoist_rules.specs.Arguments.{passed_left, passed_before, passed_after};
+ghost use Rattle.hoist_rules.specs.Expressions.{one_if, names_in, arguments_names, in_block, part_after, part_or, part_named, left_of, arguments_left, call_left, before, arguments_before};
+
+use crate::built::{call_of, choice, copied, element, parenthesized, table_call_of, unary};
+use crate::chains::{Chain, is_branching};
+use crate::held_calls::{
+    calls_after, calls_among, either_holds_call, holds_call, is_left_alone, is_spawn, needs_name,
+};
+use crate::hoisting::Hoisting;
+use c_tree::{Infix, Name, RawExpr, RawStmt};
+use std::alloc::AllocError;
+
+impl Hoisting {
+    // A left operand, under a new name of its own or as it is.
+    fn named_left(&mut self, left: Chain, is_named: bool) -> Result<Chain, AllocError>
+        ensures left { IfOk result (λ c. chain_tree c ≡ part_or is_named self.old.next (chain_tree left)) }
+        ensures before { OnOk result (map raw_stmt_tree self.new.statements.items ≡ map raw_stmt_tree self.old.statements.items ++ part_named is_named self.old.next (chain_tree left)) }
+        ensures next { OnOk result (self.new.next ≡ self.old.next + one_if is_named) }
+    {
+        if !is_named {
+            return Ok(left);
+        }
+        let alloc = self.alloc;
+        let whole = left.whole(alloc)?;
+        let name = self.name_part(whole)?;
+        Ok(Chain::of(alloc, name))
+    }
+
+    // What is left of a part, under a new name of its own or as it is.
+    fn named_part(&mut self, part: RawExpr, is_named: bool) -> Result<RawExpr, AllocError>
+        ensures left { IfOk result (λ e. raw_expr_tree e ≡ part_or is_named self.old.next (raw_expr_tree part)) }
+        ensures before { OnOk result (map raw_stmt_tree self.new.statements.items ≡ map raw_stmt_tree self.old.statements.items ++ part_named is_named self.old.next (raw_expr_tree part)) }
+        ensures next { OnOk result (self.new.next ≡ self.old.next + one_if is_named) }
+    {
+        if !is_named {
+            return Ok(part);
+        }
+        Ok(self.name_part(part)?)
+    }
+}
+
+impl Hoisting {
+    /// What is left of an expression, after the statements that go before it.
+    #[cycle(hoist)]
+    pub(crate) fn expression(&mut self, raw: &RawExpr) -> Result<RawExpr, AllocError>
+        ensures left { IfOk result (λ e. raw_expr_tree e ≡ left_of self.old.next (raw_expr_tree raw.now)) }
+        ensures before { OnOk result (map raw_stmt_tree self.new.statements.items ≡ map raw_stmt_tree self.old.statements.items ++ before self.old.next (raw_expr_tree raw.now)) }
+        ensures next { OnOk result (self.new.next ≡ self.old.next + names_in (raw_expr_tree raw.now)) }
+    {
+        let alloc = self.alloc;
+        match raw {
+            RawExpr::Number(value) => Ok(RawExpr::Number(*value)),
+            RawExpr::Name(name) => Ok(RawExpr::Name(copied(alloc, name)?)),
+            RawExpr::Element { name, index } => {
+                let index = self.expression(index)?;
+                Ok(element(alloc, name, index)?)
+            }
+            RawExpr::Unary { operator, operand } => {
+                let operand = self.expression(operand)?;
+                Ok(unary(alloc, *operator, operand)?)
+            }
+            RawExpr::Parenthesized(inner) => {
+                let inner = self.expression(inner)?;
+                Ok(parenthesized(alloc, inner)?)
+            }
+            RawExpr::Chain { first, rest } => {
+                let operand = self.expression(first)?;
+                let left = Chain::of(alloc, operand);
+                let chain = self.operands(left, is_left_alone(first), rest)?;
+                Ok(chain.whole(alloc)?)
+            }
+            RawExpr::Conditional {
+                condition,
+                then,
+                otherwise,
+            } => {
+                let is_branched = either_holds_call(then, otherwise);
+                let condition = self.expression(condition)?;
+                if is_branched {
+                    let number = match self.declare_next() {
+                        Ok(number) => number,
+                        Err(error) => {
+                            drop(condition);
+                            return Err(error);
+                        }
+                    };
+                    let first = match self.branch(number, then) {
+                        Ok(first) => first,
+                        Err(error) => {
+                            drop(condition);
+                            return Err(error);
+                        }
+                    };
+                    match self.branch(number, otherwise) {
+                        Ok(second) => Ok(self.choose(number, condition, first, second)?),
+                        Err(error) => {
+                            drop(condition);
+                            drop(first);
+                            Err(error)
+                        }
+                    }
+                } else {
+                    let first = match self.kept(then) {
+                        Ok(first) => first,
+                        Err(error) => {
+                            drop(condition);
+                            return Err(error);
+                        }
+                    };
+                    match self.kept(otherwise) {
+                        Ok(second) => Ok(choice(alloc, condition, first, second)?),
+                        Err(error) => {
+                            drop(condition);
+                            drop(first);
+                            Err(error)
+                        }
+                    }
+                }
+            }
+            RawExpr::Call { name, arguments } => {
+                let arguments = self.arguments(is_spawn(name), arguments)?;
+                let call = call_of(alloc, name, arguments)?;
+                Ok(self.name_part(call)?)
+            }
+            RawExpr::TableCall {
+                name,
+                index,
+                argument,
+            } => {
+                let index = self.part(holds_call(argument), index)?;
+                match self.expression(argument) {
+                    Ok(argument) => {
+                        let call = table_call_of(alloc, name, index, argument)?;
+                        Ok(self.name_part(call)?)
+                    }
+                    Err(error) => {
+                        drop(index);
+                        Err(error)
+                    }
+                }
+            }
+        }
+    }
+
+    // The operators after the first operand of a chain, with their operands.
+    #[cycle(hoist)]
+    fn operands(
+        &mut self,
+        mut left: Chain,
+        mut is_alone: bool,
+        rest: &[(Infix, RawExpr)],
+    ) -> Result<Chain, AllocError>
+        ensures left { IfOk result (λ c. chain_tree c ≡ operands_left self.old.next is_alone (chain_tree left) (operand_trees rest.now)) }
+        ensures before { OnOk result (map raw_stmt_tree self.new.statements.items ≡ map raw_stmt_tree self.old.statements.items ++ operands_before self.old.next is_alone (chain_tree left) (operand_trees rest.now)) }
+        ensures next { OnOk result (self.new.next ≡ operands_after self.old.next is_alone (operand_trees rest.now)) }
+    {
+        for (operator, operand) in rest {
+            left = self.operand(left, is_alone, *operator, operand)?;
+            is_alone = false;
+        }
+        Ok(left)
+    }
+
+    // One operator and its right operand, after a left one that keeps its place or not. Where the right operand of `&&` or `||` holds
+    // a call, it is evaluated in a branch.
+    #[cycle(hoist)]
+    fn operand(
+        &mut self,
+        left: Chain,
+        is_alone: bool,
+        operator: Infix,
+        right: &RawExpr,
+    ) -> Result<Chain, AllocError>
+        ensures left { IfOk result (λ c. chain_tree c ≡ operand_left self.old.next operator is_alone (chain_tree left) (raw_expr_tree right.now)) }
+        ensures before { OnOk result (map raw_stmt_tree self.new.statements.items ≡ map raw_stmt_tree self.old.statements.items ++ operand_before self.old.next operator is_alone (chain_tree left) (raw_expr_tree right.now)) }
+        ensures next { OnOk result (self.new.next ≡ operand_after self.old.next operator is_alone (raw_expr_tree right.now)) }
+    {
+        let is_calling = holds_call(right);
+        if is_branching(operator, is_calling) {
+            let number = self.declare_truth(left)?;
+            let outer = self.enter();
+            return match self.expression(right) {
+                Ok(value) => Ok(self.decide(outer, operator, number, value)?),
+                Err(error) => {
+                    drop(outer);
+                    Err(error)
+                }
+            };
+        }
+        let left = self.named_left(left, needs_name(is_calling, is_alone))?;
+        match self.expression(right) {
+            Ok(right) => Ok(left.with(operator, right)?),
+            Err(error) => {
+                drop(left);
+                Err(error)
+            }
+        }
+    }
+
+    // `{ P(e) h = e; }` of the new name of a number.
+    #[cycle(hoist)]
+    fn branch(&mut self, number: u32, e: &RawExpr) -> Result<RawStmt, AllocError>
+        ensures block { IfOk result (λ s. raw_stmt_tree s ≡ in_block (before self.old.next (raw_expr_tree e.now) ++ set_to number (left_of self.old.next (raw_expr_tree e.now)) ∷ [])) }
+        ensures outer { OnOk result (self.new.statements ≡ self.old.statements) }
+        ensures next { OnOk result (self.new.next ≡ self.old.next + names_in (raw_expr_tree e.now)) }
+    {
+        let outer = self.enter();
+        match self.expression(e) {
+            Ok(value) => Ok(self.set_in_block(outer, number, value)?),
+            Err(error) => {
+                drop(outer);
+                Err(error)
+            }
+        }
+    }
+
+    /// An expression in which no call stands, which stays as it is.
+    #[cycle(hoist)]
+    pub(crate) fn kept(&mut self, raw: &RawExpr) -> Result<RawExpr, AllocError>
+        requires { holds_call (raw_expr_tree raw.now) ≡ false }
+        ensures kept { IfOk result (λ e. raw_expr_tree e ≡ raw_expr_tree raw.now) }
+        ensures outer { OnOk result (map raw_stmt_tree self.new.statements.items ≡ map raw_stmt_tree self.old.statements.items) }
+        ensures next { OnOk result (self.new.next ≡ self.old.next) }
+    {
+        Ok(self.expression(raw)?)
+    }
+
+    /// A part before others, which has a name of its own where one of them holds a call.
+    #[cycle(hoist)]
+    pub(crate) fn part(&mut self, is_later_call: bool, raw: &RawExpr) -> Result<RawExpr, AllocError>
+        ensures left { IfOk result (λ e. raw_expr_tree e ≡ part_or (is_named is_later_call (raw_expr_tree raw.now)) (self.old.next + names_in (raw_expr_tree raw.now)) (left_of self.old.next (raw_expr_tree raw.now))) }
+        ensures before { OnOk result (map raw_stmt_tree self.new.statements.items ≡ map raw_stmt_tree self.old.statements.items ++ before self.old.next (raw_expr_tree raw.now) ++ part_named (is_named is_later_call (raw_expr_tree raw.now)) (self.old.next + names_in (raw_expr_tree raw.now)) (left_of self.old.next (raw_expr_tree raw.now))) }
+        ensures next { OnOk result (self.new.next ≡ part_after self.old.next is_later_call (raw_expr_tree raw.now)) }
+    {
+        let part = self.expression(raw)?;
+        Ok(self.named_part(part, needs_name(is_later_call, is_left_alone(raw)))?)
+    }
+
+    /// The arguments of a call, of which the first may stay where it is.
+    #[cycle(hoist)]
+    pub(crate) fn arguments(
+        &mut self,
+        is_first_kept: bool,
+        raw: &[RawExpr],
+    ) -> Result<Vec<RawExpr>, AllocError>
+        ensures left { IfOk result (λ es. raw_expr_trees es.items ≡ arguments_left is_first_kept self.old.next (raw_expr_trees raw.now)) }
+        ensures before { OnOk result (map raw_stmt_tree self.new.statements.items ≡ map raw_stmt_tree self.old.statements.items ++ arguments_before is_first_kept self.old.next (raw_expr_trees raw.now)) }
+        ensures next { OnOk result (self.new.next ≡ self.old.next + arguments_names is_first_kept (raw_expr_trees raw.now)) }
+    {
+        let mut arguments = Vec::new(self.alloc);
+        let mut stays = is_first_kept;
+        let mut calls = calls_among(raw);
+        for argument in raw {
+            calls = calls_after(calls, argument);
+            let left = self.argument(stays, 0 < calls, argument)?;
+            stays = false;
+            arguments.push(left)?;
+        }
+        Ok(arguments)
+    }
+
+    // One argument: a part before the others, or the first of `spawn`, in whose place the number 0 stands where it holds a call.
+    #[cycle(hoist)]
+    fn argument(
+        &mut self,
+        stays: bool,
+        is_later_call: bool,
+        raw: &RawExpr,
+    ) -> Result<RawExpr, AllocError>
+        ensures left { IfOk result (λ e. raw_expr_tree e ≡ passed_left stays is_later_call self.old.next (raw_expr_tree raw.now)) }
+        ensures before { OnOk result (map raw_stmt_tree self.new.statements.items ≡ map raw_stmt_tree self.old.statements.items ++ passed_before stays is_later_call self.old.next (raw_expr_tree raw.now)) }
+        ensures next { OnOk result (self.new.next ≡ passed_after stays is_later_call self.old.next (raw_expr_tree raw.now)) }
+    {
+        if !stays {
+            return Ok(self.part(is_later_call, raw)?);
+        }
+        if holds_call(raw) {
+            Ok(RawExpr::Number(0))
+        } else {
+            Ok(self.kept(raw)?)
+        }
+    }
+}
+
+impl Hoisting {
+    /// A call itself, after the statements that go before its arguments.
+    pub(crate) fn call(&mut self, name: &Name, arguments: &[RawExpr]) -> Result<RawExpr, AllocError>
+        ensures left { IfOk result (λ e. raw_expr_tree e ≡ call_left self.old.next (name_tree name.now) (raw_expr_trees arguments.now)) }
+        ensures before { OnOk result (map raw_stmt_tree self.new.statements.items ≡ map raw_stmt_tree self.old.statements.items ++ arguments_before (is_spawn (name_tree name.now)) self.old.next (raw_expr_trees arguments.now)) }
+        ensures next { OnOk result (self.new.next ≡ self.old.next + arguments_names (is_spawn (name_tree name.now)) (raw_expr_trees arguments.now)) }
+    {
+        let alloc = self.alloc;
+        let arguments = self.arguments(is_spawn(name), arguments)?;
+        Ok(call_of(alloc, name, arguments)?)
+    }
+}

@@ -1,0 +1,123 @@
+// The parts in the parentheses of a `for`, whose calls are whole: they stay as they are.
+ghost use Rattle.std.specs.Prelude.{◌≡◌, map, option_map, IfOk, OnOk};
+ghost use Rattle.c_tree.specs.RawTrees.{RawFor};
+ghost use Rattle.c_tree.specs.RawViews.{raw_expr_tree, raw_simple_tree, raw_stmt_tree};
+ghost use Rattle.c_tree.specs.WholeCalls.{IsSimpleWhole, AreSimplesWhole, IsConditionWhole, IsStepWhole};
+
+use crate::hoisting::Hoisting;
+use c_tree::{RawExpr, RawSimple, RawStmt};
+use std::alloc::AllocError;
+
+/// What stands in the parentheses of a `for`.
+#[derive(Drop)]
+pub(crate) struct ForParts {
+    init: Vec<RawSimple>,
+    condition: Option<RawExpr>,
+    step: Option<RawSimple>,
+}
+
+impl ForParts {
+    /// The `for` of these parts and a body.
+    pub(crate) fn with(self, body: Box<RawStmt>) -> RawStmt
+        ensures { raw_stmt_tree result ≡ RawFor (map raw_simple_tree self.init.items) (option_map raw_expr_tree self.condition) (option_map raw_simple_tree self.step) (raw_stmt_tree body.value) }
+    {
+        let ForParts {
+            init,
+            condition,
+            step,
+        } = self;
+        RawStmt::For {
+            init,
+            condition,
+            step,
+            body,
+        }
+    }
+}
+
+impl Hoisting {
+    /// A copy of the parts.
+    pub(crate) fn kept_parts(
+        &mut self,
+        init: &[RawSimple],
+        condition: &Option<RawExpr>,
+        step: &Option<RawSimple>,
+    ) -> Result<ForParts, AllocError>
+        requires init { AreSimplesWhole (map raw_simple_tree init.now) }
+        requires condition { IsConditionWhole (option_map raw_expr_tree condition.now) }
+        requires step { IsStepWhole (option_map raw_simple_tree step.now) }
+        ensures init { IfOk result (λ p. map raw_simple_tree p.init.items ≡ map raw_simple_tree init.now) }
+        ensures condition { IfOk result (λ p. option_map raw_expr_tree p.condition ≡ option_map raw_expr_tree condition.now) }
+        ensures step { IfOk result (λ p. option_map raw_simple_tree p.step ≡ option_map raw_simple_tree step.now) }
+        ensures outer { OnOk result (map raw_stmt_tree self.new.statements.items ≡ map raw_stmt_tree self.old.statements.items) }
+        ensures next { OnOk result (self.new.next ≡ self.old.next) }
+    {
+        let init = self.kept_simples(init)?;
+        let condition = match self.kept_condition(condition) {
+            Ok(condition) => condition,
+            Err(error) => {
+                drop(init);
+                return Err(error);
+            }
+        };
+        match self.kept_step(step) {
+            Ok(step) => Ok(ForParts {
+                init,
+                condition,
+                step,
+            }),
+            Err(error) => {
+                drop(init);
+                drop(condition);
+                Err(error)
+            }
+        }
+    }
+
+    // A declaration, an assignment or a call in the parentheses of a `for`, whose calls are whole: as it is.
+    fn kept_simple(&mut self, raw: &RawSimple) -> Result<RawSimple, AllocError>
+        requires { IsSimpleWhole (raw_simple_tree raw.now) }
+        ensures kept { IfOk result (λ s. raw_simple_tree s ≡ raw_simple_tree raw.now) }
+        ensures outer { OnOk result (map raw_stmt_tree self.new.statements.items ≡ map raw_stmt_tree self.old.statements.items) }
+        ensures next { OnOk result (self.new.next ≡ self.old.next) }
+    {
+        Ok(self.simple(raw)?)
+    }
+
+    fn kept_simples(&mut self, raw: &[RawSimple]) -> Result<Vec<RawSimple>, AllocError>
+        requires { AreSimplesWhole (map raw_simple_tree raw.now) }
+        ensures kept { IfOk result (λ ss. map raw_simple_tree ss.items ≡ map raw_simple_tree raw.now) }
+        ensures outer { OnOk result (map raw_stmt_tree self.new.statements.items ≡ map raw_stmt_tree self.old.statements.items) }
+        ensures next { OnOk result (self.new.next ≡ self.old.next) }
+    {
+        let mut kept = Vec::new(self.alloc);
+        for simple in raw {
+            kept.push(self.kept_simple(simple)?)?;
+        }
+        Ok(kept)
+    }
+
+    fn kept_condition(&mut self, raw: &Option<RawExpr>) -> Result<Option<RawExpr>, AllocError>
+        requires { IsConditionWhole (option_map raw_expr_tree raw.now) }
+        ensures kept { IfOk result (λ c. option_map raw_expr_tree c ≡ option_map raw_expr_tree raw.now) }
+        ensures outer { OnOk result (map raw_stmt_tree self.new.statements.items ≡ map raw_stmt_tree self.old.statements.items) }
+        ensures next { OnOk result (self.new.next ≡ self.old.next) }
+    {
+        match raw {
+            None => Ok(None),
+            Some(condition) => Ok(Some(self.kept(condition)?)),
+        }
+    }
+
+    fn kept_step(&mut self, raw: &Option<RawSimple>) -> Result<Option<RawSimple>, AllocError>
+        requires { IsStepWhole (option_map raw_simple_tree raw.now) }
+        ensures kept { IfOk result (λ s. option_map raw_simple_tree s ≡ option_map raw_simple_tree raw.now) }
+        ensures outer { OnOk result (map raw_stmt_tree self.new.statements.items ≡ map raw_stmt_tree self.old.statements.items) }
+        ensures next { OnOk result (self.new.next ≡ self.old.next) }
+    {
+        match raw {
+            None => Ok(None),
+            Some(step) => Ok(Some(self.kept_simple(step)?)),
+        }
+    }
+}

@@ -1,0 +1,196 @@
+// The rewriting of statements.
+ghost use Rattle.std.specs.Prelude.{◌≡◌, ◌+◌, true, false, ◌++◌, map, IfOk, OnOk};
+ghost use Rattle.c_tree.specs.RawTrees.{RawWhile};
+ghost use Rattle.c_tree.specs.RawViews.{raw_expr_tree, raw_stmt_tree, raw_stmt_trees};
+ghost use Rattle.c_parse.specs.ForParts.{IsForWhole, AreForsWhole};
+ghost use Rattle.hoist_rules.specs.Calls.{holds_call};
+ghost use Rattle.hoist_rules.specs.Expressions.{names_in};
+ghost use Rattle.hoist_rules.specs.Statements.{stmt_names, stmts_names, as_body, turn_of, hoisted, all_hoisted};
+
+use crate::bodies::ends_unless;
+use crate::held_calls::holds_call;
+use crate::hoisting::Hoisting;
+use c_tree::{RawExpr, RawStmt};
+use std::alloc::AllocError;
+
+impl Hoisting {
+    /// The statements that stand in the place of one.
+    #[cycle(statements)]
+    fn statement(&mut self, raw: &RawStmt) -> Result<(), AllocError>
+        requires { IsForWhole (raw_stmt_tree raw.now) }
+        ensures statements { OnOk result (map raw_stmt_tree self.new.statements.items ≡ map raw_stmt_tree self.old.statements.items ++ hoisted self.old.next (raw_stmt_tree raw.now)) }
+        ensures next { OnOk result (self.new.next ≡ self.old.next + stmt_names (raw_stmt_tree raw.now)) }
+    {
+        match raw {
+            RawStmt::Simple(simple) => {
+                let simple = self.simple(simple)?;
+                Ok(self.push(RawStmt::Simple(simple))?)
+            }
+            RawStmt::Empty => Ok(self.push(RawStmt::Empty)?),
+            RawStmt::Block(stmts) => {
+                let stmts = self.block(stmts)?;
+                Ok(self.push(RawStmt::Block(stmts))?)
+            }
+            RawStmt::If { condition, then } => {
+                let condition = self.expression(condition)?;
+                match self.body(then) {
+                    Ok(then) => Ok(self.push(RawStmt::If { condition, then })?),
+                    Err(error) => {
+                        drop(condition);
+                        Err(error)
+                    }
+                }
+            }
+            RawStmt::IfElse {
+                condition,
+                then,
+                otherwise,
+            } => {
+                let condition = self.expression(condition)?;
+                let then = match self.body(then) {
+                    Ok(then) => then,
+                    Err(error) => {
+                        drop(condition);
+                        return Err(error);
+                    }
+                };
+                match self.body(otherwise) {
+                    Ok(otherwise) => Ok(self.push(RawStmt::IfElse {
+                        condition,
+                        then,
+                        otherwise,
+                    })?),
+                    Err(error) => {
+                        drop(condition);
+                        drop(then);
+                        Err(error)
+                    }
+                }
+            }
+            RawStmt::While { condition, body } => {
+                if holds_call(condition) {
+                    Ok(self.while_calling(body, condition)?)
+                } else {
+                    Ok(self.while_loop(body, condition)?)
+                }
+            }
+            RawStmt::For {
+                init,
+                condition,
+                step,
+                body,
+            } => {
+                let parts = self.kept_parts(init, condition, step)?;
+                match self.body(body) {
+                    Ok(body) => Ok(self.push(parts.with(body))?),
+                    Err(error) => {
+                        drop(parts);
+                        Err(error)
+                    }
+                }
+            }
+            RawStmt::Break { at } => Ok(self.push(RawStmt::Break { at: *at })?),
+            RawStmt::Continue { at } => Ok(self.push(RawStmt::Continue { at: *at })?),
+            RawStmt::Return { at, value } => {
+                let returned = self.returned(*at, value)?;
+                Ok(self.push(returned)?)
+            }
+        }
+    }
+
+    /// The statements of a block.
+    #[cycle(statements)]
+    pub(crate) fn block(&mut self, raw: &[RawStmt]) -> Result<Vec<RawStmt>, AllocError>
+        requires { AreForsWhole (raw_stmt_trees raw.now) }
+        ensures statements { IfOk result (λ ss. map raw_stmt_tree ss.items ≡ all_hoisted self.old.next (raw_stmt_trees raw.now)) }
+        ensures outer { OnOk result (self.new.statements ≡ self.old.statements) }
+        ensures next { OnOk result (self.new.next ≡ self.old.next + stmts_names (raw_stmt_trees raw.now)) }
+    {
+        let outer = self.enter();
+        for stmt in raw {
+            match self.statement(stmt) {
+                Ok(()) => {}
+                Err(error) => {
+                    drop(outer);
+                    return Err(error);
+                }
+            }
+        }
+        Ok(self.leave(outer))
+    }
+
+    // A body: a block, where other statements than one stand in its place.
+    #[cycle(statements)]
+    fn body(&mut self, raw: &RawStmt) -> Result<Box<RawStmt>, AllocError>
+        requires { IsForWhole (raw_stmt_tree raw.now) }
+        ensures statement { IfOk result (λ s. raw_stmt_tree s.value ≡ as_body (hoisted self.old.next (raw_stmt_tree raw.now))) }
+        ensures outer { OnOk result (self.new.statements ≡ self.old.statements) }
+        ensures next { OnOk result (self.new.next ≡ self.old.next + stmt_names (raw_stmt_tree raw.now)) }
+    {
+        let outer = self.enter();
+        match self.statement(raw) {
+            Ok(()) => Ok(self.leave_body(outer)?),
+            Err(error) => {
+                drop(outer);
+                Err(error)
+            }
+        }
+    }
+
+    // A `while` whose condition holds no call.
+    #[cycle(statements)]
+    fn while_loop(&mut self, body: &RawStmt, condition: &RawExpr) -> Result<(), AllocError>
+        requires calling { holds_call (raw_expr_tree condition.now) ≡ false }
+        requires parts { IsForWhole (raw_stmt_tree body.now) }
+        ensures statements { OnOk result (map raw_stmt_tree self.new.statements.items ≡ map raw_stmt_tree self.old.statements.items ++ hoisted self.old.next (RawWhile (raw_expr_tree condition.now) (raw_stmt_tree body.now))) }
+        ensures next { OnOk result (self.new.next ≡ self.old.next + stmt_names (RawWhile (raw_expr_tree condition.now) (raw_stmt_tree body.now))) }
+    {
+        let condition = self.kept(condition)?;
+        match self.body(body) {
+            Ok(body) => Ok(self.push(RawStmt::While { condition, body })?),
+            Err(error) => {
+                drop(condition);
+                Err(error)
+            }
+        }
+    }
+
+    // A `while` whose condition holds a call, which it makes at each turn.
+    #[cycle(statements)]
+    fn while_calling(&mut self, body: &RawStmt, condition: &RawExpr) -> Result<(), AllocError>
+        requires calling { holds_call (raw_expr_tree condition.now) ≡ true }
+        requires parts { IsForWhole (raw_stmt_tree body.now) }
+        ensures statements { OnOk result (map raw_stmt_tree self.new.statements.items ≡ map raw_stmt_tree self.old.statements.items ++ hoisted self.old.next (RawWhile (raw_expr_tree condition.now) (raw_stmt_tree body.now))) }
+        ensures next { OnOk result (self.new.next ≡ self.old.next + stmt_names (RawWhile (raw_expr_tree condition.now) (raw_stmt_tree body.now))) }
+    {
+        let outer = self.enter();
+        match self.turn(body, condition) {
+            Ok(()) => Ok(self.push_loop(outer)?),
+            Err(error) => {
+                drop(outer);
+                Err(error)
+            }
+        }
+    }
+
+    // A turn of it: `P(c) if (!c) break; S`.
+    #[cycle(statements)]
+    fn turn(&mut self, body: &RawStmt, condition: &RawExpr) -> Result<(), AllocError>
+        requires { IsForWhole (raw_stmt_tree body.now) }
+        ensures statements { OnOk result (map raw_stmt_tree self.new.statements.items ≡ map raw_stmt_tree self.old.statements.items ++ turn_of self.old.next (raw_expr_tree condition.now) (as_body (hoisted (self.old.next + names_in (raw_expr_tree condition.now)) (raw_stmt_tree body.now)))) }
+        ensures next { OnOk result (self.new.next ≡ self.old.next + names_in (raw_expr_tree condition.now) + stmt_names (raw_stmt_tree body.now)) }
+    {
+        let alloc = self.alloc;
+        let condition = self.expression(condition)?;
+        let test = ends_unless(alloc, condition)?;
+        self.push(test)?;
+        let outer = self.enter();
+        match self.statement(body) {
+            Ok(()) => Ok(self.push_body(outer)?),
+            Err(error) => {
+                drop(outer);
+                Err(error)
+            }
+        }
+    }
+}

@@ -1,0 +1,101 @@
+use cap_text::read_dec;
+use std::alloc::{AllocError, Global};
+
+/// What is asked for: the files that the pictures go to, the file of the log, and the words of the run.
+#[derive(Drop)]
+pub struct Wanted {
+    pub timeline: Option<String>,
+    pub graph: Option<String>,
+    pub log: Option<String>,
+    pub words: Vec<String>,
+}
+
+/// What the next word is.
+#[derive(Clone, Copy)]
+enum Next {
+    /// An option, or the first word of the run.
+    Any,
+    Timeline,
+    Graph,
+    Log,
+    Word,
+}
+
+impl Wanted {
+    /// What these words ask for.
+    pub fn read(alloc: Global, words: Vec<String>) -> Result<Wanted, AllocError> {
+        let mut wanted = Wanted {
+            timeline: None,
+            graph: None,
+            log: None,
+            words: Vec::new(alloc),
+        };
+        let mut next = Next::Any;
+        for word in words {
+            next = wanted.take(next, word)?;
+        }
+        Ok(wanted)
+    }
+
+    /// Takes a word, and says what the next one is.
+    fn take(&mut self, next: Next, word: String) -> Result<Next, AllocError> {
+        match next {
+            Next::Any => self.begin(word),
+            Next::Timeline => {
+                self.timeline = Some(word);
+                Ok(Next::Any)
+            }
+            Next::Graph => {
+                self.graph = Some(word);
+                Ok(Next::Any)
+            }
+            Next::Log => {
+                self.log = Some(word);
+                Ok(Next::Any)
+            }
+            Next::Word => {
+                self.words.push(word)?;
+                Ok(Next::Word)
+            }
+        }
+    }
+
+    /// Takes a word that may be one of the report's options; the first that is none begins the words of the run.
+    fn begin(&mut self, word: String) -> Result<Next, AllocError> {
+        match word.as_str() {
+            "--timeline" => Ok(Next::Timeline),
+            "--graph" => Ok(Next::Graph),
+            "--log" => Ok(Next::Log),
+            _ => {
+                self.words.push(word)?;
+                Ok(Next::Word)
+            }
+        }
+    }
+
+    /// The name of the source: the second word of the run.
+    pub fn source(&self) -> Option<&String> {
+        self.words.as_slice().get(1)
+    }
+
+    /// How many chunks of the certificate's size the run has, by its words: 1,024 where they don't say.
+    pub fn chunks(&self) -> u32 {
+        let mut chunks: u32 = 1024;
+        let mut is_next = false;
+        for word in self.words.as_slice() {
+            if is_next {
+                chunks = count_or(word.as_str().as_bytes(), chunks);
+            }
+            is_next = word.as_str() == "--chunks";
+        }
+        chunks
+    }
+}
+
+/// The number of chunks that a word spells, or this one.
+fn count_or(word: &[u8], chunks: u32) -> u32 {
+    match read_dec(word, 65_536) {
+        Ok(number) => number as u32,
+        Err(_) => chunks,
+    }
+}

@@ -1,0 +1,156 @@
+use crate::answers::{Answers, one_more};
+use run_history::{Happening, Segment, Wait};
+use schedule_log::Item;
+use std::alloc::Global;
+use std::collections::BTreeMap;
+
+/// Why numbers go no further.
+#[derive(Clone, Copy)]
+pub enum NumbersError {
+    /// A count would be 2^64 or more, or a wait would end before it began, as in no run.
+    Count,
+    /// There is no memory.
+    Memory,
+}
+
+/// How long a wait at a site was.
+#[derive(Clone, Copy)]
+pub struct WaitLength {
+    pub site: u32,
+    /// In ticks.
+    pub ticks: u64,
+}
+
+/// The numbers of a run so far.
+#[derive(Drop)]
+pub struct Numbers {
+    /// How many events of the trace came or were dropped.
+    pub events: u64,
+    /// The places in the trace, from 0, of the requests that came, in order. The request of number i in the order of takes is
+    /// the one at place i here: requests are taken the oldest first.
+    pub arrivals: Vec<u64>,
+    /// How many requests were dropped.
+    pub dropped: u64,
+    /// The waits that took a request, in order.
+    pub takes: Vec<Wait>,
+    /// When requests were answered, by their numbers.
+    pub answers: BTreeMap<u64, Answers>,
+    /// All waits, in order.
+    pub waits: Vec<WaitLength>,
+    /// The most chunks that were held after a segment.
+    pub most_held: u32,
+}
+
+impl Numbers {
+    ghost use Rattle.std.specs.Prelude.{◌≡◌, ℕ, ◌++◌, ◌∷◌, [], List, OnOk};
+    ghost use Rattle.run_history.specs.declared.happenings.Happening.{Happening};
+    ghost use Rattle.run_history.specs.declared.happenings.Happening.TheVariants.{Came, Lost, Waited, Ran};
+    ghost use Rattle.run_history.specs.Happenings.{clocks_in};
+    ghost use Rattle.run_numbers.specs.Answers.{answers_from};
+    ghost use Rattle.run_numbers.specs.Numbers.{IsNumbersOf, IsOneMore, KeepsOthers};
+    ghost use Rattle.std.specs.BTreeMap.{get};
+    ghost use Rattle.std.specs.Ordering.{nat_cmp};
+
+    /// The numbers before the first entry. It takes no memory.
+    pub fn new(alloc: Global) -> Numbers
+        ensures { (chunks : ℕ) → IsNumbersOf chunks [] result }
+    {
+        Numbers {
+            events: 0,
+            arrivals: Vec::new(alloc),
+            dropped: 0,
+            takes: Vec::new(alloc),
+            answers: BTreeMap::new(alloc),
+            waits: Vec::new(alloc),
+            most_held: 0,
+        }
+    }
+
+    /// What one entry more tells, of a run with so many chunks. After a refusal nothing is said of the numbers.
+    pub fn add(&mut self, told: Happening, chunks: u32) -> Result<(), NumbersError>
+        ensures { OnOk result (IsOneMore chunks told self.old self.new) }
+    {
+        match told {
+            Happening::Came { item, .. } => self.come(item),
+            Happening::Lost { item, .. } => self.lose(item),
+            Happening::Started { .. } => Ok(()),
+            Happening::Waited(wait) => self.wait(wait),
+            Happening::Put { .. } => Ok(()),
+            Happening::Ran { segment, free } => self.rest(segment, chunks, free),
+            Happening::Nothing => Ok(()),
+        }
+    }
+
+    /// An event came.
+    fn come(&mut self, item: Item) -> Result<(), NumbersError>
+        ensures { (chunks clock : ℕ) → OnOk result (IsOneMore chunks (Came clock item) self.old self.new) }
+    {
+        let line = self.events;
+        self.events = line.checked_add(1).ok_or(NumbersError::Count)?;
+        match item {
+            Item::Arrive { .. } => self.arrivals.push(line).map_err(|_| NumbersError::Memory),
+            Item::Data { .. } => Ok(()),
+        }
+    }
+
+    /// An event was dropped.
+    fn lose(&mut self, item: Item) -> Result<(), NumbersError>
+        ensures { (chunks clock : ℕ) → OnOk result (IsOneMore chunks (Lost clock item) self.old self.new) }
+    {
+        self.events = self.events.checked_add(1).ok_or(NumbersError::Count)?;
+        match item {
+            Item::Arrive { .. } => {
+                self.dropped = self.dropped.checked_add(1).ok_or(NumbersError::Count)?;
+                Ok(())
+            }
+            Item::Data { .. } => Ok(()),
+        }
+    }
+
+    /// A wait is over.
+    fn wait(&mut self, wait: Wait) -> Result<(), NumbersError>
+        ensures { (chunks : ℕ) → OnOk result (IsOneMore chunks (Waited wait) self.old self.new) }
+    {
+        let ticks = wait
+            .until
+            .checked_sub(wait.since)
+            .ok_or(NumbersError::Count)?;
+        let length = WaitLength {
+            site: wait.site,
+            ticks,
+        };
+        self.waits.push(length).map_err(|_| NumbersError::Memory)?;
+        match wait.request {
+            None => Ok(()),
+            Some(_) => self.takes.push(wait).map_err(|_| NumbersError::Memory),
+        }
+    }
+
+    /// A segment is over, with so many chunks free.
+    fn rest(&mut self, segment: Segment, chunks: u32, free: u32) -> Result<(), NumbersError>
+        ensures { OnOk result (IsOneMore chunks (Ran segment free) self.old self.new) }
+    {
+        self.answer(segment)?;
+        self.most_held = self.most_held.max(chunks.saturating_sub(free));
+        Ok(())
+    }
+
+    /// The answers of a segment.
+    fn answer(&mut self, segment: Segment) -> Result<(), NumbersError>
+        ensures answers { (request : ℕ) → OnOk result (get nat_cmp self.new.answers request ≡ answers_from (get nat_cmp self.old.answers request) (clocks_in request segment)) }
+        ensures others { OnOk result (KeepsOthers self.old self.new) }
+    {
+        if segment.puts == 0 {
+            return Ok(());
+        }
+        let Some(request) = segment.request else {
+            return Ok(());
+        };
+        let before = self.answers.get(&request).copied();
+        let answers = one_more(before, segment.ended).ok_or(NumbersError::Count)?;
+        match self.answers.insert(request, answers) {
+            Ok(_) => Ok(()),
+            Err(_) => Err(NumbersError::Memory),
+        }
+    }
+}

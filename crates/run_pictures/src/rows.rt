@@ -1,0 +1,96 @@
+use crate::columns::column_of;
+use run_history::{Happening, Segment, Wait};
+use std::alloc::{AllocError, Global};
+use std::collections::BTreeMap;
+
+/// What a thread does at a mark.
+#[derive(Clone, Copy, PartialEq, Eq)]
+pub enum Doing {
+    Runs,
+    /// It waits at the call of that site.
+    Waits { site: u32 },
+}
+
+/// A part of a row: from one column to another, both within it.
+#[derive(Clone, Copy)]
+pub struct Mark {
+    pub from: u32,
+    pub to: u32,
+    pub doing: Doing,
+}
+
+/// The rows of a timeline, by the numbers of the threads.
+#[derive(Drop)]
+pub struct Rows {
+    alloc: Global,
+    end: u64,
+    rows: BTreeMap<u32, Vec<Mark>>,
+}
+
+impl Rows {
+    /// The rows of a run that ended at that clock, before its first entry. It takes no memory.
+    pub fn new(alloc: Global, end: u64) -> Rows {
+        Rows {
+            alloc,
+            end,
+            rows: BTreeMap::new(alloc),
+        }
+    }
+
+    /// What one entry more tells.
+    pub fn add(&mut self, told: Happening) -> Result<(), AllocError> {
+        match told {
+            Happening::Came { .. } => Ok(()),
+            Happening::Lost { .. } => Ok(()),
+            Happening::Started { .. } => Ok(()),
+            Happening::Waited(wait) => self.wait(wait),
+            Happening::Put { .. } => Ok(()),
+            Happening::Ran { segment, .. } => self.run(segment),
+            Happening::Nothing => Ok(()),
+        }
+    }
+
+    /// The threads that have a row, in the order of their numbers, with their marks in the order of time.
+    pub fn rows(&self) -> &BTreeMap<u32, Vec<Mark>> {
+        &self.rows
+    }
+
+    fn wait(&mut self, wait: Wait) -> Result<(), AllocError> {
+        let doing = Doing::Waits { site: wait.site };
+        self.mark(wait.thread, wait.since, wait.until, doing)
+    }
+
+    fn run(&mut self, segment: Segment) -> Result<(), AllocError> {
+        self.mark(segment.thread, segment.began, segment.ended, Doing::Runs)
+    }
+
+    /// Marks what a thread does from one clock to another.
+    fn mark(&mut self, thread: u32, from: u64, to: u64, doing: Doing) -> Result<(), AllocError> {
+        let mark = Mark {
+            from: column_of(from, self.end),
+            to: column_of(to, self.end),
+            doing,
+        };
+        let row = self.rows.entry(thread)?.or_insert(Vec::new(self.alloc));
+        extend(row, mark)
+    }
+}
+
+/// Extends a row by a mark. Marks meet in at most one column: what is done there first is shown, and a mark that has no column
+/// of its own isn't kept.
+fn extend(row: &mut Vec<Mark>, mark: Mark) -> Result<(), AllocError> {
+    let Some(last) = row.last_mut() else {
+        row.push(mark)?;
+        return Ok(());
+    };
+    if last.to >= mark.to {
+        return Ok(());
+    }
+    if last.doing == mark.doing {
+        last.to = mark.to;
+        return Ok(());
+    }
+    let from = mark.from.max(last.to.saturating_add(1));
+    row.push(Mark { from, ..mark })?;
+    Ok(())
+}

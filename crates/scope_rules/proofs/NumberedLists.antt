@@ -1,0 +1,34 @@
+-- Statements whose parts have other numbers of their calls.
+use Rattle.std.proofs.Common.{◌≡◌, ℕ, List, [], ◌∷◌, map, refl, sym, ap, ◌∙◌}
+use Rattle.std.specs.Prelude.{Box, Vec, Option, option_map}
+use Rattle.std.specs.declared.alloc.Global.{Global}
+use Rattle.c_tree.specs.declared.expressions.Expr.{Expr}
+use Rattle.c_tree.specs.declared.statements.Simple.{Simple}
+use Rattle.c_tree.specs.declared.statements.Stmt.{Stmt}
+use Rattle.c_tree.specs.declared.statements.Stmt.TheViews as code
+use Rattle.c_tree.specs.Trees.{StmtTree, If, IfElse, While, For, Then}
+use Rattle.c_tree.specs.Views.{expr_tree, simple_tree, stmt_tree, in_order}
+use Rattle.c_tree.proofs.StmtEquations.{stmt_tree-If, stmt_tree-IfElse, stmt_tree-While, stmt_tree-For}
+use Rattle.scope_rules.specs.Numbered.{simple_numbered, stmt_numbered, stmts_numbered}
+
+pub numbered_in_order : (ns : List ℕ) (ts : List StmtTree) → in_order (map (stmt_numbered ns) ts) ≡ stmts_numbered ns (in_order ts)
+numbered_in_order ns [] = refl
+numbered_in_order ns (t ∷ ts) = ap (Then (stmt_numbered ns t)) (numbered_in_order ns ts)
+
+-- a statement whose parts are numbered, of the statement s
+module _ (ns : List ℕ) (s : Stmt) where
+  pub if_numbered : (c d : Expr) (p : Box Stmt Global) (q : Stmt) → s ≡ code.If c p → d ≡ c → stmt_tree q ≡ stmt_numbered ns (stmt_tree p.value) → If (expr_tree d) (stmt_tree q) ≡ stmt_numbered ns (stmt_tree s)
+  if_numbered c d p q is e f = (λ i. If (expr_tree (e i)) (f i)) ∙ sym (ap (stmt_numbered ns) (ap stmt_tree is ∙ stmt_tree-If c p))
+
+  pub if_else_numbered : (c d : Expr) (p r : Box Stmt Global) (q t : Stmt) → s ≡ code.IfElse c p r → d ≡ c → stmt_tree q ≡ stmt_numbered ns (stmt_tree p.value) → stmt_tree t ≡ stmt_numbered ns (stmt_tree r.value) →
+      IfElse (expr_tree d) (stmt_tree q) (stmt_tree t) ≡ stmt_numbered ns (stmt_tree s)
+  if_else_numbered c d p r q t is e f g = (λ i. IfElse (expr_tree (e i)) (f i) (g i)) ∙ sym (ap (stmt_numbered ns) (ap stmt_tree is ∙ stmt_tree-IfElse c p r))
+
+  pub while_numbered : (c d : Expr) (p : Box Stmt Global) (q : Stmt) → s ≡ code.While c p → d ≡ c → stmt_tree q ≡ stmt_numbered ns (stmt_tree p.value) → While (expr_tree d) (stmt_tree q) ≡ stmt_numbered ns (stmt_tree s)
+  while_numbered c d p q is e f = (λ i. While (expr_tree (e i)) (f i)) ∙ sym (ap (stmt_numbered ns) (ap stmt_tree is ∙ stmt_tree-While c p))
+
+  pub for_numbered : (init : Vec Simple Global) (c d : Option Expr) (step : Option Simple) (p : Box Stmt Global) (starts : List Simple) (after : Option Simple) (q : Stmt) → s ≡ code.For init c step p → d ≡ c →
+      map simple_tree starts ≡ map (simple_numbered ns) (map simple_tree init.items) → option_map simple_tree after ≡ option_map (simple_numbered ns) (option_map simple_tree step) → stmt_tree q ≡ stmt_numbered ns (stmt_tree p.value) →
+      For (map simple_tree starts) (option_map expr_tree d) (option_map simple_tree after) (stmt_tree q) ≡ stmt_numbered ns (stmt_tree s)
+  for_numbered init c d step p starts after q is e f g h =
+      (λ i. For (f i) (option_map expr_tree (e i)) (g i) (h i)) ∙ sym (ap (stmt_numbered ns) (ap stmt_tree is ∙ stmt_tree-For init c step p))

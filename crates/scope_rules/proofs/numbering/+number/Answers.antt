@@ -1,0 +1,66 @@
+use borrow.Enum.Known.{ValuesAt}
+use borrow.Enum.Total.{values_o, values_o_at, values_d, values_d_at}
+use Rattle.std.proofs.Common.{refl, ap, map, sym, ◌∙◌, arith, List, length}
+use Rattle.std.specs.Prelude.{option_map}
+use Rattle.std.proofs.lemmas.List.{with_items_is}
+use Rattle.c_tree.specs.declared.statements.Stmt.{Stmt}
+use Rattle.c_tree.specs.contracts.statements.Stmt.{enum}
+use Rattle.c_tree.specs.declared.statements.Simple.{Simple}
+use Rattle.c_tree.specs.Trees.{For}
+use Rattle.c_tree.specs.Views.{expr_tree, simple_tree, stmt_tree, in_order}
+use Rattle.c_tree.proofs.StmtEquations.{stmt_tree-If, stmt_tree-IfElse, stmt_tree-While, stmt_tree-For}
+use Rattle.scope_rules.specs.Numbered.{simple_numbered, stmt_numbered}
+use Rattle.scope_rules.proofs.MappedLists.{changed_more, changed_all, left_more}
+use Rattle.scope_rules.proofs.NumberedLists.{numbered_in_order, if_numbered, if_else_numbered, while_numbered, for_numbered}
+use Rattle.scope_rules.proofs.numbering.+number.Goals as goal
+
+pub number_stmt-returns-in-If : goal.number_stmt-returns-in-If
+number_stmt-returns-in-If t c =
+    let ns = c.args.numbers.now in
+    let e = c.number_stmt.ensures ∙ ap (λ x. stmt_numbered ns (stmt_tree x)) (c.deref_mut-in-If.ensures.value ∙ ap (λ b. b.value) c.in-If.then-is) in
+    let there = ap (values_o enum 3) c.in-If.is ∙ values_o_at enum 3 (c.in-If.condition, (c.in-If.then, tt {0})) in
+    rw there (stmt_tree-If _ _ ∙ if_numbered ns c.args.stmt.now c.in-If.condition c.in-If.condition c.in-If.then c.number_stmt.new.stmt c.in-If.is refl e)
+
+pub number_stmt-returns-in-IfElse : goal.number_stmt-returns-in-IfElse
+number_stmt-returns-in-IfElse t c =
+    let ns = c.args.numbers.now in
+    let e = c.number_stmt-in-IfElse.ensures ∙ ap (λ x. stmt_numbered ns (stmt_tree x)) (c.deref_mut-in-IfElse.ensures.value ∙ ap (λ b. b.value) c.in-IfElse.then-is) in
+    let f = c.number_stmt-in-IfElse-2.ensures ∙ ap (λ x. stmt_numbered ns (stmt_tree x)) (c.deref_mut-in-IfElse-2.ensures.value ∙ ap (λ b. b.value) c.in-IfElse.otherwise-is) in
+    let given : ValuesAt enum.parts 4 = (c.in-IfElse.condition, (c.in-IfElse.then, (c.in-IfElse.otherwise, tt {0}))) in
+    let there = ap (λ (s : Stmt). (values_d enum 4 given s).0) c.in-IfElse.is ∙ ap (λ v. v.0) (values_d_at enum 4 given given) in
+    stmt_tree-IfElse _ _ _
+    ∙ if_else_numbered ns c.args.stmt.now c.in-IfElse.condition _ c.in-IfElse.then c.in-IfElse.otherwise c.number_stmt-in-IfElse.new.stmt c.number_stmt-in-IfElse-2.new.stmt c.in-IfElse.is there e f
+
+pub number_stmt-returns-in-While : goal.number_stmt-returns-in-While
+number_stmt-returns-in-While t c =
+    let ns = c.args.numbers.now in
+    let e = c.number_stmt-in-While.ensures ∙ ap (λ x. stmt_numbered ns (stmt_tree x)) (c.deref_mut-in-While.ensures.value ∙ ap (λ b. b.value) c.in-While.body-is) in
+    let there = ap (values_o enum 5) c.in-While.is ∙ values_o_at enum 5 (c.in-While.condition, (c.in-While.body, tt {0})) in
+    rw there (stmt_tree-While _ _ ∙ while_numbered ns c.args.stmt.now c.in-While.condition c.in-While.condition c.in-While.body c.number_stmt-in-While.new.stmt c.in-While.is refl e)
+
+pub number_stmt-returns-in-For : goal.number_stmt-returns-in-For
+number_stmt-returns-in-For t c =
+    let ns = c.args.numbers.now in
+    let given : ValuesAt enum.parts 6 = (c.in-For.init, (c.in-For.condition, (c.in-For.step, (c.in-For.body, tt {0})))) in
+    let x = values_d enum 6 given c.args.stmt.now in
+    let e = c.number_simples.ensures ∙ ap (λ y. map (simple_numbered ns) (map simple_tree y)) (c.deref_mut-in-For.ensures.value ∙ ap (λ v. v.items) c.in-For.init-is) in
+    let f = c.number_step.ensures ∙ ap (λ y. option_map (simple_numbered ns) (option_map simple_tree y)) c.in-For.step-is in
+    let g = c.number_stmt-in-For.ensures ∙ ap (λ y. stmt_numbered ns (stmt_tree y)) (c.deref_mut-in-For-2.ensures.value ∙ ap (λ b. b.value) c.in-For.body-is) in
+    let there = ap (λ (s : Stmt). (values_d enum 6 given s).1.0) c.in-For.is ∙ ap (λ v. v.1.0) (values_d_at enum 6 given given) in
+    let long = c.number_simples.auto.simples ∙ ap length c.deref_mut-in-For.ensures.value ∙ sym x.0.ok.0 in
+    stmt_tree-For _ _ _ _
+    ∙ (ap (λ (l : List Simple). For (map simple_tree l) (option_map expr_tree x.1.0) (option_map simple_tree c.number_step.new.step) (stmt_tree c.number_stmt-in-For.new.stmt)) (with_items_is x.0 c.number_simples.new.simples long)
+    ∙ for_numbered ns c.args.stmt.now c.in-For.init c.in-For.condition x.1.0 c.in-For.step c.in-For.body c.number_simples.new.simples c.number_step.new.step c.number_stmt-in-For.new.stmt c.in-For.is there e f g)
+
+pub number_stmts-loop-i-preserved : goal.number_stmts-loop-i-preserved
+number_stmts-loop-i-preserved t c =
+    let ns = c.args.numbers.now in (
+      left_more c.args.stmts.now c.loop-i.stmts c.loop-i.i c.number_stmt.new.stmt c.loop-i.invariant.0,
+      changed_more stmt_tree (stmt_numbered ns) c.args.stmts.now c.loop-i.stmts c.loop-i.i c.index-stmts-i.result c.number_stmt.new.stmt
+          (omega arith) c.loop-i.auto.stmts c.loop-i.invariant.1 c.index-stmts-i.is (c.number_stmt.ensures ∙ ap (λ x. stmt_numbered ns (stmt_tree x)) (sym c.index-stmts-i.is)),
+    )
+
+pub number_stmts-returns : goal.number_stmts-returns
+number_stmts-returns t c =
+    ap in_order (changed_all stmt_tree (stmt_numbered c.args.numbers.now) c.loop-i.i c.args.stmts.now c.loop-i.stmts (omega arith) c.loop-i.invariant.1)
+    ∙ numbered_in_order c.args.numbers.now (map stmt_tree c.args.stmts.now)

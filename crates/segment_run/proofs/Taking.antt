@@ -1,0 +1,55 @@
+-- What a take leaves of the pool and of the areas around it.
+use Rattle.std.proofs.Common.{◌≡◌, ℕ, ◌-◌, ◌*◌, ◌<◌, Option, Some, None, refl, sym, ap, subst, ◌∙◌}
+use Rattle.chunk_pool.specs.Pool.{Pool, Taken, taken_for, IsTaken, shape_of}
+use Rattle.chunk_pool.proofs.NeedLaws.{taken_for-shape}
+use Rattle.chunk_pool.proofs.ShapeLaws.{count-same, words_of-same, payload_place_of-same, first_bytes-same}
+use Rattle.machine_world.specs.Areas.{Areas}
+use Rattle.certificate_check.specs.declared.accepted.Accepted.{Accepted}
+use Rattle.segment_run.specs.Contexts.{AreOf}
+use Rattle.segment_run.specs.Payloads.{IsPayloadOf}
+use Rattle.segment_run.specs.declared.areas.Payload.{Payload}
+
+-- the chunk that was taken for a need
+pub record TakesOne (p : Pool) (need id : ℕ) (new : Pool) : Type 0 where
+  pub taken : Taken
+  pub is : taken_for p need ≡ Some taken
+  pub chunk : id ≡ taken.chunk
+  pub pool : new ≡ taken.pool
+
+pub takes_for : (p new : Pool) (need id : ℕ) → IsTaken (taken_for p need) (Some id) p new → TakesOne p need id new
+takes_for p new need id is = by (taken_for p need) refl is
+  where
+    by : (found : Option Taken) → taken_for p need ≡ found → IsTaken found (Some id) p new → TakesOne p need id new
+    by None e is = absurd (let both : Some id ≡ None = is.0 in cc)
+    by (Some taken) e is = record { taken = taken; is = e; chunk = (let both : Some id ≡ Some taken.chunk = is.0 in cc); pool = is.1 }
+
+-- nothing is taken for the need
+pub record TakesNone (p : Pool) (need : ℕ) (new : Pool) : Type 0 where
+  pub is : taken_for p need ≡ None
+  pub pool : new ≡ p
+
+pub takes_none : (p new : Pool) (need : ℕ) → IsTaken (taken_for p need) None p new → TakesNone p need new
+takes_none p new need is = by (taken_for p need) refl is
+  where
+    by : (found : Option Taken) → taken_for p need ≡ found → IsTaken found None p new → TakesNone p need new
+    by None e is = record { is = e; pool = is.1 }
+    by (Some taken) e is = absurd (let both : None ≡ Some taken.chunk = is.0 in cc)
+
+-- whatever a take answers, the shape stays
+pub shape-take : (p new : Pool) (need : ℕ) (answer : Option ℕ) → IsTaken (taken_for p need) answer p new → shape_of new ≡ shape_of p
+shape-take p new need answer is = by (taken_for p need) refl is
+  where
+    by : (found : Option Taken) → taken_for p need ≡ found → IsTaken found answer p new → shape_of new ≡ shape_of p
+    by None e is = ap shape_of is.1
+    by (Some taken) e is = ap shape_of is.1 ∙ taken_for-shape p need taken e
+
+-- where the shape stays, a payload is where it was, and the areas are those of the same program
+pub IsPayloadOf-same : (p q : Pool) (payload : Payload) → shape_of q ≡ shape_of p → IsPayloadOf p payload → IsPayloadOf q payload
+IsPayloadOf-same p q payload shape is = record {
+  there = subst (λ (n : ℕ). payload.chunk < n) (sym (count-same p q shape)) is.there;
+  low = is.low ∙ sym (payload_place_of-same p q payload.chunk shape);
+  bytes = is.bytes ∙ ap (λ (n : ℕ). 4 * n - 16) (sym (words_of-same p q payload.chunk shape));
+}
+
+pub AreOf-same : (accepted : Accepted) (areas : Areas) (pool : Pool) → shape_of pool ≡ shape_of areas.pool → AreOf accepted areas → AreOf accepted (record areas { pool = pool })
+AreOf-same accepted areas pool shape is = record { chunk = first_bytes-same areas.pool pool shape ∙ is.chunk; globals = is.globals; tables = is.tables }

@@ -1,0 +1,135 @@
+-- The least numbers of blocks of places, and trees that have them.
+use Rattle.std.proofs.Common.{◌≡◌, ◌≢◌, ℕ, ◌+◌, ◌*◌, ◌/◌, ◌<◌, ◌≤◌, ◌⊎◌, inl, inr, List, length, min, Option, Some, None, refl, sym, ◌∙◌, ap, subst, arith, below_more, slice_index_or, slice_set}
+use Rattle.std.proofs.lemmas.List.{get_or_past, get_or-set_same, get_or-set_other, length-set}
+use Rattle.thread_waits.specs.declared.waits.Wait.{Wait}
+use Rattle.thread_waits.specs.Counted.{IsBetween, IsLeafOf, IsLeastBetween, IsTreeOf, no_number, number_or}
+
+pub past_or_not : (n k : ℕ) → (k < n) ⊎ (n ≤ k)
+past_or_not n k = grind arith
+
+pub same_or_not : (i n : ℕ) → (i ≡ n) ⊎ (i ≢ n)
+same_or_not i n = grind arith
+
+pub number_is : (o : Option ℕ) (n : ℕ) → number_or o ≡ n → n ≢ no_number → o ≡ Some n
+number_is None n e d = absurd (d (sym e))
+number_is (Some m) n e d = rw e refl
+
+pub lesser_is : (a b : ℕ) → (b < a) ⊎ (a ≤ b) → (min a b ≡ a) ⊎ (min a b ≡ b)
+lesser_is a b (inl h) = inr (omega arith)
+lesser_is a b (inr h) = inl (omega arith)
+
+module _ (number : Option Wait → Option ℕ) where
+  -- ---- place by place
+
+  pub none_between : (places : List (Option Wait)) (start : ℕ) → IsLeastBetween number places start start no_number
+  none_between places start = record { most = omega arith; lowest = λ k from before. absurd (omega arith); stands = λ d. absurd (d refl) }
+
+  stands_by : (places : List (Option Wait)) (start end least next value : ℕ) → start ≤ end → IsLeastBetween number places start end least → next ≡ number_or (number (slice_index_or places end None)) →
+      value ≢ no_number → (value ≡ least) ⊎ (value ≡ next) → IsBetween number places start (end + 1) value
+  stands_by places start end least next value order so is d (inl same) =
+      let s : IsBetween number places start end least = so.stands (λ e. d (same ∙ e)) in
+      let before : s.place < end = s.before in
+      record { place = s.place; from = s.from; before = omega arith; number_is = s.number_is ∙ ap Some (sym same) }
+  stands_by places start end least next value order so is d (inr same) =
+      record { place = end; from = order; before = omega arith; number_is = number_is (number (slice_index_or places end None)) value (sym (same ∙ is)) d }
+
+  pub one_between : (places : List (Option Wait)) (start end least next : ℕ) → start ≤ end → IsLeastBetween number places start end least → next ≡ number_or (number (slice_index_or places end None)) →
+      IsLeastBetween number places start (end + 1) (min least next)
+  one_between places start end least next order so is = record {
+    most = let most : least ≤ no_number = so.most in omega arith;
+    lowest = λ k from before.
+        below_more (λ j. start ≤ j → min least next ≤ number_or (number (slice_index_or places j None))) end
+        (λ j under past. let low : least ≤ number_or (number (slice_index_or places j None)) = so.lowest j past under in omega arith)
+        (λ past. subst (λ (n : ℕ). min least next ≤ n) is (omega arith)) k before from;
+    stands = λ d. stands_by places start end least next (min least next) order so is d (lesser_is least next (past_or_not least next));
+  }
+
+  -- nobody waits past the places
+  none_past : number None ≡ None → (places : List (Option Wait)) (k : ℕ) → length places ≤ k → number_or (number (slice_index_or places k None)) ≡ no_number
+  none_past none places k past = rw (get_or_past places k None past, none) refl
+
+  low_by : number None ≡ None → (places : List (Option Wait)) (start end least k : ℕ) → IsLeastBetween number places start end least → length places ≤ end → start ≤ k → (k < end) ⊎ (end ≤ k) →
+      least ≤ number_or (number (slice_index_or places k None))
+  low_by none places start end least k so all from (inl h) = so.lowest k from h
+  low_by none places start end least k so all from (inr h) = rw (none_past none places k (omega arith)) so.most
+
+  pub wider : number None ≡ None → (places : List (Option Wait)) (start end further least : ℕ) → end ≤ further → length places ≤ end → IsLeastBetween number places start end least →
+      IsLeastBetween number places start further least
+  wider none places start end further least order all so = record {
+    most = so.most;
+    lowest = λ k from before. low_by none places start end least k so all from (past_or_not end k);
+    stands = λ d.
+        let s : IsBetween number places start end least = so.stands d in
+        let before : s.place < end = s.before in
+        record { place = s.place; from = s.from; before = omega arith; number_is = s.number_is };
+  }
+
+  block_by : number None ≡ None → (places : List (Option Wait)) (block start end least : ℕ) → start ≡ 16 * block → IsLeastBetween number places start end least →
+      (end ≡ start + 16) ⊎ ((end ≤ start + 16) × (length places ≤ end)) → IsLeafOf number places block least
+  block_by none places block start end least e so (inl f) =
+      subst (λ (n : ℕ). IsLeastBetween number places n (n + 16) least) e (subst (λ (n : ℕ). IsLeastBetween number places start n least) f so)
+  block_by none places block start end least e so (inr h) =
+      subst (λ (n : ℕ). IsLeastBetween number places n (n + 16) least) e (wider none places start end (start + 16) least h.0 h.1 so)
+
+  whole_or_last : (long start end : ℕ) → end ≡ min long (start + 16) → (long < start + 16) ⊎ (start + 16 ≤ long) → (end ≡ start + 16) ⊎ ((end ≤ start + 16) × (long ≤ end))
+  whole_or_last long start end e (inl h) = inr (omega arith, omega arith)
+  whole_or_last long start end e (inr h) = inl (omega arith)
+
+  -- the places of a block, or those that there are of it
+  pub block_least : number None ≡ None → (places : List (Option Wait)) (block start end least : ℕ) → start ≡ 16 * block → end ≡ min (length places) (start + 16) →
+      IsLeastBetween number places start end least → IsLeafOf number places block least
+  block_least none places block start end least e f so =
+      block_by none places block start end least e so (whole_or_last (length places) start end f (past_or_not (start + 16) (length places)))
+
+  -- ---- changes
+
+  -- where the numbers are the same
+  pub between_same : (old new : List (Option Wait)) (start end least : ℕ) →
+      ((k : ℕ) → start ≤ k → k < end → number_or (number (slice_index_or new k None)) ≡ number_or (number (slice_index_or old k None))) →
+      IsLeastBetween number old start end least → IsLeastBetween number new start end least
+  between_same old new start end least same so = record {
+    most = so.most;
+    lowest = λ k from before. rw (same k from before) (so.lowest k from before);
+    stands = λ d.
+        let s : IsBetween number old start end least = so.stands d in
+        record {
+          place = s.place;
+          from = s.from;
+          before = s.before;
+          number_is = number_is (number (slice_index_or new s.place None)) least (same s.place s.from s.before ∙ ap number_or s.number_is) d;
+        };
+  }
+
+  module _ (places : List (Option Wait)) (place : ℕ) (next : Option Wait) (there : place < length places) (leaves : List ℕ) (t : IsTreeOf number places leaves) where
+    other_at : (k : ℕ) → k ≢ place → number_or (number (slice_index_or (slice_set places place next) k None)) ≡ number_or (number (slice_index_or places k None))
+    other_at k d = rw (get_or-set_other places place k next None d) refl
+
+    none_at : number_or (number (slice_index_or places place None)) ≡ no_number → number_or (number next) ≡ no_number → (k : ℕ) → (k ≡ place) ⊎ (k ≢ place) →
+        number_or (number (slice_index_or (slice_set places place next) k None)) ≡ number_or (number (slice_index_or places k None))
+    none_at now after k (inl e) = rw (e, get_or-set_same places place next None there, now) after
+    none_at now after k (inr d) = other_at k d
+
+    -- who has no number comes after one who has none
+    pub tree_kept : number_or (number (slice_index_or places place None)) ≡ no_number → number_or (number next) ≡ no_number → IsTreeOf number (slice_set places place next) leaves
+    tree_kept now after = record {
+      places_fit = rw (length-set places place next) t.places_fit;
+      leaf = λ block. between_same places (slice_set places place next) (16 * block) (16 * block + 16) (slice_index_or leaves block no_number)
+          (λ k from before. none_at now after k (same_or_not k place)) (t.leaf block);
+    }
+
+    leaf_at : (value block : ℕ) → IsLeafOf number (slice_set places place next) (place / 16) value → (block ≡ place / 16) ⊎ (block ≢ place / 16) →
+        IsLeafOf number (slice_set places place next) block (slice_index_or (slice_set leaves (place / 16) value) block no_number)
+    leaf_at value block so (inl e) =
+        let fit : length places ≤ 16 * length leaves = t.places_fit in
+        rw (e, get_or-set_same leaves (place / 16) value no_number (omega arith)) so
+    leaf_at value block so (inr d) =
+        rw (get_or-set_other leaves (place / 16) block value no_number d)
+        (between_same places (slice_set places place next) (16 * block) (16 * block + 16) (slice_index_or leaves block no_number)
+        (λ k from before. other_at k (λ e. d (omega arith))) (t.leaf block))
+
+    -- the leaf of the place's block is set
+    pub tree_set : (value : ℕ) → IsLeafOf number (slice_set places place next) (place / 16) value → IsTreeOf number (slice_set places place next) (slice_set leaves (place / 16) value)
+    tree_set value so = record {
+      places_fit = rw (length-set places place next, length-set leaves (place / 16) value) t.places_fit;
+      leaf = λ block. leaf_at value block so (same_or_not block (place / 16));
+    }

@@ -1,0 +1,10 @@
+use Rattle.std.proofs.Common.{◌≤◌, slice_set}
+use Rattle.thread_waits.specs.Counted.{IsLeastBetween, amount_of}
+use Rattle.thread_waits.proofs.blocks.least_amount.Given as goal
+
+abbrev pub invariant-loop-other : goal.invariant-loop-other
+invariant-loop-other l = record {
+  from : l.start ≤ l.other;
+  within : l.other ≤ l.end;
+  least : IsLeastBetween (amount_of l.resource) (slice_set l.places l.place l.next) l.start l.other l.least;
+}

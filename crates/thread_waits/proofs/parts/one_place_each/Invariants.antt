@@ -1,6 +1,0 @@
-use Rattle.std.proofs.Common.{◌≡◌, replicate}
-use Rattle.thread_waits.specs.Counted.{no_number}
-use Rattle.thread_waits.proofs.parts.one_place_each.Given as goal
-
-abbrev pub invariant-loop-made : goal.invariant-loop-made
-invariant-loop-made l = l.trees.items ≡ replicate l.made (replicate 1 no_number)
