@@ -1,3 +1,5 @@
+pub mod ClosedLemmas
 pub mod MarkLemmas
-pub mod WalkLemmas
 pub mod OrderLemmas
+pub mod ReversedLemmas
+pub mod WalkLemmas

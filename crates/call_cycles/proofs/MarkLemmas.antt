@@ -1,19 +1,19 @@
 -- Marks that are set, and the list of what was marked.
-use Rattle.std.proofs.Common.{◌≡◌, ◌≢◌, inl, inr, ⊎_elim, ◌⊎◌, ℕ, zero, suc, ◌+◌, ◌<◌, ◌≤◌, ◌==◌, ◌||◌, Bool, true, false, if◌then◌else◌, List, [], ◌∷◌, ◌++◌, length, length-append, set, take, get_or, refl, sym, ap, ◌∙◌, subst, arith}
-use Rattle.std.specs.Prelude.{Some, slice_get, slice_index}
+use Rattle.std.proofs.Common.{◌≡◌, inl, inr, ⊎_elim, ◌⊎◌, ℕ, zero, suc, ◌+◌, ◌<◌, ◌≤◌, ◌==◌, Bool, true, false, List, [], ◌∷◌, ◌++◌, length, length-append, set, take, get_or, refl, sym, ap, ◌∙◌, subst, arith}
+use Rattle.std.specs.Prelude.{Some, slice_get}
 use Rattle.std.proofs.lemmas.Bool.{cases_lt}
 use Rattle.std.proofs.lemmas.Bool.Decides.{nat_tests}
 use Rattle.std.proofs.lemmas.List.{length-set, get_or-set_same, get_or-set_other, get_or_past, take_all}
 use Rattle.std.proofs.lemmas.List.Folds.{list_any-append, list_any_more}
 use Rattle.std.proofs.lemmas.Option.{slice_get_within, same_Some}
 use Rattle.flat_code.specs.declared.operations.Op.{Op}
-use Rattle.flat_code.specs.Codes.{FlatCode, function_at, operation_at}
+use Rattle.flat_code.specs.Codes.{FlatCode, function_at, members_of}
 use Rattle.call_graph.specs.Lists.{has}
 use Rattle.call_graph.proofs.ListLemmas.{by_test}
 use Rattle.call_graph.proofs.IndexLemmas.{by_eq}
 use Rattle.cycle_break.proofs.NumberLemmas.{has-head, has-cases, true_false}
 use Rattle.call_cycles.specs.Cycles.{functions_called, Calls}
-use Rattle.call_cycles.specs.Marks.{is_marked, unmarked, Marks}
+use Rattle.call_cycles.specs.Marks.{is_marked, unmarked, AreSeen, Marks}
 
 -- ---- numbers in lists
 
@@ -38,6 +38,12 @@ unmarked-set : (marks : List Bool) (g : ℕ) → g < length marks → is_marked 
 unmarked-set [] g within out = absurd (omega arith)
 unmarked-set (b ∷ bs) zero within out = rw out (omega arith)
 unmarked-set (b ∷ bs) (suc g) within out = let rest : unmarked bs ≡ suc (unmarked (set bs g true)) = unmarked-set bs g (omega arith) out in omega (arith, rest)
+
+pub mark-stays : (marks : List Bool) (f g : ℕ) → f < length marks → is_marked marks g ≡ true → is_marked (set marks f true) g ≡ true
+mark-stays marks f g within was =
+    by_eq g f
+    (λ e. subst (λ (n : ℕ). is_marked (set marks f true) n ≡ true) (sym e) (get_or-set_same marks f true false within))
+    (λ ne. get_or-set_other marks f g true false ne ∙ was)
 
 -- nothing is marked
 pub marks-none : (P : ℕ → Type 0) (marks : List Bool) (left : List ℕ) → ((g : ℕ) → P g → is_marked marks g ≡ true) → Marks P marks left marks left
@@ -152,3 +158,24 @@ ops-over code f i m l m' l' le marks =
     marks-same (CallsBefore (function_at code f).ops code i) (Calls code f) m l m' l'
     (λ g h. record { k = h.k; op = h.op; there = h.there; called = h.called })
     (λ g h. record { k = h.k; before = (let lt = slice_get_within (function_at code f).ops h.k h.op h.there in omega (arith, lt, le)); op = h.op; there = h.there; called = h.called }) marks
+
+-- ---- the tables that were seen
+
+-- what is marked stays marked
+pub seen-kept : (P : ℕ → Type 0) (code : FlatCode) (m : List Bool) (l : List ℕ) (m' : List Bool) (l' : List ℕ) (seen : List Bool) → Marks P m l m' l' → AreSeen code m seen → AreSeen code m' seen
+seen-kept P code m l m' l' seen new was = record { each = was.each; members = λ t g s h. new.kept g (was.members t g s h) }
+
+-- the members of one more table are marked
+pub seen-more : (code : FlatCode) (t : ℕ) (m : List Bool) (l : List ℕ) (m' : List Bool) (l' : List ℕ) (seen : List Bool) →
+    Marks (λ g. has g (members_of code t) ≡ true) m l m' l' → AreSeen code m seen → AreSeen code m' (set seen t true)
+seen-more code t m l m' l' seen new was = record {
+  each = length-set seen t true ∙ was.each;
+  members = λ u g s h.
+      by_eq u t
+      (λ e. new.done g (subst (λ (n : ℕ). has g (members_of code n) ≡ true) e h))
+      (λ ne. new.kept g (was.members u g (sym (get_or-set_other seen t u true false ne) ∙ s) h));
+}
+
+-- one function more is marked
+pub seen-set : (code : FlatCode) (f : ℕ) (marks seen : List Bool) → f < length marks → AreSeen code marks seen → AreSeen code (set marks f true) seen
+seen-set code f marks seen within was = record { each = was.each; members = λ t g s h. mark-stays marks f g within (was.members t g s h) }

@@ -1,21 +1,15 @@
 -- What is marked when the walk from a function ends is what calls lead to.
-use Rattle.std.proofs.Common.{◌≡◌, inl, inr, ⊎_elim, ◌⊎◌, ℕ, ◌<◌, Bool, true, false, List, [], ◌∷◌, ◌++◌, length, replicate, get_or, refl, sym, ap, ◌∙◌, subst, arith}
-use Rattle.std.specs.Prelude.{Option, Some, None}
+use Rattle.std.proofs.Common.{◌≡◌, inl, inr, ⊎_elim, ◌⊎◌, ℕ, ◌<◌, Bool, true, false, List, [], ◌∷◌, ◌++◌, length, replicate, refl, sym, ◌∙◌, subst, arith}
+use Rattle.std.specs.Prelude.{Some, None}
 use Rattle.std.proofs.lemmas.Bool.{cases_lt}
-use Rattle.std.proofs.lemmas.List.{get_or-replicate, get_or_past, length-replicate}
+use Rattle.std.proofs.lemmas.List.{length-replicate}
 use Rattle.flat_code.specs.Codes.{FlatCode}
 use Rattle.call_graph.specs.Lists.{has}
 use Rattle.cycle_break.proofs.NumberLemmas.{true_false}
 use Rattle.call_cycles.specs.Cycles.{Calls, IsWay, Reaches, IsOnCycle, IsLeastOf}
 use Rattle.call_cycles.specs.Marks.{is_marked, Marks}
+use Rattle.call_cycles.proofs.ClosedLemmas.{none-marked}
 use Rattle.call_cycles.proofs.MarkLemmas.{has-either, has-left}
-
-none-marked : (n g : ℕ) → is_marked (replicate n false) g ≡ true → ⊥
-none-marked n g h =
-    ⊎_elim
-    (λ lt. true_false (is_marked (replicate n false) g) h (get_or-replicate n g false false lt))
-    (λ le. true_false (is_marked (replicate n false) g) h (get_or_past (replicate n false) g false (let e = length-replicate n false in omega (arith, e, le))))
-    (cases_lt g n)
 
 -- one call more
 way-more : (code : FlatCode) (f g h : ℕ) (way : List ℕ) → IsWay code f way g → Calls code g h → IsWay code f (way ++ h ∷ []) h

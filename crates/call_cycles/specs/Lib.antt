@@ -1,3 +1,4 @@
 pub mod Cycles
 pub mod Marks
 pub mod Orders
+pub mod Reversed

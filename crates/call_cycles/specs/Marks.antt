@@ -2,6 +2,8 @@
 use Rattle.std.specs.Prelude.{ℕ, ◌≡◌, ◌⊎◌, ◌+◌, Bool, true, false, if◌then◌else◌, List, [], ◌∷◌, length}
 use Rattle.std.specs.List.{slice_index_or}
 use Rattle.call_graph.specs.Lists.{has}
+use Rattle.flat_code.specs.Codes.{FlatCode, members_of}
+use Rattle.call_cycles.specs.Cycles.{Calls, IsOnCycle}
 
 -- whether a function is marked
 abbrev pub is_marked : List Bool → ℕ → Bool
@@ -22,3 +24,16 @@ pub record Marks (P : ℕ → Type 0) (marks : List Bool) (left : List ℕ) (mar
   pub still : (g : ℕ) → has g left ≡ true → has g left' ≡ true
   pub added : (g : ℕ) → has g left' ≡ true → (has g left ≡ true) ⊎ (is_marked marks' g ≡ true)
   pub work : unmarked marks' + length left' ≡ unmarked marks + length left
+
+-- of each table that was seen, all members are marked
+pub record AreSeen (code : FlatCode) (marks seen : List Bool) : Type 0 where
+  pub each : length seen ≡ length code.tables
+  pub members : (t g : ℕ) → is_marked seen t ≡ true → has g (members_of code t) ≡ true → is_marked marks g ≡ true
+
+-- what a marked function calls is marked
+abbrev pub IsClosed : FlatCode → List Bool → Type 0
+IsClosed code marks = (g h : ℕ) → is_marked marks g ≡ true → Calls code g h → is_marked marks h ≡ true
+
+-- no marked function lies on a cycle
+abbrev pub AreOffCycles : FlatCode → List Bool → Type 0
+AreOffCycles code marks = (f : ℕ) → is_marked marks f ≡ true → IsOnCycle code f → ⊥

@@ -1,11 +1,11 @@
 ghost use Rattle.std.specs.Prelude.{◌≡◌, ◌<◌, true, length, OnOk};
 ghost use Rattle.std.specs.List.{AllByRecursion};
 ghost use Rattle.call_graph.specs.Lists.{has};
-ghost use Rattle.flat_code.specs.Codes.{function_at};
+ghost use Rattle.flat_code.specs.Codes.{function_at, members_of};
 ghost use Rattle.flat_code.specs.ProgramView.{program_code};
 ghost use Rattle.flat_code.specs.WellFormed.{IsFunction, IsOperation, context_of};
 ghost use Rattle.call_cycles.specs.Cycles.{Calls, functions_called};
-ghost use Rattle.call_cycles.specs.Marks.{Marks};
+ghost use Rattle.call_cycles.specs.Marks.{AreSeen, Marks};
 
 use flat_code::{FlatFunction, FlatProgram, Op};
 use std::alloc::AllocError;
@@ -43,21 +43,46 @@ fn mark_each(functions: &[u32], marks: &mut [bool], left: &mut Vec<u32>) -> Resu
     Ok(())
 }
 
+// The same for each member of a table. Those of a table that was seen are marked, and aren't looked at again.
+fn mark_members(
+    flat: &FlatProgram,
+    table: u32,
+    marks: &mut [bool],
+    seen: &mut [bool],
+    left: &mut Vec<u32>,
+) -> Result<(), AllocError>
+    requires table { table < length (program_code flat.now).tables }
+    requires marks { length marks.old ≡ length (program_code flat.now).functions }
+    requires seen { AreSeen (program_code flat.now) marks.old seen.old }
+    ensures marked { OnOk result (Marks (λ g. has g (members_of (program_code flat.now) table) ≡ true) marks.old left.old.items marks.new left.new.items) }
+    ensures seen { OnOk result (AreSeen (program_code flat.now) marks.new seen.new) }
+{
+    if seen[table as usize] {
+        return Ok(());
+    }
+    mark_each(flat.tables()[table as usize].as_slice(), marks, left)?;
+    seen[table as usize] = true;
+    Ok(())
+}
+
 // The same for each function that an operation calls.
 fn mark_called(
     flat: &FlatProgram,
     function: u32,
     op: &Op,
     marks: &mut [bool],
+    seen: &mut [bool],
     left: &mut Vec<u32>,
 ) -> Result<(), AllocError>
     requires marks { length marks.old ≡ length (program_code flat.now).functions }
+    requires seen { AreSeen (program_code flat.now) marks.old seen.old }
     requires formed { IsOperation (context_of (program_code flat.now) (function_at (program_code flat.now) function)) op.now }
-    ensures { OnOk result (Marks (λ g. has g (functions_called (program_code flat.now) op.now) ≡ true) marks.old left.old.items marks.new left.new.items) }
+    ensures marked { OnOk result (Marks (λ g. has g (functions_called (program_code flat.now) op.now) ≡ true) marks.old left.old.items marks.new left.new.items) }
+    ensures seen { OnOk result (AreSeen (program_code flat.now) marks.new seen.new) }
 {
     match op {
         Op::Call { f, .. } => mark(*f, marks, left),
-        Op::CallTable { t, .. } => mark_each(flat.tables()[*t as usize].as_slice(), marks, left),
+        Op::CallTable { t, .. } => mark_members(flat, *t, marks, seen, left),
         _ => Ok(()),
     }
 }
@@ -67,15 +92,18 @@ pub(crate) fn mark_callees(
     flat: &FlatProgram,
     function: u32,
     marks: &mut [bool],
+    seen: &mut [bool],
     left: &mut Vec<u32>,
 ) -> Result<(), AllocError>
     requires marks { length marks.old ≡ length (program_code flat.now).functions }
+    requires seen { AreSeen (program_code flat.now) marks.old seen.old }
     requires function { function < length (program_code flat.now).functions }
-    ensures { OnOk result (Marks (Calls (program_code flat.now) function) marks.old left.old.items marks.new left.new.items) }
+    ensures marked { OnOk result (Marks (Calls (program_code flat.now) function) marks.old left.old.items marks.new left.new.items) }
+    ensures seen { OnOk result (AreSeen (program_code flat.now) marks.new seen.new) }
 {
     let ops = function_of(flat, function as usize).ops.as_slice();
     for op in ops {
-        mark_called(flat, function, op, marks, left)?;
+        mark_called(flat, function, op, marks, seen, left)?;
     }
     Ok(())
 }

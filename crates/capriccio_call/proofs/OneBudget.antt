@@ -1,5 +1,5 @@
 -- A program with its certificate has one least budget.
-use Rattle.std.proofs.Common.{◌≡◌, ℕ, zero, suc, ◌≤◌, List, [], ◌∷◌, length, refl, sym, ap, ◌∙◌, arith}
+use Rattle.std.proofs.Common.{◌≡◌, ℕ, zero, suc, ◌≤◌, List, [], ◌∷◌, length, refl, sym, ◌∙◌, arith}
 use Rattle.std.specs.Prelude.{slice_index}
 use Rattle.flat_code.specs.Codes.{FlatCode}
 use Rattle.stack_certificate.specs.declared.certificates.Certificate.{Certificate}

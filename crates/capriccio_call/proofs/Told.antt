@@ -1,5 +1,5 @@
 -- What is told of how a command ended.
-use Rattle.std.proofs.Common.{◌≡◌, ℕ, List, [], Option, Some, None, Result, Ok, Err, refl, sym, ◌∙◌, subst, inl, inr, ⊎_elim}
+use Rattle.std.proofs.Common.{◌≡◌, ℕ, List, [], Option, Some, None, Result, Ok, Err, refl, sym, ◌∙◌, subst, inl, ⊎_elim}
 use Rattle.std.proofs.lemmas.List.{append-nil}
 use Rattle.std.specs.Io.KnownBytes.{Keeps, Appends}
 use Rattle.cap_io.specs.Files.{Files, KeepsFiles}
@@ -17,7 +17,7 @@ use Rattle.command_outcomes.specs.Steps.{EndsAs, IsFinished}
 use Rattle.command_outcomes.proofs.Ending.{append-nothing}
 use Rattle.capriccio_call.specs.Headline.{IsAnswerOf}
 
-stored-none : (old new : Option Files) → WhereTold (AreStored []) old new → KeepsFiles old new
+pub stored-none : (old new : Option Files) → WhereTold (AreStored []) old new → KeepsFiles old new
 stored-none None new h = tt
 stored-none (Some old) None h = absurd h
 stored-none (Some old) (Some new) h = h

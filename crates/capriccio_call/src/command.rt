@@ -2,6 +2,7 @@
 ghost use Rattle.std.specs.Prelude.{◌≡◌, map};
 ghost use Rattle.std.specs.String.{string_bytes};
 ghost use Rattle.command_outcomes.specs.Done.{outside_by};
+ghost use Rattle.capriccio_call.specs.AfterFault.{HoldsAfterFault};
 ghost use Rattle.capriccio_call.specs.Headline.{IsAnswer, WasGood};
 
 use cap_io::{Shelf, Sink, Source};
@@ -25,6 +26,8 @@ pub fn capriccio<F: Shelf, S: Source, K: Sink, E: Sink>(
         IsAnswer (map (λ word. string_bytes word) words.now.items) (outside shelf.old trace.old out.old) (outside shelf.new trace.new out.new) (E.taken err.old) (E.taken err.new) (E.faults err.old) (E.faults err.new) last.new result }
     ensures good { let outside = outside_by F.files F.load_faults F.store_faults S.left S.faults K.taken K.faults in
         WasGood (map (λ word. string_bytes word) words.now.items) (outside shelf.old trace.old out.old) (outside shelf.new trace.new out.new) last.new result }
+    ensures after_fault { let outside = outside_by F.files F.load_faults F.store_faults S.left S.faults K.taken K.faults in
+        HoldsAfterFault (map (λ word. string_bytes word) words.now.items) (outside shelf.old trace.old out.old) (outside shelf.new trace.new out.new) (E.taken err.old) (E.taken err.new) (E.faults err.old) (E.faults err.new) result }
 {
     match do_words(alloc, words, shelf, trace, out) {
         Ok(

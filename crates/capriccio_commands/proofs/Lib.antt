@@ -10,6 +10,7 @@ pub mod OneBuild
 pub mod Making
 pub mod Options
 pub mod Counting
+pub mod FitCounting
 pub mod Shown
 pub mod Workloads
 mod Budgeted

@@ -8,8 +8,10 @@ use Rattle.certificate_rules.specs.Validity.{IsValid}
 use Rattle.choice_rules.specs.Policy.{Rule}
 use Rattle.chunk_pool.specs.Pool.{Taken, taken_for}
 use Rattle.command_words.specs.declared.options.Policy.{Policy as RunOptions}
+use Rattle.lawful_log.specs.Good.{checked_of}
 use Rattle.machine_world.specs.Areas.{Areas}
 use Rattle.machine_world.specs.Runs.{empty_world, started_on, start_world}
+use Rattle.machine_world.specs.Stretches.{IsSound}
 use Rattle.machine_world.specs.Threads.{World, with_thread}
 use Rattle.machine_world.specs.WellFormed.{AreWords}
 use Rattle.resource_monitor.specs.Monitor.{MonitorState}
@@ -18,7 +20,7 @@ use Rattle.runner.specs.Answers.{IsAtStartBy, KeepsRun}
 use Rattle.stack_certificate.specs.Certificates.{fact_at}
 use Rattle.thread_core.specs.Making.{IsPolicy, IsStart, start_areas}
 use Rattle.thread_core.specs.Worlds.{Held}
-use Rattle.command_outcomes.specs.Done.{IsWorldOf}
+use Rattle.command_outcomes.specs.Done.{IsReachable, IsWorldOf}
 use Rattle.capriccio_commands.specs.Runs.{IsAccepted, pool_bytes, rule_of}
 use Rattle.capriccio_commands.specs.RunSteps.{IsMade, IsNewMonitor, IsRunPolicy, setup_in, world_policy_of}
 use Rattle.chunk_pool.proofs.NeedLaws.{taken_for-count}
@@ -91,13 +93,16 @@ module _ (options : RunOptions) (held : Held) (made : IsMade options held) where
     gate = is.gate;
   }
 
-  -- the world at the end of a run is that of the pair and the options
-  pub world-of : (after : Held) → KeepsRun held after → IsWorldOf (record { setup = setup_in held options; end = after.machine }) after
-  world-of after keeps = record {
+  -- the world at the end of a run is that of the pair and the options, where the machine reaches it and it is sound
+  pub world-of : (after : Held) → KeepsRun held after → IsReachable (setup_in held options) after.machine → IsSound (checked_of (setup_in held options)) after.machine →
+      IsWorldOf (record { setup = setup_in held options; end = after.machine }) after
+  world-of after keeps reached sound = record {
     program = ap accepted_tree keeps.accepted;
     image = ap (λ a. a.image) keeps.accepted;
     certificate = ap (λ a. a.certificate) keeps.accepted;
     setting = keeps.setting ∙ made.made.setting;
     chunks = keeps.chunks ∙ kept.1;
     machine = refl;
+    reached = reached;
+    sound = sound;
   }

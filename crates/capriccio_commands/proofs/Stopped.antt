@@ -3,9 +3,10 @@ use Rattle.std.proofs.Common.{◌≡◌, ℕ, List, Option, Some, None, Result, 
 use Rattle.std.specs.Prelude.{IfSome}
 use Rattle.cap_io.specs.Files.{KeepsFiles}
 use Rattle.cap_word.specs.declared.stops.Stop.TheVariants as cut
-use Rattle.lawful_log.specs.Good.{IsGoodLog}
+use Rattle.lawful_log.specs.Good.{IsGoodLog, checked_of}
 use Rattle.lawful_log.specs.Lawful.{IsLawfulLog}
 use Rattle.lawful_log.specs.Setup.{Setup}
+use Rattle.machine_world.specs.Stretches.{IsSound}
 use Rattle.machine_world.specs.Threads.{World}
 use Rattle.runner.specs.Answers.{IsEndAt, CameTo, FellShort, IsRunEnd}
 use Rattle.runner.specs.declared.ends.RunEnd.{RunEnd}
@@ -18,7 +19,7 @@ use Rattle.command_outcomes.specs.declared.stops.Stop.{Stop}
 use Rattle.command_outcomes.specs.declared.stops.Stop.TheVariants.{Failed}
 use Rattle.command_outcomes.specs.declared.ended.Ended.{Ended}
 use Rattle.command_outcomes.specs.Outcome.{Outcome}
-use Rattle.command_outcomes.specs.Done.{Outside, IsWhole, IsCutInOut, NoneCounted, TraceCounted, WriteCounted, IsWorldOf}
+use Rattle.command_outcomes.specs.Done.{Outside, IsWhole, IsCutInOut, NoneCounted, TraceCounted, WriteCounted, IsReachable, IsWorldOf}
 use Rattle.capriccio_commands.specs.Runs.{IsAccepted, IsRun, IsRunOfSome, RunsOn, run_outcome, stop_status}
 use Rattle.command_outcomes.specs.Steps.{EndsAs}
 use Rattle.capriccio_commands.specs.Closings.{IsClosed}
@@ -55,7 +56,7 @@ is-run-of-some g left bytes told entries stop w h k = record { bytes = bytes; to
 
 -- the run came to its stop
 at-stop : (g : Setup) (before after : Outside) (held : Held) (answer : RunEnd) (r : Result Ended Stop) → IsAccepted g → KeepsFiles before.files after.files → after.loads ≡ before.loads → after.stores ≡ before.stores →
-    IsWorldOf (record { setup = g; end = held.machine }) held → CameTo g held before.left before.taken after.taken answer → after.reads ≡ before.reads → after.writes ≡ before.writes →
+    (IsReachable g held.machine → IsSound (checked_of g) held.machine → IsWorldOf (record { setup = g; end = held.machine }) held) → CameTo g held before.left before.taken after.taken answer → after.reads ≡ before.reads → after.writes ≡ before.writes →
     r ≡ Ok (record { status = end-status answer; last = Some held }) → EndsAs (RunsOn before.left g) before after r
 at-stop g before after held answer r ok files loads stores of came reads writes is =
     let given : Ended = record { status = end-status answer; last = Some held } in
@@ -63,7 +64,7 @@ at-stop g before after held answer r ok files loads stores of came reads writes 
     let due : RunsOn before.left g outcome = (ok, came.entries, came.stop, held.machine, is-run g before.left came.entries came.stop held.machine came.lawful came.good, refl, is-run-of-some g before.left came.bytes came.told came.entries came.stop held.machine came.lawful_of came.good_of) in
     let whole : IsWhole outcome before after = record { files = kept-are-stored before.files after.files files; trace = tt; out = came.writes } in
     let none : NoneCounted before after = record { loads = loads; stores = stores; reads = reads; writes = writes } in
-    let ends : EndsAs (RunsOn before.left g) before after (Ok given) = (outcome, (due, whole, none), end-is came.stop answer came.end_is, refl, of) in
+    let ends : EndsAs (RunsOn before.left g) before after (Ok given) = (outcome, (due, whole, none), end-is came.stop answer came.end_is, refl, of (record { start = came.start; starts = came.starts; actions = came.actions; leads = came.machine }) came.sound) in
     subst (λ (a : Result Ended Stop). EndsAs (RunsOn before.left g) before after a) (sym is) ends
 
 -- what was written of a run that could not go on is a beginning of what is due
@@ -71,7 +72,7 @@ short-due : (g : Setup) (left taken taken' : Option (List ℕ)) (held : Held) �
 short-due g left taken taken' held ok short = (ok, short.entries, short.stop, short.end, is-run g left short.entries short.stop short.end short.lawful short.good, refl, is-run-of-some g left short.bytes short.told short.entries short.stop short.end short.lawful_of short.good_of)
 
 pub closed : (g : Setup) (before after : Outside) (held : Held) (answer : RunEnd) (r : Result Ended Stop) → IsAccepted g → KeepsFiles before.files after.files → after.loads ≡ before.loads → after.stores ≡ before.stores →
-    IsWorldOf (record { setup = g; end = held.machine }) held → IsRunEnd g held before.left before.taken after.taken before.reads after.reads before.writes after.writes answer →
+    (IsReachable g held.machine → IsSound (checked_of g) held.machine → IsWorldOf (record { setup = g; end = held.machine }) held) → IsRunEnd g held before.left before.taken after.taken before.reads after.reads before.writes after.writes answer →
     IsClosed held answer r → EndsAs (RunsOn before.left g) before after r
 closed g before after held end.Done r ok files loads stores of h is = at-stop g before after held end.Done r ok files loads stores of h.0 h.1 h.2 is
 closed g before after held (end.BadTrace line) r ok files loads stores of h is = at-stop g before after held (end.BadTrace line) r ok files loads stores of h.0 h.1 h.2 is

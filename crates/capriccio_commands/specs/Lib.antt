@@ -8,3 +8,4 @@ pub mod RunSteps
 pub mod Closings
 pub mod Summary
 pub mod Demos
+pub mod FitLogs

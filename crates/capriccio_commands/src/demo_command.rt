@@ -11,6 +11,7 @@ ghost use Rattle.command_outcomes.specs.Steps.{IsStop};
 ghost use Rattle.capriccio_commands.specs.Demos.{Demos, demo_sizes, demo_policy, IsAcceptedWorkload, IsShown, ShowsDue, ShowsEnd};
 ghost use Rattle.capriccio_commands.specs.Runs.{RunsOn, setup_of};
 ghost use Rattle.capriccio_commands.specs.Summary.{census_of};
+ghost use Rattle.runner.specs.Output.{IsFitText};
 ghost use Rattle.schedule_log.specs.EntryText.{log_text};
 ghost use Rattle.schedule_log.specs.declared.entries.Entry.{Entry};
 
@@ -127,18 +128,19 @@ fn show_run(alloc: Global, accepted: Accepted, trace: Vec<u8>) -> Result<Shown, 
 
 /// What is shown of a run that ended so, with this log.
 fn show(alloc: Global, ended: Ended, census: Census, log: &[u8]) -> Result<Shown, Stop>
-    requires { (world : Held) × (ended.last ≡ Some world) }
+    requires world { (world : Held) × (ended.last ≡ Some world) }
+    requires fits { IsFitText log.now }
     ensures { (entries : List Entry) → log.now ≡ log_text entries → MatchResult result (ShowsEnd ended census entries) (IsStop (NoMore census)) }
 {
     let Ended { status, last } = ended;
     let Some(world) = last else { unreachable!() };
     match summary(alloc, census, log) {
-        Ok(Some(text)) => Ok(Shown {
+        Ok(text) => Ok(Shown {
             status,
             text,
             world,
         }),
-        Ok(None) | Err(AllocError) => {
+        Err(AllocError) => {
             drop(world);
             Err(Stop::Failed(Fault::Memory))
         }

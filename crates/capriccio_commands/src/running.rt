@@ -1,6 +1,7 @@
 // A run of an accepted program on the trace, under a policy.
-ghost use Rattle.std.specs.Prelude.{◌≡◌, ◌≤◌, Some, IfOk};
+ghost use Rattle.std.specs.Prelude.{◌≡◌, ◌≤◌, Some, IfOk, OnOk};
 ghost use Rattle.capriccio_commands.specs.Closings.{IsClosed};
+ghost use Rattle.capriccio_commands.specs.FitLogs.{TakesFit};
 ghost use Rattle.capriccio_commands.specs.RunSteps.{IsRunPolicy, IsMade, IsNewMonitor, setup_in, world_policy_of};
 ghost use Rattle.capriccio_commands.specs.Runs.{RunsOn, pool_bytes, rule_of, setup_of};
 ghost use Rattle.certificate_check.specs.Accepting.{accepted_tree};
@@ -32,7 +33,8 @@ pub(crate) fn run_accepted<S: Source, K: Sink>(
 ) -> Result<Ended, Stop>
     requires range { IsRunPolicy policy }
     requires pool { pool_bytes policy accepted.certificate ≤ 67108864 }
-    ensures { RunEnds (RunsOn (S.left trace.old) (setup_of (accepted_tree accepted) accepted.image accepted.certificate policy)) (S.left trace.old) (S.left trace.new) (S.faults trace.old) (S.faults trace.new) (K.taken out.old) (K.taken out.new) (K.faults out.old) (K.faults out.new) result }
+    ensures ends { RunEnds (RunsOn (S.left trace.old) (setup_of (accepted_tree accepted) accepted.image accepted.certificate policy)) (S.left trace.old) (S.left trace.new) (S.faults trace.old) (S.faults trace.new) (K.taken out.old) (K.taken out.new) (K.faults out.old) (K.faults out.new) result }
+    ensures fits { OnOk result (TakesFit (K.taken out.old) (K.taken out.new)) }
 {
     // What the image's call tells: the pair is valid.
     let _image = accepted.image();
@@ -55,7 +57,8 @@ fn run_world<S: Source, K: Sink>(
 ) -> Result<Ended, Stop>
     requires range { IsRunPolicy policy }
     requires made { IsMade policy world }
-    ensures { RunEnds (RunsOn (S.left trace.old) (setup_in world policy)) (S.left trace.old) (S.left trace.new) (S.faults trace.old) (S.faults trace.new) (K.taken out.old) (K.taken out.new) (K.faults out.old) (K.faults out.new) result }
+    ensures ends { RunEnds (RunsOn (S.left trace.old) (setup_in world policy)) (S.left trace.old) (S.left trace.new) (S.faults trace.old) (S.faults trace.new) (K.taken out.old) (K.taken out.new) (K.faults out.old) (K.faults out.new) result }
+    ensures fits { OnOk result (TakesFit (K.taken out.old) (K.taken out.new)) }
 {
     let knee = policy.knee;
     let call = move |used: u32, cap: u32| -> u32
@@ -77,7 +80,8 @@ fn run_measured<S: Source, K: Sink, C: Measure + Copy + Drop>(
     requires curve { AnswersCurve (C.can_measure call) (C.measure_gives call) (Knee policy.knee) }
     requires range { IsRunPolicy policy }
     requires made { IsMade policy world }
-    ensures { RunEnds (RunsOn (S.left trace.old) (setup_in world policy)) (S.left trace.old) (S.left trace.new) (S.faults trace.old) (S.faults trace.new) (K.taken out.old) (K.taken out.new) (K.faults out.old) (K.faults out.new) result }
+    ensures ends { RunEnds (RunsOn (S.left trace.old) (setup_in world policy)) (S.left trace.old) (S.left trace.new) (S.faults trace.old) (S.faults trace.new) (K.taken out.old) (K.taken out.new) (K.faults out.old) (K.faults out.new) result }
+    ensures fits { OnOk result (TakesFit (K.taken out.old) (K.taken out.new)) }
 {
     match monitor_of(alloc, policy, call) {
         Ok(monitor) => run_by_rule(alloc, world, policy, monitor, trace, out),
@@ -97,7 +101,8 @@ fn run_by_rule<S: Source, K: Sink, C: Measure + Drop>(
     requires range { IsRunPolicy policy }
     requires made { IsMade policy world }
     requires monitor { IsNewMonitor policy monitor }
-    ensures { RunEnds (RunsOn (S.left trace.old) (setup_in world policy)) (S.left trace.old) (S.left trace.new) (S.faults trace.old) (S.faults trace.new) (K.taken out.old) (K.taken out.new) (K.faults out.old) (K.faults out.new) result }
+    ensures ends { RunEnds (RunsOn (S.left trace.old) (setup_in world policy)) (S.left trace.old) (S.left trace.new) (S.faults trace.old) (S.faults trace.new) (K.taken out.old) (K.taken out.new) (K.faults out.old) (K.faults out.new) result }
+    ensures fits { OnOk result (TakesFit (K.taken out.old) (K.taken out.new)) }
 {
     match policy.rule {
         Rule::Graph => run_by_graph(alloc, world, policy, monitor, trace, out),
@@ -123,7 +128,8 @@ fn run_by_graph<S: Source, K: Sink, C: Measure + Drop>(
     requires made { IsMade policy world }
     requires monitor { IsNewMonitor policy monitor }
     requires rule { rule_of policy.rule ≡ by_graph }
-    ensures { RunEnds (RunsOn (S.left trace.old) (setup_in world policy)) (S.left trace.old) (S.left trace.new) (S.faults trace.old) (S.faults trace.new) (K.taken out.old) (K.taken out.new) (K.faults out.old) (K.faults out.new) result }
+    ensures ends { RunEnds (RunsOn (S.left trace.old) (setup_in world policy)) (S.left trace.old) (S.left trace.new) (S.faults trace.old) (S.faults trace.new) (K.taken out.old) (K.taken out.new) (K.faults out.old) (K.faults out.new) result }
+    ensures fits { OnOk result (TakesFit (K.taken out.old) (K.taken out.new)) }
 {
     let end = run(alloc, &mut world, monitor, trace, out);
     close(world, end)
@@ -143,7 +149,8 @@ fn run_by_strides<S: Source, K: Sink, C: Measure + Drop>(
     requires monitor { IsNewMonitor policy monitor }
     requires rule { rule_of policy.rule ≡ by_stride rule.tickets }
     requires fresh { rule ≡ new_rule rule.tickets }
-    ensures { RunEnds (RunsOn (S.left trace.old) (setup_in world policy)) (S.left trace.old) (S.left trace.new) (S.faults trace.old) (S.faults trace.new) (K.taken out.old) (K.taken out.new) (K.faults out.old) (K.faults out.new) result }
+    ensures ends { RunEnds (RunsOn (S.left trace.old) (setup_in world policy)) (S.left trace.old) (S.left trace.new) (S.faults trace.old) (S.faults trace.new) (K.taken out.old) (K.taken out.new) (K.faults out.old) (K.faults out.new) result }
+    ensures fits { OnOk result (TakesFit (K.taken out.old) (K.taken out.new)) }
 {
     let end = run_stride(alloc, &mut world, rule, monitor, trace, out);
     close(world, end)

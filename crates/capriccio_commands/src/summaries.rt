@@ -1,9 +1,11 @@
 // The summary of a run: what is counted over its program, its certificate and its log.
-ghost use Rattle.std.specs.Prelude.{◌≡◌, ◌+◌, ◌+ℤ◌, ◌++◌, List, [], IfOk, IfSome, OnOk, count_by};
+ghost use Rattle.std.specs.Prelude.{◌≡◌, ◌<◌, ◌^◌, ◌+◌, ◌+ℤ◌, ◌++◌, List, [], IfOk, OnOk, count_by, length, unsigned_abs};
 ghost use Rattle.certificate_check.specs.Accepting.{accepted_tree};
 ghost use Rattle.schedule_log.specs.EntryText.{log_text};
 ghost use Rattle.schedule_log.specs.declared.entries.Entry.{Entry};
 ghost use Rattle.stack_certificate.specs.declared.sites.SiteFact.{SiteFact};
+ghost use Rattle.runner.specs.Output.{IsFitText};
+ghost use Rattle.capriccio_commands.specs.FitLogs.{HasRoom};
 ghost use Rattle.capriccio_commands.specs.Summary.{links, census_of, counted, with_cost, tally_of, last_from, count_line, sum_line, census_text, tally_text, summary_text};
 
 use cap_text::{Lines, put_dec};
@@ -34,7 +36,7 @@ pub struct Tally {
     /// The sum of their values.
     pub sum: i128,
     /// The instructions of all segments.
-    pub cost: u64,
+    pub cost: u128,
 }
 
 /// The census of an accepted program.
@@ -67,10 +69,13 @@ fn is_linked(kind: LinkKind) -> bool
     }
 }
 
-/// What is counted over the log of these bytes. Nothing where a line is none of a log, or a count is beyond its type.
-pub(crate) fn tally_log(log: &[u8]) -> Option<Tally>
-    ensures { (entries : List Entry) → log.now ≡ log_text entries → IfSome result (λ tally. tally ≡ tally_of entries) }
+/// What is counted over the log of these bytes.
+pub(crate) fn tally_log(log: &[u8]) -> Tally
+    requires { IsFitText log.now }
+    ensures counted { (entries : List Entry) → log.now ≡ log_text entries → result ≡ tally_of entries }
+    ensures room { HasRoom 0 result }
 {
+    few_bytes(log);
     let mut tally = Tally {
         choices: 0,
         outputs: 0,
@@ -79,59 +84,79 @@ pub(crate) fn tally_log(log: &[u8]) -> Option<Tally>
     };
     for line in Lines::new(log) {
         match read_entry(line) {
-            Ok(entry) => tally = count_entry(tally, entry)?,
-            Err(LogError::Line) => return None,
+            Ok(entry) => tally = count_entry(tally, entry),
+            Err(LogError::Line) => unreachable!(),
         }
     }
-    Some(tally)
+    tally
+}
+
+/// A log has fewer bytes than half of the addresses.
+fn few_bytes(log: &[u8])
+    ensures { length log.now < 2 ^ 63 }
+{
+    let _count = log.len();
 }
 
 /// One entry more.
-fn count_entry(tally: Tally, entry: Entry) -> Option<Tally>
-    ensures { IfSome result (λ more. more ≡ counted entry tally) }
+fn count_entry(tally: Tally, entry: Entry) -> Tally
+    requires { HasRoom 1 tally }
+    ensures { result ≡ counted entry tally }
 {
     match entry {
-        Entry::Event { .. } => Some(tally),
-        Entry::Dropped { .. } => Some(tally),
+        Entry::Event { .. } => tally,
+        Entry::Dropped { .. } => tally,
         Entry::Run { .. } => count_choice(tally),
         Entry::Out { value, .. } => count_output(tally, value),
         Entry::Block { cost, .. } => count_cost(tally, cost),
         Entry::End { cost, .. } => count_cost(tally, cost),
-        Entry::Edge { .. } => Some(tally),
-        Entry::Stop(StopLine::Done) => Some(tally),
-        Entry::Stop(StopLine::Idle) => Some(tally),
-        Entry::Stop(StopLine::Trace { .. }) => Some(tally),
+        Entry::Edge { .. } => tally,
+        Entry::Stop(StopLine::Done) => tally,
+        Entry::Stop(StopLine::Idle) => tally,
+        Entry::Stop(StopLine::Trace { .. }) => tally,
         Entry::Stop(StopLine::Cut { cost, .. }) => count_cost(tally, cost),
     }
 }
 
 /// One choice more.
-fn count_choice(tally: Tally) -> Option<Tally>
-    ensures { IfSome result (λ more. more ≡ record { choices = tally.choices + 1; outputs = tally.outputs; sum = tally.sum; cost = tally.cost }) }
+fn count_choice(tally: Tally) -> Tally
+    requires { tally.choices < 2 ^ 63 }
+    ensures { result ≡ record { choices = tally.choices + 1; outputs = tally.outputs; sum = tally.sum; cost = tally.cost } }
 {
-    let choices = tally.choices.checked_add(1)?;
-    Some(Tally { choices, ..tally })
+    let choices = tally.choices + 1;
+    Tally { choices, ..tally }
 }
 
 /// One output more.
-fn count_output(tally: Tally, value: i32) -> Option<Tally>
-    ensures { IfSome result (λ more. more ≡ record { choices = tally.choices; outputs = tally.outputs + 1; sum = tally.sum +ℤ value; cost = tally.cost }) }
+fn count_output(tally: Tally, value: i32) -> Tally
+    requires outputs { tally.outputs < 2 ^ 63 }
+    requires sum { unsigned_abs tally.sum < 2 ^ 94 }
+    ensures { result ≡ record { choices = tally.choices; outputs = tally.outputs + 1; sum = tally.sum +ℤ value; cost = tally.cost } }
 {
-    let outputs = tally.outputs.checked_add(1)?;
-    let sum = tally.sum.checked_add(i128::from(value))?;
-    Some(Tally {
+    let outputs = tally.outputs + 1;
+    let sum = sum_with(tally.sum, value);
+    Tally {
         outputs,
         sum,
         ..tally
-    })
+    }
+}
+
+/// The sum with one value more.
+fn sum_with(sum: i128, value: i32) -> i128
+    requires { unsigned_abs sum < 2 ^ 94 }
+    ensures { result ≡ sum +ℤ value }
+{
+    sum + i128::from(value)
 }
 
 /// The instructions of one segment more.
-fn count_cost(tally: Tally, cost: u64) -> Option<Tally>
-    ensures { IfSome result (λ more. more ≡ with_cost cost tally) }
+fn count_cost(tally: Tally, cost: u64) -> Tally
+    requires { tally.cost < 2 ^ 127 }
+    ensures { result ≡ with_cost cost tally }
 {
-    let cost = tally.cost.checked_add(cost)?;
-    Some(Tally { cost, ..tally })
+    let cost = tally.cost + u128::from(cost);
+    Tally { cost, ..tally }
 }
 
 /// The last line of the log of these bytes.
@@ -145,19 +170,13 @@ pub(crate) fn last_line(log: &[u8]) -> &[u8]
     last
 }
 
-/// The summary of the run that has this census and this log. Nothing where its lines are no log's.
-pub(crate) fn summary(
-    alloc: Global,
-    census: Census,
-    log: &[u8],
-) -> Result<Option<Vec<u8>>, AllocError>
-    ensures { (entries : List Entry) → log.now ≡ log_text entries → IfOk result (λ found. IfSome found (λ text. text.items ≡ summary_text census (tally_of entries) (last_from [] entries))) }
+/// The summary of the run that has this census and this log.
+pub(crate) fn summary(alloc: Global, census: Census, log: &[u8]) -> Result<Vec<u8>, AllocError>
+    requires { IsFitText log.now }
+    ensures { (entries : List Entry) → log.now ≡ log_text entries → IfOk result (λ text. text.items ≡ summary_text census (tally_of entries) (last_from [] entries)) }
 {
-    let Some(tally) = tally_log(log) else {
-        return Ok(None);
-    };
-    let text = summary_of(alloc, census, tally, last_line(log))?;
-    Ok(Some(text))
+    let tally = tally_log(log);
+    summary_of(alloc, census, tally, last_line(log))
 }
 
 /// The summary of what was counted, with the last line of the log.
@@ -167,6 +186,7 @@ fn summary_of(
     tally: Tally,
     last: &[u8],
 ) -> Result<Vec<u8>, AllocError>
+    requires { tally.cost < 2 ^ 127 }
     ensures { IfOk result (λ text. text.items ≡ summary_text census tally last.now) }
 {
     let mut text = Vec::new(alloc);
@@ -188,12 +208,13 @@ fn put_census(text: &mut Vec<u8>, census: Census) -> Result<(), AllocError>
 
 /// Appends the lines of a tally.
 fn put_tally(text: &mut Vec<u8>, tally: Tally) -> Result<(), AllocError>
+    requires { tally.cost < 2 ^ 127 }
     ensures { OnOk result (text.new.items ≡ text.old.items ++ tally_text tally) }
 {
     put_count(text, b"choices ", tally.choices)?;
     put_count(text, b"outputs ", tally.outputs)?;
     put_sum(text, b"sum ", tally.sum)?;
-    put_count(text, b"cost ", tally.cost)
+    put_cost(text, b"cost ", tally.cost)
 }
 
 /// Appends the line of a count.
@@ -202,6 +223,16 @@ fn put_count(text: &mut Vec<u8>, name: &[u8], number: u64) -> Result<(), AllocEr
 {
     put_text(text, name)?;
     put_number(text, number)?;
+    put_text(text, b"\n")
+}
+
+/// Appends the line of a cost, which may be beyond a count.
+fn put_cost(text: &mut Vec<u8>, name: &[u8], number: u128) -> Result<(), AllocError>
+    requires { number < 2 ^ 127 }
+    ensures { OnOk result (text.new.items ≡ text.old.items ++ count_line name.now number) }
+{
+    put_text(text, name)?;
+    put_dec(text, number as i128)?;
     put_text(text, b"\n")
 }
 

@@ -7,9 +7,9 @@ use crate::serving::LOG_OF_SEVEN;
 use std::alloc::{AllocError, Global};
 use std::test::Fail;
 
-const READ: &[u8] = b"fault: read\n";
+pub(crate) const READ: &[u8] = b"fault: read\n";
 
-const WRITE: &[u8] = b"fault: write\n";
+pub(crate) const WRITE: &[u8] = b"fault: write\n";
 
 /// The calls that fail, the status, the most bytes that the output takes, and the line then.
 type ServingRow = (Fails, u8, usize, &'static [u8]);

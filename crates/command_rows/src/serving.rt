@@ -19,10 +19,13 @@ const ENDLESS: &[u8] =
     b"int f(int n) { int r; put(n); r = f(n + 1); return r; } int main() { int r; r = f(0); return r; }";
 
 /// A server of two workers: each takes an arrival, waits for its data, and answers.
-const SERVER: &[u8] =
+pub(crate) const SERVER: &[u8] =
     b"void worker(int n) {\n  int c;\n  int v;\n  while (1) {\n    c = accept();\n    take(1, 1);\n    v = wait(c);\n    put(v + n);\n    give(1, 1);\n  }\n}\nint main() {\n  spawn(worker, 100);\n  spawn(worker, 200);\n  return 0;\n}\n";
 
-const LOG_OF_SERVER: &[u8] =
+pub(crate) const SERVER_TRACE: &[u8] =
+    b"arrive 100 0\ndata 150 0 7\narrive 200 1\narrive 210 2\ndata 400 1 8\ndata 500 2 9\n";
+
+pub(crate) const LOG_OF_SERVER: &[u8] =
     b"run 0 0 0\nend 0 31 1022\nrun 31 1 0\nblock 1 2 0 16 1022\nrun 47 2 0\nblock 2 2 0 16 1022\nevent 100 arrive 0\nrun 100 1 2\nblock 1 3 1 11 1022\nrun 111 1 3\nblock 1 4 2 5 1022\nevent 150 data 0 7\nrun 150 1 4\nout 1 107\nblock 1 2 0 30 1022\nevent 200 arrive 1\nrun 200 2 2\nblock 2 3 1 11 1022\nevent 211 arrive 2\nrun 211 2 3\nblock 2 4 2 5 1022\nrun 216 1 2\nblock 1 3 1 11 1022\nevent 400 data 1 8\nrun 400 2 4\nout 2 208\nblock 2 2 0 30 1022\nrun 430 1 3\nblock 1 4 2 5 1022\nevent 500 data 2 9\nrun 500 1 4\nout 1 109\nblock 1 2 0 30 1022\nedge 0 1 1 7936 256 0\nedge 0 2 2 4096 0 0\nedge 2 3 3 2816 0 0\nedge 3 4 3 1280 0 256\nedge 4 2 3 7680 0 -256\nstop idle\n";
 
 /// The same with a `yield` while the resource is held.
@@ -193,7 +196,7 @@ const RUNS_TO_THE_END: [Row<'static>; 20] = [
     (
         &["serve", "P", "--caps", "1=1"],
         SERVER,
-        b"arrive 100 0\ndata 150 0 7\narrive 200 1\narrive 210 2\ndata 400 1 8\ndata 500 2 9\n",
+        SERVER_TRACE,
         10,
         LOG_OF_SERVER,
         NONE,

@@ -16,7 +16,7 @@ use Rattle.runner.specs.Counts.{CountsPart}
 use Rattle.runner.specs.Lines.{edge_line, edge_lines, end_lines}
 use Rattle.runner.specs.Output.{Output, TakesPart, Grows}
 use Rattle.runner.proofs.Joined.{part_more, part_on, grows_on, grows_none}
-use Rattle.runner.proofs.Parts.{no_line}
+use Rattle.runner.proofs.FitTexts.{no_line}
 
 -- ---- the averages that are shown
 

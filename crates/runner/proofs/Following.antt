@@ -2,7 +2,6 @@
 use Rattle.std.proofs.Common.{◌≡◌, ℕ, zero, suc, ◌+◌, ◌≤◌, List, [], ◌∷◌, ◌++◌, length, take, map, Option, Some, None, refl, sym, ap, ◌∙◌, subst, arith, length-append}
 use Rattle.std.specs.Prelude.{IfSome}
 use Rattle.std.specs.Io.KnownBytes.{Appends}
-use Rattle.std.proofs.lemmas.Grind.{flat_map-append}
 use Rattle.blocking_graph.specs.declared.edges.EdgeLine.{EdgeLine}
 use Rattle.good_logs.proofs.Good.{good}
 use Rattle.choice_rules.specs.Policy.{Rule}
@@ -23,28 +22,25 @@ use Rattle.cap_word.specs.declared.stops.Stop.{Stop}
 use Rattle.cap_word.specs.declared.threads.ThreadId.{ThreadId}
 use Rattle.runner.specs.Kept.{Kept}
 use Rattle.runner.specs.Lines.{halt_end, end_lines, edge_line}
-use Rattle.runner.specs.Output.{Output, unheld, Grows}
+use Rattle.runner.specs.Output.{Output, unheld, Grows, IsFitText}
 use Rattle.runner.specs.Sound.{IsSound}
 use Rattle.runner.specs.Ways.{IsOnWay, HasTicked, IsOnRun}
 use Rattle.runner.specs.Stands.{StandsBetween, Stands}
 use Rattle.runner.specs.Steps.{ActsTo, GoesTo, HaltsAt, HasThread, FailsIn, stop_line}
 use Rattle.runner.specs.Rest.{Rest, HasBytes, bytes_of, Knows, Unasked, Told, Made}
-use Rattle.schedule_log.specs.EntryText.{entry_text, log_text}
+use Rattle.schedule_log.specs.EntryText.{log_text}
 use Rattle.schedule_log.specs.Writing.{TakesPrefix}
 use Rattle.schedule_log.specs.declared.entries.Entry.{Entry}
 use Rattle.schedule_log.specs.declared.entries.StopLine.{StopLine}
 use Rattle.thread_core.specs.Worlds.{Held, IsThread}
 use Rattle.runner.proofs.Acting.{acts_on}
 use Rattle.runner.proofs.Joined.{grows_on, grows_none, part_on, whole_on}
-use Rattle.runner.proofs.Parts.{no_acts, no_line, by_none}
+use Rattle.runner.proofs.FitTexts.{fit_on, no_line, text_append}
+use Rattle.runner.proofs.Parts.{no_acts, by_none}
 use Rattle.runner.proofs.Started.{scoped, valid, starts, well, fuel_most}
 use Rattle.chunk_pool.specs.Pool.{free_count}
 
 -- ---- lists and texts
-
-pub text_append : (a b : List Entry) → log_text (a ++ b) ≡ log_text a ++ log_text b
-unfolding log_text
-text_append a b = flat_map-append (λ entry. entry_text entry ++ 10 ∷ []) a b
 
 leads_append : (g : Setup) (before between after : State) (a b : List Entry) → Leads g before a between → Leads g between b after → Leads g before (a ++ b) after
 leads_append g before between after _ b nowhere q = q
@@ -255,8 +251,9 @@ module _ (g : Setup) (first : Held) (left_first taken_first : Option (List ℕ))
       acted : ActsTo (setting_of g) first.machine after.machine
       acted = acts_on (setting_of g) first.machine so_far.state.machine after.machine so_far.acts halts.acts
 
-      pub comes_to : (written : Option (List ℕ)) → Appends mid.taken written (mid.held ++ log_text (end_lines after.setting.caps new.graph.edges stop)) → CameTo g after left_first taken_first written (halt_end halt)
-      comes_to written puts = record {
+      pub comes_to : (written : Option (List ℕ)) → Appends mid.taken written (mid.held ++ log_text (end_lines after.setting.caps new.graph.edges stop)) → IsFitText (log_text (end_lines after.setting.caps new.graph.edges stop)) →
+          CameTo g after left_first taken_first written (halt_end halt)
+      comes_to written puts fits = record {
         entries = whole;
         stop = stop;
         lawful = if_told (λ b. IsLawfulLog g b whole stop after.machine) left_first its_bytes told_first lawful;
@@ -269,6 +266,8 @@ module _ (g : Setup) (first : Held) (left_first taken_first : Option (List ℕ))
         thread = thread_at after halt halts.thread;
         writes = whole_from written (ending g so_far.state stop)
             (subst (λ (l : List ℕ). Appends now.taken written (now.held ++ l)) end_is (subst (λ (o : Output). Appends o.taken written (o.held ++ log_text (end_lines after.setting.caps new.graph.edges stop))) halts.writes puts));
+        fits = subst IsFitText (sym (text_append so_far.entries (ending g so_far.state stop)))
+            (fit_on (log_text so_far.entries) (log_text (ending g so_far.state stop)) so_far.writes.fits (subst IsFitText end_is fits));
         start = first.machine;
         starts = starts g first monitor at sound;
         actions = acted.actions;

@@ -9,6 +9,7 @@ use Rattle.schedule_log.specs.declared.writing.PutError.{PutError}
 use Rattle.schedule_log.proofs.Written.{prefix_none, put_finished}
 use Rattle.runner.specs.declared.ends.Failure.{Failure}
 use Rattle.runner.specs.Output.{Output, joined, TakesPart, Grows, PutsText}
+use Rattle.runner.proofs.FitTexts.{fit_none, fit_on}
 
 -- ---- beginnings
 
@@ -51,10 +52,11 @@ pub grows_on : (old mid new : Output) (s t : List ℕ) → Grows old mid s → G
 grows_on old mid new s t first then_ = record {
   whole = Appends-trans (joined old) (joined mid) (joined new) s t first.whole then_.whole;
   part = part_on old mid new.taken s t first then_.part;
+  fits = fit_on s t first.fits then_.fits;
 }
 
 pub grows_none : (now : Output) → Grows now now []
-grows_none now = record { whole = Appends-nil (joined now); part = part_none now [] }
+grows_none now = record { whole = Appends-nil (joined now); part = part_none now []; fits = fit_none }
 
 -- ---- results
 

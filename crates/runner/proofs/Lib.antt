@@ -33,6 +33,7 @@ pub mod Needs
 pub mod NeedsGoing
 pub mod Queued
 pub mod Rules
+pub mod FitTexts
 pub mod Joined
 pub mod Soundness
 pub mod Spelled

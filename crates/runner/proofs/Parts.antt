@@ -1,5 +1,5 @@
 -- What a part of a step comes to: a line was put, or a beginning of it was taken; or nothing was.
-use Rattle.std.proofs.Common.{◌≡◌, ℕ, zero, suc, ◌+◌, ◌≤◌, Bool, true, ◌&&◌, List, [], ◌∷◌, ◌++◌, Option, Some, None, Result, Ok, Err, refl, sym, ap, ◌∙◌, subst, append-nil, arith}
+use Rattle.std.proofs.Common.{◌≡◌, ℕ, zero, suc, ◌+◌, ◌≤◌, Bool, true, ◌&&◌, List, [], ◌∷◌, ◌++◌, Option, Some, None, Result, Ok, Err, refl, sym, ap, ◌∙◌, subst, arith}
 use Rattle.std.specs.Prelude.{nat_le, is_none, if◌then◌else◌}
 use Rattle.std.proofs.lemmas.Bool.Decides.{nat_tests}
 use Rattle.lawful_log.specs.Good.{checked_of}
@@ -26,6 +26,7 @@ use Rattle.thread_core.specs.declared.turns.Turn.{Turn}
 use Rattle.runner.specs.Ways.{IsOnWay, has_waited, has_run, has_told, HasTicked}
 use Rattle.runner.specs.Rest.{Rest, HasBytes}
 use Rattle.runner.proofs.Acting.{acts_on, one_step, told_acts}
+use Rattle.runner.proofs.FitTexts.{no_line, one_line}
 use Rattle.runner.proofs.Joined.{grows_none, part_none}
 use Rattle.runner.proofs.Soundness.{sound_between, sound_within, sound_now}
 
@@ -190,14 +191,6 @@ module _ (g : Setup) (state : State) (k : Kept) (held : Held) (left : Rest) wher
   to_within under e stands = subst (λ (o : Option Under). StandsBy g state k held left o) e stands
 
 -- ---- what was written
-
-pub one_line : (entry : Entry) → log_text (entry ∷ []) ≡ entry_text entry ++ 10 ∷ []
-unfolding log_text
-one_line entry = append-nil (entry_text entry ++ 10 ∷ [])
-
-pub no_line : log_text [] ≡ []
-unfolding log_text
-no_line = refl
 
 -- nothing was put
 pub silent : (g : Setup) (state : State) (left : Rest) (k : Kept) (held : Held) (after : Rest) (taken : Output) → Stands g state k held after → GoesTo g state left k held after taken taken

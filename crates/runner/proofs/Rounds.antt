@@ -17,7 +17,7 @@ use Rattle.runner.specs.declared.ends.Failure.{Failure}
 use Rattle.runner.specs.declared.ends.Halt.{Halt}
 use Rattle.runner.specs.Kept.{Kept}
 use Rattle.runner.specs.Lines.{failure_end, halt_end, end_lines}
-use Rattle.runner.specs.Output.{Output, unheld}
+use Rattle.runner.specs.Output.{IsFitText, Output, unheld}
 use Rattle.runner.specs.Sound.{IsSound}
 use Rattle.runner.specs.Ways.{has_run}
 use Rattle.runner.specs.Stands.{StandsBetween, Stands, StandsSomehow}
@@ -136,10 +136,10 @@ module _ (first : Held) (rule : Rule) (monitor : MonitorState) (left_first taken
       came_by (Halt.BadTrace line) g came same = (came, counts.0 ∙ runs.same_reads, same)
       came_by (Halt.Cut thread stop cost) g came same = came_cut thread stop cost g came same
 
-      pub run_comes : Appends then_.taken last (then_.held ++ log_text (end_lines after.setting.caps new.graph.edges (stop_line halt (free_count after.machine.areas.pool)))) → CountsPart {V = Unit {0}} (Ok tt) writes_after writes_last → (g : Setup) → IsAtStartBy rule g first monitor →
+      pub run_comes : Appends then_.taken last (then_.held ++ log_text (end_lines after.setting.caps new.graph.edges (stop_line halt (free_count after.machine.areas.pool)))) → IsFitText (log_text (end_lines after.setting.caps new.graph.edges (stop_line halt (free_count after.machine.areas.pool)))) → CountsPart {V = Unit {0}} (Ok tt) writes_after writes_last → (g : Setup) → IsAtStartBy rule g first monitor →
           IsRunEnd g after left_first taken_first last reads_first reads_after writes_first writes_last (halt_end halt)
-      run_comes puts same g at =
-          came_by halt g (comes_to g first left_first taken_first k held left_then now (runs.follows g at left_then knows_then) monitor at runs.sound has_then halt new after then_ (halts g at) last puts) (same ∙ counts.1 ∙ runs.same_writes)
+      run_comes puts fits same g at =
+          came_by halt g (comes_to g first left_first taken_first k held left_then now (runs.follows g at left_then knows_then) monitor at runs.sound has_then halt new after then_ (halts g at) last puts fits) (same ∙ counts.1 ∙ runs.same_writes)
 
       short_by : (failure : Failure) (g : Setup) → FellShort g after left_first taken_first last → CountsPart {V = Unit {0}} (Err failure) writes_after writes_last →
           IsRunEnd g after left_first taken_first last reads_first reads_after writes_first writes_last (failure_end failure)

@@ -20,6 +20,7 @@ use Rattle.schedule_log.specs.declared.entries.StopLine.{StopLine}
 use Rattle.thread_core.specs.Making.{IsPolicy, IsStart}
 use Rattle.thread_core.specs.Worlds.{Held, IsThread}
 use Rattle.thread_core.specs.declared.policy.WorldPolicy.{WorldPolicy}
+use Rattle.runner.specs.Output.{IsFitText}
 use Rattle.runner.specs.Ways.{IsOnRun}
 use Rattle.runner.specs.declared.ends.RunEnd.{RunEnd}
 use Rattle.runner.specs.declared.ends.RunEnd.TheVariants as end
@@ -69,7 +70,8 @@ IsOfThread after answer = Unit {0}
 
 -- a run that came to its stop: the whole of its log was written, the log is good, and the world is as it was at the stop; some
 -- actions lead from its start to it, and in it every live thread is in place and the chunks are partitioned. Of a trace that
--- doesn't tell its bytes that is so for some bytes: it could have had them.
+-- doesn't tell its bytes that is so for some bytes: it could have had them. Each line of what was written is read back as an
+-- entry: it is the text of entries that fit their types.
 pub record CameTo (g : Setup) (after : Held) (left taken taken' : Option (List ℕ)) (answer : RunEnd) : Type 0 where
   pub entries : List Entry
   pub stop : StopLine
@@ -83,6 +85,7 @@ pub record CameTo (g : Setup) (after : Held) (left taken taken' : Option (List �
   pub end_is : IsEndAt stop answer
   pub thread : IsOfThread after answer
   pub writes : Appends taken taken' (log_text entries)
+  pub fits : IsFitText (log_text entries)
   pub start : World
   pub starts : start_machine g ≡ Some start
   pub actions : List Action

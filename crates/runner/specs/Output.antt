@@ -1,7 +1,11 @@
 -- What a run has put out of its log, through a writer with a buffer.
-use Rattle.std.specs.Prelude.{ℕ, List, [], ◌++◌, Option, MatchResult, Result}
+use Rattle.std.specs.Prelude.{◌≡◌, ℕ, List, [], ◌++◌, Option, MatchResult, Result}
 use Rattle.std.specs.Io.KnownBytes.{Appends, append_known}
+use Rattle.std.specs.List.{AllByRecursion}
+use Rattle.schedule_log.specs.EntryRanges.{FitsEntry}
+use Rattle.schedule_log.specs.EntryText.{log_text}
 use Rattle.schedule_log.specs.Writing.{WriterState, TakesPrefix}
+use Rattle.schedule_log.specs.declared.entries.Entry.{Entry}
 
 -- the bytes that the sink took, where it tells them, and those that the writer holds
 pub record Output : Type 0 where
@@ -23,10 +27,17 @@ joined now = append_known now.taken now.held
 abbrev pub TakesPart : Output → Output → List ℕ → Type 0
 TakesPart old new text = TakesPrefix old.taken new.taken (old.held ++ text)
 
--- what was taken and then what is held grew by the text
+-- the text of entries that fit their types: each of its lines is read back as an entry
+pub record IsFitText (text : List ℕ) : Type 0 where
+  pub fitting : List Entry
+  pub fit : AllByRecursion FitsEntry fitting
+  pub text_is : text ≡ log_text fitting
+
+-- what was taken and then what is held grew by the text, whose entries fit their types
 pub record Grows (old new : Output) (text : List ℕ) : Type 0 where
   pub whole : Appends (joined old) (joined new) text
   pub part : TakesPart old new text
+  pub fits : IsFitText text
 
 -- a text went through the writer, or the sink took a beginning of what was held and of it
 abbrev pub PutsText : {E : Type 0} → Output → Output → List ℕ → Result (Unit {0}) E → Type 0

@@ -3,7 +3,7 @@ ghost use Rattle.cap_io.specs.Writes.{Puts};
 ghost use Rattle.choice_rules.specs.EdgeLines as rules;
 ghost use Rattle.runner.specs.Counts.{CountsPart};
 ghost use Rattle.runner.specs.Lines.{edge_line, edge_lines, end_lines};
-ghost use Rattle.runner.specs.Output.{PutsText, output_of};
+ghost use Rattle.runner.specs.Output.{IsFitText, PutsText, output_of};
 ghost use Rattle.runner.specs.Steps.{stop_line};
 ghost use Rattle.schedule_log.specs.EntryText.{log_text};
 ghost use Rattle.chunk_pool.specs.Pool.{free_count};
@@ -25,6 +25,7 @@ pub(crate) fn write_end<K: Sink>(
 ) -> Result<(), Failure>
     requires { writer.refused ≡ None }
     ensures bytes { Puts (K.taken out.old) (K.taken out.new) (writer.held ++ log_text (end_lines world.now.setting.caps graph.now.edges (stop_line halt (free_count world.now.machine.areas.pool)))) result }
+    ensures fits { OnOk result (IsFitText (log_text (end_lines world.now.setting.caps graph.now.edges (stop_line halt (free_count world.now.machine.areas.pool))))) }
     ensures counts { CountsPart result (K.faults out.old) (K.faults out.new) }
 {
     let Ok(edges) = graph.edges() else {

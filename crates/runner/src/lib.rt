@@ -12,6 +12,7 @@ mod course;
 mod deliveries;
 mod edges;
 mod ends;
+mod fitting;
 mod lines;
 mod looking;
 mod running;

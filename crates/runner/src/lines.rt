@@ -7,6 +7,7 @@ ghost use Rattle.runner.specs.Output.{PutsText, output_of};
 ghost use Rattle.schedule_log.specs.EntryText.{entry_text};
 
 use crate::ends::Failure;
+use crate::fitting::line_fits;
 use cap_io::Sink;
 use schedule_log::{Entry, LogWriter, PutError};
 
@@ -21,6 +22,7 @@ pub(crate) fn write_line<K: Sink>(
     ensures counts { CountsPart result (K.faults out.old) (K.faults out.new) }
     ensures unrefused { OnOk result (writer.new.refused ≡ None) }
 {
+    line_fits(entry);
     match writer.put(out, entry) {
         Ok(()) => Ok(()),
         Err(refusal) => Err(failure_of(refusal)),

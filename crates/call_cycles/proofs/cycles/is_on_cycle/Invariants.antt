@@ -1,11 +1,14 @@
 use Rattle.std.proofs.Common.{◌+◌, length}
 use Rattle.flat_code.specs.ProgramView.{program_code}
-use Rattle.call_cycles.specs.Marks.{unmarked}
+use Rattle.call_cycles.specs.Marks.{AreSeen, unmarked}
 use Rattle.call_cycles.proofs.WalkLemmas.{IsWalked}
 use Rattle.call_cycles.proofs.cycles.is_on_cycle.Given as goal
 
 abbrev pub invariant-loop-next : goal.invariant-loop-next
-invariant-loop-next l = IsWalked (program_code l.flat) l.function (length (program_code l.flat).functions) l.marks l.left.items
+invariant-loop-next l = record {
+  walked : IsWalked (program_code l.flat) l.function (length (program_code l.flat).functions) l.marks l.left.items;
+  seen : AreSeen (program_code l.flat) l.marks l.seen;
+}
 
 abbrev pub decreases-loop-next : goal.decreases-loop-next
 decreases-loop-next l = unmarked l.marks + length l.left.items

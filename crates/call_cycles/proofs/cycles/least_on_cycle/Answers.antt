@@ -6,7 +6,7 @@ use Rattle.call_cycles.proofs.cycles.least_on_cycle.Goals as goal
 
 pub returns-then-branch : goal.returns-then-branch
 returns-then-branch c =
-    least-cycle (program_code c.args.flat.now) c.loop-number.number c.loop-number.invariant (c.in_ok-is_on_cycle.ensures.found c.if-branch.true)
+    least-cycle (program_code c.args.flat.now) c.loop-number.number c.loop-number.invariant (c.in_ok-lies_on_cycle.ensures.found c.if-branch.true)
 
 pub returns : goal.returns
 returns c = λ g cycle.

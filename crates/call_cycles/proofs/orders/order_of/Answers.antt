@@ -1,4 +1,4 @@
-use Rattle.std.proofs.Common.{◌≡◌, ◌<◌, ℕ, true, [], length, reverse, sym, subst, arith}
+use Rattle.std.proofs.Common.{◌≡◌, ◌<◌, ℕ, true, [], length, reverse, subst, arith}
 use Rattle.std.specs.List.{AllByRecursion}
 use Rattle.call_graph.specs.Graph.{function_count}
 use Rattle.call_graph.specs.Lists.{has}

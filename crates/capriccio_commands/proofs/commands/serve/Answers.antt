@@ -29,4 +29,4 @@ returns g c =
     let step = c.in_ok-accepted.ensures in
     let is = step.answer before.left a.policy in
     ends-follow (RunsOn before.left (setup_of (accepted_tree accepted) accepted.image accepted.certificate a.policy)) (Serves before.files before.left a.source.now a.sizes a.policy) _ _ c.run_accepted.result is.0
-    (c.run_accepted.ensures _ _ _ _ _ _ step.files is.2 step.stores)
+    (c.run_accepted.ensures.ends _ _ _ _ _ _ step.files is.2 step.stores)

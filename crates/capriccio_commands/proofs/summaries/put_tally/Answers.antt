@@ -12,5 +12,5 @@ returns c =
     let fits : FitsSigned w128 a.sum = search rules in
     let same = to_z-of_z w128 a.sum fits in
     let sum = rw same at c.in_ok-put_sum.ensures in
-    four-pieces c.put_count-3.result c.args.text.now.items (count_line (codes "choices ") a.choices) (count_line (codes "outputs ") a.outputs) (sum_line (codes "sum ") a.sum) (count_line (codes "cost ") a.cost)
-    c.put_count.new.text.items c.put_count-2.new.text.items c.put_sum.new.text.items c.put_count-3.new.text.items c.in_ok-put_count.ensures c.in_ok-put_count-2.ensures sum c.put_count-3.ensures
+    four-pieces c.put_cost.result c.args.text.now.items (count_line (codes "choices ") a.choices) (count_line (codes "outputs ") a.outputs) (sum_line (codes "sum ") a.sum) (count_line (codes "cost ") a.cost)
+    c.put_count.new.text.items c.put_count-2.new.text.items c.put_sum.new.text.items c.put_cost.new.text.items c.in_ok-put_count.ensures c.in_ok-put_count-2.ensures sum c.put_cost.ensures

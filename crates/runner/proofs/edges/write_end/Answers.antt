@@ -8,9 +8,10 @@ use Rattle.schedule_log.proofs.Written.{prefix_none}
 use Rattle.runner.specs.declared.ends.Failure.{Failure}
 use Rattle.runner.specs.Counts.{CountsPart}
 use Rattle.runner.specs.Lines.{edge_lines, end_lines}
-use Rattle.runner.specs.Output.{Grows, TakesPart, output_of}
+use Rattle.runner.specs.Output.{Grows, IsFitText, TakesPart, output_of}
 use Rattle.runner.specs.Steps.{stop_line}
 use Rattle.runner.proofs.Edged.{puts_begun, end_text_of, counts_on}
+use Rattle.runner.proofs.FitTexts.{fit_anyway, fit_on}
 use Rattle.runner.proofs.Joined.{grows_on, part_on, finished}
 use Rattle.runner.proofs.edges.write_end.Goals as goal
 use Rattle.chunk_pool.specs.Pool.{free_count}
@@ -73,6 +74,18 @@ returns-clause-bytes g c =
     (grows_on old mid new (log_text (edge_lines caps c.deref.result.now)) (entry_text (Entry.Stop stop) ++ 10 ∷ []) c.in_ok-write_edges.ensures.bytes
     (subst (λ (s : StopLine). Grows mid new (entry_text (Entry.Stop s) ++ 10 ∷ [])) stop_is c.in_ok-write_line.ensures.bytes)))
     c.finish.ensures.bytes
+
+pub returns-clause-fits : goal.returns-clause-fits
+returns-clause-fits g c =
+    let stop = stop_line c.args.halt (free_count c.args.world.now.machine.areas.pool) in
+    let caps = c.args.world.now.setting.caps in
+    let stop_is : c.line-line.result ≡ stop = c.line-line.ensures ∙ ap (λ (n : ℕ). stop_line c.args.halt n) c.free.ensures in
+    let edges = c.in_ok-write_edges.ensures.bytes in
+    let last = c.in_ok-write_line.ensures.bytes in
+    fit_anyway c.finish.result (log_text (end_lines caps c.args.graph.now.edges stop))
+    (subst IsFitText (sym (end_text_of caps c.args.graph.now.edges c.deref.result.now stop (c.deref.ensures.value ∙ c.in-Ok.ensures.all)))
+    (fit_on (log_text (edge_lines caps c.deref.result.now)) (entry_text (Entry.Stop stop) ++ 10 ∷ []) edges.fits
+    (subst (λ (s : StopLine). IsFitText (entry_text (Entry.Stop s) ++ 10 ∷ [])) stop_is last.fits)))
 
 pub returns-clause-counts : goal.returns-clause-counts
 returns-clause-counts g c =

@@ -7,7 +7,7 @@ use Rattle.schedule_log.specs.Writing.{WriterState}
 use Rattle.runner.specs.Answers.{IsRunEnd}
 use Rattle.runner.specs.Kept.{Kept}
 use Rattle.runner.specs.Lines.{end_lines}
-use Rattle.runner.specs.Output.{output_of}
+use Rattle.runner.specs.Output.{IsFitText, output_of}
 use Rattle.runner.specs.Rules.{rule_of}
 use Rattle.runner.specs.Sound.{IsSound}
 use Rattle.runner.specs.Steps.{stop_line}
@@ -66,9 +66,11 @@ returns-in-Ok-written-clause-answer g c = λ s at.
     let edges : c.course.inside.graph.edges ≡ c.step.new.self.graph.edges = ap (λ (k : Kept). k.graph.edges) c.course.view_is in
     let puts = subst (λ (es : List EdgeLine). Appends (g.K.Sink.taken c.step.new.out) (g.K.Sink.taken c.write_end-written.new.out) (c.step.new.writer.held ++ log_text (end_lines c.step.new.world.setting.caps es (stop_line c.in-Ok-Some.halt (free_count c.step.new.world.machine.areas.pool))))) edges
     c.in-Ok-written.ensures.bytes in
+    let fits = subst (λ (es : List EdgeLine). IsFitText (log_text (end_lines c.step.new.world.setting.caps es (stop_line c.in-Ok-Some.halt (free_count c.step.new.world.machine.areas.pool))))) edges
+    c.in-Ok-written.ensures.fits in
     subst (λ (e : RunEnd). IsRunEnd s c.step.new.world (g.S.Source.left c.args.trace.now) (g.K.Sink.taken c.args.out.now) (g.K.Sink.taken c.write_end-written.new.out) (g.S.Source.faults c.args.trace.now) (g.S.Source.faults c.step.new.trace) (g.K.Sink.faults c.args.out.now) (g.K.Sink.faults c.write_end-written.new.out) e) (sym c.end.ensures)
     (run_comes c.args.world.now (rule_of c.args.rule) c.args.monitor (g.S.Source.left c.args.trace.now) (g.K.Sink.taken c.args.out.now) (g.S.Source.faults c.args.trace.now) (g.K.Sink.faults c.args.out.now) c.loop-halt.course c.loop-halt.world (g.S.Source.left c.loop-halt.trace) (output_of c.loop-halt.writer (g.K.Sink.taken c.loop-halt.out)) (g.S.Source.faults c.loop-halt.trace) (g.K.Sink.faults c.loop-halt.out) c.loop-halt.invariant.0 c.step.new.self c.step.new.world (g.S.Source.left c.step.new.trace) (output_of c.step.new.writer (g.K.Sink.taken c.step.new.out)) (g.S.Source.faults c.step.new.trace) (g.K.Sink.faults c.step.new.out) c.step.ensures.keeps c.in-Ok-Some.halt ends c.in-Ok-Some.ensures.counts (g.K.Sink.taken c.write_end-written.new.out) (g.K.Sink.faults c.write_end-written.new.out)
-    puts c.in-Ok-written.ensures.counts s at)
+    puts fits c.in-Ok-written.ensures.counts s at)
 
 pub loop-halt-preserved : goal.loop-halt-preserved
 loop-halt-preserved g c =

@@ -1,0 +1,104 @@
+-- Functions that are marked together with all that they call, and those that are found to lie on no cycle.
+use Rattle.std.proofs.Common.{◌≡◌, inl, inr, ⊎_elim, ◌⊎◌, ℕ, ◌<◌, Bool, true, false, not, List, [], ◌∷◌, ◌++◌, length, replicate, set, refl, sym, ◌∙◌, subst, arith}
+use Rattle.std.proofs.lemmas.Bool.{cases_lt}
+use Rattle.std.proofs.lemmas.List.{get_or-replicate, get_or-set_same, get_or-set_other, get_or_past, length-replicate}
+use Rattle.flat_code.specs.Codes.{FlatCode}
+use Rattle.call_graph.specs.Lists.{has}
+use Rattle.call_graph.proofs.IndexLemmas.{by_eq}
+use Rattle.cycle_break.proofs.NumberLemmas.{true_false}
+use Rattle.call_cycles.specs.Cycles.{Calls, IsWay, IsOnCycle}
+use Rattle.call_cycles.specs.Marks.{is_marked, AreOffCycles, AreSeen, IsClosed, Marks}
+use Rattle.call_cycles.proofs.MarkLemmas.{has-either, has-left, mark-stays}
+
+pub none-marked : (n g : ℕ) → is_marked (replicate n false) g ≡ true → ⊥
+none-marked n g h =
+    ⊎_elim
+    (λ lt. true_false (is_marked (replicate n false) g) h (get_or-replicate n g false false lt))
+    (λ le. true_false (is_marked (replicate n false) g) h (get_or_past (replicate n false) g false (let e = length-replicate n false in omega (arith, e, le))))
+    (cases_lt g n)
+
+pub not-true : (b : Bool) → not b ≡ true → b ≡ false
+not-true true e = sym e
+not-true false e = refl
+
+-- ---- at the start
+
+pub none-seen : (code : FlatCode) (marks : List Bool) (tables : ℕ) → tables ≡ length code.tables → AreSeen code marks (replicate tables false)
+none-seen code marks tables same = record { each = length-replicate tables false ∙ same; members = λ t g s h. absurd (none-marked tables t s) }
+
+pub none-closed : (code : FlatCode) (n : ℕ) → IsClosed code (replicate n false)
+none-closed code n = λ g h marked call. absurd (none-marked n g marked)
+
+pub none-off : (code : FlatCode) (n : ℕ) → AreOffCycles code (replicate n false)
+none-off code n = λ f marked cycle. none-marked n f marked
+
+-- ---- the walk from a function, where marked functions lead to marked ones alone
+
+-- how far the walk has come: all that the function calls is marked; what a marked function calls is marked, unless it is still to be
+-- looked at
+pub record IsSpread (code : FlatCode) (f functions : ℕ) (marks : List Bool) (left : List ℕ) : Type 0 where
+  pub each : length marks ≡ functions
+  pub first : (g : ℕ) → Calls code f g → is_marked marks g ≡ true
+  pub closed : (g : ℕ) → is_marked marks g ≡ true → (has g left ≡ true) ⊎ ((h : ℕ) → Calls code g h → is_marked marks h ≡ true)
+  pub waiting : (g : ℕ) → has g left ≡ true → is_marked marks g ≡ true
+
+module _ (code : FlatCode) (f functions : ℕ) where
+  pub spread-first : (marks marks' : List Bool) (left : List ℕ) → length marks ≡ functions → IsClosed code marks → Marks (Calls code f) marks [] marks' left → IsSpread code f functions marks' left
+  spread-first marks marks' left each closed new = record {
+    each = new.each ∙ each;
+    first = new.done;
+    closed = λ g h. ⊎_elim (λ was. inr (λ k call. new.kept k (closed g k was call))) (λ there. inl there) (new.later g h);
+    waiting = λ g h. ⊎_elim (λ none. true_false false none refl) (λ marked. marked) (new.added g h);
+  }
+
+  pub spread-more : (next : ℕ) (marks : List Bool) (left : List ℕ) (marks' : List Bool) (left' : List ℕ) → IsSpread code f functions marks (left ++ next ∷ []) → Marks (Calls code next) marks left marks' left' →
+      IsSpread code f functions marks' left'
+  spread-more next marks left marks' left' was new = record {
+    each = new.each ∙ was.each;
+    first = λ g call. new.kept g (was.first g call);
+    closed = λ g h.
+        ⊎_elim
+        (λ old. ⊎_elim
+        (λ waits. ⊎_elim
+        (λ before. inl (new.still g before))
+        (λ e. inr (λ k call. new.done k (subst (λ (n : ℕ). Calls code n k) (sym e) call)))
+        (has-either g next left waits))
+        (λ all. inr (λ k call. new.kept k (all k call)))
+        (was.closed g old))
+        (λ added. inl added)
+        (new.later g h);
+    waiting = λ g h. ⊎_elim (λ before. new.kept g (was.waiting g (has-left g left (next ∷ []) before))) (λ marked. marked) (new.added g h);
+  }
+
+  -- nothing is left
+  spread-closed : (marks : List Bool) → IsSpread code f functions marks [] → IsClosed code marks
+  spread-closed marks spread = λ g h marked call. ⊎_elim (λ none. true_false false none refl) (λ all. all h call) (spread.closed g marked)
+
+  pub spread-end : (marks : List Bool) (left : List ℕ) → length left ≡ 0 → IsSpread code f functions marks left → IsClosed code marks
+  spread-end marks [] none spread = spread-closed marks spread
+  spread-end marks (x ∷ left) none spread = absurd (omega arith)
+
+  -- the function itself is marked too
+  pub closed-set : (marks : List Bool) (left : List ℕ) → f < length marks → IsSpread code f functions marks left → IsClosed code marks → IsClosed code (set marks f true)
+  closed-set marks left within spread closed = λ g h marked call.
+      by_eq g f
+      (λ e. mark-stays marks f h within (spread.first h (subst (λ (n : ℕ). Calls code n h) e call)))
+      (λ ne. mark-stays marks f h within (closed g h (sym (get_or-set_other marks f g true false ne) ∙ marked) call))
+
+-- a way from a marked function leads to one
+way-marked : (code : FlatCode) (marks : List Bool) (g h : ℕ) (way : List ℕ) → IsClosed code marks → is_marked marks g ≡ true → IsWay code g way h → is_marked marks h ≡ true
+way-marked code marks g h [] closed marked e = subst (λ (n : ℕ). is_marked marks n ≡ true) e marked
+way-marked code marks g h (next ∷ way) closed marked w = way-marked code marks next h way closed (closed g next marked w.0) w.1
+
+-- so a function that the walk didn't reach lies on no cycle
+pub unreached-off : (code : FlatCode) (f functions : ℕ) (marks : List Bool) (left : List ℕ) → IsSpread code f functions marks left → IsClosed code marks → is_marked marks f ≡ false → IsOnCycle code f → ⊥
+unreached-off code f functions marks left spread closed out cycle =
+    true_false (is_marked marks f) (way-marked code marks cycle.first f cycle.rest closed (spread.first cycle.first cycle.call) cycle.way) out
+
+-- ---- what was found
+
+pub off-more : (code : FlatCode) (off : List Bool) (f : ℕ) (found : Bool) → f < length off → (found ≡ true → IsOnCycle code f → ⊥) → AreOffCycles code off → AreOffCycles code (set off f found)
+off-more code off f found within here was = λ g marked cycle.
+    by_eq g f
+    (λ e. here (sym (get_or-set_same off f found false within) ∙ subst (λ (n : ℕ). is_marked (set off f found) n ≡ true) e marked) (subst (IsOnCycle code) e cycle))
+    (λ ne. was g (sym (get_or-set_other off f g found false ne) ∙ marked) cycle)

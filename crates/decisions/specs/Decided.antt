@@ -1,0 +1,6 @@
+-- What it is for a statement to be decided.
+use Rattle.std.specs.Prelude.{◌⊎◌}
+
+-- it holds, or it doesn't
+abbrev pub Decided : Type 0 → Type 0
+Decided P = P ⊎ (P → ⊥)

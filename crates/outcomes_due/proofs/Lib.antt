@@ -1,0 +1,4 @@
+pub mod Loading
+pub mod Running
+pub mod Building
+pub mod Commands

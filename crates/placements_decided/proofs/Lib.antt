@@ -1,0 +1,4 @@
+pub mod Sorting
+pub mod Parts
+pub mod Graphs
+pub mod Bounds

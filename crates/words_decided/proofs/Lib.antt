@@ -1,0 +1,4 @@
+pub mod Spoken
+pub mod Values
+pub mod Commands
+pub mod Requests

@@ -1,0 +1,258 @@
+-- The values of the options, or that the texts are none.
+use Rattle.std.proofs.Common.{◌≡◌, ◌∙◌, ℕ, zero, suc, ◌+◌, ◌*◌, ◌-◌, ◌<◌, ◌≤◌, ◌%◌, ◌⊎◌, inl, inr, List, [], ◌∷◌, length, map, replicate, Option, Some, None, refl, sym, ap, subst, arith, codes}
+use Rattle.std.proofs.lemmas.List.{length-map}
+use Rattle.cap_text.specs.Decimals.{canonical_decimal}
+use Rattle.cap_text.specs.Pieces.{pieces}
+use Rattle.command_words.specs.declared.options.Placement.{Placement}
+use Rattle.command_words.specs.declared.options.Policy.{Policy}
+use Rattle.command_words.specs.declared.options.Rule.{Rule}
+use Rattle.command_words.specs.declared.options.Rule.TheVariants.{Graph, Stride}
+use Rattle.command_words.specs.declared.options.Tickets.{Tickets}
+use Rattle.command_words.specs.Values.{IsChosen, IsNumber, default_max_path, IsPlacement, cap_text, AreCapsAbove, caps_of, IsCapsText, AreCaps, ticket_text, AreTicketsFrom, IsTicketsText, tickets_of, AreTickets, rule_name, IsRule, IsPolicy}
+use Rattle.decisions.specs.Decided.{Decided}
+use Rattle.decisions.proofs.Decisions.{Below, decided_by, both_decided, either_decided, then_decided, below_decided, le_decided, lt_decided, number_same, text_same, option_same}
+
+abbrev Texts : Type 0
+Texts = List ℕ → Option (List ℕ)
+
+-- ---- numbers
+
+chosen_decided : (given : Option (List ℕ)) (default n : ℕ) → Decided (IsChosen given default n)
+chosen_decided None default n = number_same n default
+chosen_decided (Some text) default n = text_same text (canonical_decimal n)
+
+is_number_decided : (given : Option (List ℕ)) (default least most n : ℕ) → Decided (IsNumber given default least most n)
+is_number_decided given default least most n =
+    decided_by (λ (h : IsChosen given default n × ((least ≤ n) × (n ≤ most))). record { chosen = h.0; not_less = h.1.0; not_more = h.1.1 })
+    (λ h. (h.chosen, (h.not_less, h.not_more)))
+    (both_decided (chosen_decided given default n) (both_decided (le_decided least n) (le_decided n most)))
+
+-- some number is in the range and has what is decided of each
+pub ranged_decided : (given : Option (List ℕ)) (default least most : ℕ) (P : ℕ → Type 0) → ((n : ℕ) → Decided (P n)) → Decided ((n : ℕ) × (IsNumber given default least most n × P n))
+ranged_decided given default least most P each =
+    decided_by (λ (b : Below (λ n. IsNumber given default least most n × P n) (suc most)). (b.0, b.1.1))
+    (λ h. (h.0, ((let below = h.1.0.not_more in omega (arith, below)), h.1)))
+    (below_decided (λ n. IsNumber given default least most n × P n) (λ n. both_decided (is_number_decided given default least most n) (each n)) (suc most))
+
+pub number_decided : (given : Option (List ℕ)) (default least most : ℕ) → Decided ((n : ℕ) × IsNumber given default least most n)
+number_decided given default least most =
+    decided_by (λ (h : (n : ℕ) × (IsNumber given default least most n × Unit {0})). (h.0, h.1.0)) (λ h. (h.0, (h.1, tt)))
+    (ranged_decided given default least most (λ n. Unit {0}) (λ n. inl tt))
+
+-- ---- the sizes
+
+pub placement_decided : (given : Texts) → Decided ((placement : Placement) × IsPlacement given placement)
+placement_decided given =
+    decided_by (λ (h : Sizes). (record { chunk = h.0; max_path = h.1.1.1.0 }, record { chunk = h.1.0; whole = h.1.1.0; max_path = h.1.1.1.1 }))
+    (λ h. (h.0.chunk, (h.1.chunk, (h.1.whole, (h.0.max_path, h.1.max_path)))))
+    (ranged_decided (given (codes "--chunk")) 4096 64 65536 Rest (λ chunk. both_decided (number_same (chunk % 16) 0) (number_decided (given (codes "--max-path")) (default_max_path chunk) 16 (chunk - 16))))
+  where
+    Rest : ℕ → Type 0
+    Rest chunk = (chunk % 16 ≡ 0) × ((path : ℕ) × IsNumber (given (codes "--max-path")) (default_max_path chunk) 16 (chunk - 16) path)
+
+    Sizes : Type 0
+    Sizes = (chunk : ℕ) × (IsNumber (given (codes "--chunk")) 4096 64 65536 chunk × Rest chunk)
+
+-- ---- the caps
+
+-- the fields are caps of resources that rise from above this one
+abbrev CapsFrom : List (List ℕ) → ℕ → Type 0
+CapsFrom fields below = (pairs : List (ℕ × ℕ)) × ((fields ≡ map cap_text pairs) × AreCapsAbove below pairs)
+
+-- the field is one cap, and the others are those of resources above it
+abbrev FirstCap : List ℕ → List (List ℕ) → ℕ → ℕ → ℕ → Type 0
+FirstCap field fields below resource most = ((field ≡ cap_text (resource, most)) × ((below < resource) × (1 ≤ most))) × CapsFrom fields resource
+
+abbrev SomeCap : List ℕ → List (List ℕ) → ℕ → ℕ → ℕ → Type 0
+SomeCap field fields below resources mosts = Below (λ resource. Below (λ most. FirstCap field fields below resource most) mosts) resources
+
+caps_from : (fields : List (List ℕ)) (below : ℕ) → Decided (CapsFrom fields below)
+caps_from [] below = inl ([], (refl, tt))
+caps_from (field ∷ fields) below = by 8 1000001 refl refl (λ n. caps_from fields n) where
+  first : ((n : ℕ) → Decided (CapsFrom fields n)) → (resource most : ℕ) → Decided (FirstCap field fields below resource most)
+  first again resource most = both_decided (both_decided (text_same field (cap_text (resource, most))) (both_decided (lt_decided below resource) (le_decided 1 most))) (again resource)
+
+  search : ((n : ℕ) → Decided (CapsFrom fields n)) → (resources mosts : ℕ) → Decided (SomeCap field fields below resources mosts)
+  search again resources mosts =
+      below_decided (λ resource. Below (λ most. FirstCap field fields below resource most) mosts) (λ resource. below_decided (λ most. FirstCap field fields below resource most) (first again resource) mosts) resources
+
+  to : (resources mosts : ℕ) → resources ≡ 8 → mosts ≡ 1000001 → SomeCap field fields below resources mosts → CapsFrom (field ∷ fields) below
+  to resources mosts r m b =
+      let f = b.1.1.1.1 in
+      let text = f.0.0 in
+      let more = f.1.1.0 in
+      let first_below = b.1.0 in
+      let most_below = b.1.1.1.0 in
+      ((b.0, b.1.1.0) ∷ f.1.0, ((cc), (f.0.1.0, omega (arith, first_below, r), f.0.1.1, omega (arith, most_below, m), f.1.1.1)))
+
+  from : (resources mosts : ℕ) → resources ≡ 8 → mosts ≡ 1000001 → CapsFrom (field ∷ fields) below → SomeCap field fields below resources mosts
+  from resources mosts r m (([], h)) = let e = h.0 in absurd cc
+  from resources mosts r m (((resource, most) ∷ pairs, h)) =
+      let e = h.0 in
+      let a = h.1.1 in
+      let b = h.1.3 in
+      (resource, (omega (arith, a, r), (most, (omega (arith, b, m), (((cc), (h.1.0, h.1.2)), (pairs, ((cc), h.1.4)))))))
+
+  by : (resources mosts : ℕ) → resources ≡ 8 → mosts ≡ 1000001 → ((n : ℕ) → Decided (CapsFrom fields n)) → Decided (CapsFrom (field ∷ fields) below)
+  by resources mosts r m again = decided_by (to resources mosts r m) (from resources mosts r m) (search again resources mosts)
+
+pub caps_decided : (given : Option (List ℕ)) → Decided ((caps : List ℕ) × AreCaps given caps)
+caps_decided None = inl (replicate 8 0, refl)
+caps_decided (Some text) =
+    decided_by (λ (h : CapsFrom (pieces 44 text) 0). (caps_of h.0, (h.0, record { joined = h.1.0; in_range = h.1.1 }, refl)))
+    (λ h. (h.1.0, (h.1.1.joined, h.1.1.in_range)))
+    (caps_from (pieces 44 text) 0)
+
+-- ---- the rule
+
+abbrev TicketsFrom : List (List ℕ) → ℕ → Type 0
+TicketsFrom fields least = (pairs : List (ℕ × ℕ)) × ((fields ≡ map ticket_text pairs) × AreTicketsFrom least pairs)
+
+abbrev FirstTicket : List ℕ → List (List ℕ) → ℕ → ℕ → ℕ → Type 0
+FirstTicket field fields least thread count = ((field ≡ ticket_text (thread, count)) × ((least ≤ thread) × (1 ≤ count))) × TicketsFrom fields (suc thread)
+
+abbrev SomeTicket : List ℕ → List (List ℕ) → ℕ → ℕ → ℕ → Type 0
+SomeTicket field fields least threads counts = Below (λ thread. Below (λ count. FirstTicket field fields least thread count) counts) threads
+
+tickets_from : (fields : List (List ℕ)) (least : ℕ) → Decided (TicketsFrom fields least)
+tickets_from [] least = inl ([], (refl, tt))
+tickets_from (field ∷ fields) least = by 1000001 1025 refl refl (λ n. tickets_from fields n) where
+  first : ((n : ℕ) → Decided (TicketsFrom fields n)) → (thread count : ℕ) → Decided (FirstTicket field fields least thread count)
+  first again thread count = both_decided (both_decided (text_same field (ticket_text (thread, count))) (both_decided (le_decided least thread) (le_decided 1 count))) (again (suc thread))
+
+  search : ((n : ℕ) → Decided (TicketsFrom fields n)) → (threads counts : ℕ) → Decided (SomeTicket field fields least threads counts)
+  search again threads counts =
+      below_decided (λ thread. Below (λ count. FirstTicket field fields least thread count) counts) (λ thread. below_decided (λ count. FirstTicket field fields least thread count) (first again thread) counts) threads
+
+  to : (threads counts : ℕ) → threads ≡ 1000001 → counts ≡ 1025 → SomeTicket field fields least threads counts → TicketsFrom (field ∷ fields) least
+  to threads counts r m b =
+      let f = b.1.1.1.1 in
+      let text = f.0.0 in
+      let more = f.1.1.0 in
+      let first_below = b.1.0 in
+      let most_below = b.1.1.1.0 in
+      ((b.0, b.1.1.0) ∷ f.1.0, ((cc), (f.0.1.0, omega (arith, first_below, r), f.0.1.1, omega (arith, most_below, m), f.1.1.1)))
+
+  from : (threads counts : ℕ) → threads ≡ 1000001 → counts ≡ 1025 → TicketsFrom (field ∷ fields) least → SomeTicket field fields least threads counts
+  from threads counts r m (([], h)) = let e = h.0 in absurd cc
+  from threads counts r m (((thread, count) ∷ pairs, h)) =
+      let e = h.0 in
+      let a = h.1.1 in
+      let b = h.1.3 in
+      (thread, (omega (arith, a, r), (count, (omega (arith, b, m), (((cc), (h.1.0, h.1.2)), (pairs, ((cc), h.1.4)))))))
+
+  by : (threads counts : ℕ) → threads ≡ 1000001 → counts ≡ 1025 → ((n : ℕ) → Decided (TicketsFrom fields n)) → Decided (TicketsFrom (field ∷ fields) least)
+  by threads counts r m again = decided_by (to threads counts r m) (from threads counts r m) (search again threads counts)
+
+few_pairs : (fields : List (List ℕ)) (pairs : List (ℕ × ℕ)) → fields ≡ map ticket_text pairs → length fields ≡ length pairs
+few_pairs fields pairs e = ap length e ∙ length-map pairs ticket_text
+
+tickets_decided : (given : Option (List ℕ)) → Decided ((tickets : Tickets) × AreTickets given tickets)
+tickets_decided None = inl (tickets_of [], refl)
+tickets_decided (Some text) =
+    decided_by (λ (h : TicketsFrom (pieces 44 text) 0 × (length (pieces 44 text) ≤ 64)).
+    (tickets_of h.0.0, (h.0.0, record { joined = h.0.1.0; in_range = h.0.1.1; few = (let e = few_pairs _ _ h.0.1.0 in let few = h.1 in omega arith) }, refl)))
+    (λ h. ((h.1.0, (h.1.1.joined, h.1.1.in_range)), (let e = few_pairs _ _ h.1.1.joined in let few = h.1.1.few in omega arith)))
+    (both_decided (tickets_from (pieces 44 text) 0) (le_decided (length (pieces 44 text)) 64))
+
+rule_decided : (given tickets_given : Option (List ℕ)) → Decided ((rule : Rule) × IsRule given tickets_given rule)
+rule_decided given tickets_given =
+    decided_by to from (either_decided (both_decided (text_same (rule_name given) (codes "graph")) (option_same text_same tickets_given None))
+    (both_decided (text_same (rule_name given) (codes "stride")) (tickets_decided tickets_given)))
+  where
+    ByGraph : Type 0
+    ByGraph = (rule_name given ≡ codes "graph") × (tickets_given ≡ None)
+
+    ByStride : Type 0
+    ByStride = (rule_name given ≡ codes "stride") × ((tickets : Tickets) × AreTickets tickets_given tickets)
+
+    to : ByGraph ⊎ ByStride → (rule : Rule) × IsRule given tickets_given rule
+    to (inl h) = (Graph, h)
+    to (inr h) = (Stride h.1.0, (h.0, h.1.1))
+
+    from : (rule : Rule) × IsRule given tickets_given rule → ByGraph ⊎ ByStride
+    from ((Graph, h)) = inl h
+    from ((Stride tickets, h)) = inr (h.0, (tickets, h.1))
+
+-- ---- the policy
+
+pub policy_decided : (given : Texts) → Decided ((policy : Policy) × IsPolicy given policy)
+policy_decided given =
+    decided_by to from (both_decided (number_decided (given (codes "--chunks")) 1024 1 65536)
+    (both_decided (number_decided (given (codes "--extra")) 0 0 65536)
+    (both_decided (ranged_decided (given (codes "--extra-size")) 64 32 65536 (λ bytes. bytes % 16 ≡ 0) (λ bytes. number_same (bytes % 16) 0))
+    (both_decided (number_decided (given (codes "--fuel")) 10000000 0 1000000000)
+    (both_decided (number_decided (given (codes "--backlog")) 64 1 4096)
+    (both_decided (caps_decided (given (codes "--caps")))
+    (both_decided (ranged_decided (given (codes "--high")) 900 1 1000 (λ high. (low : ℕ) × IsNumber (given (codes "--low")) 700 0 (high - 1) low) (λ high. number_decided (given (codes "--low")) 700 0 (high - 1)))
+    (both_decided (rule_decided (given (codes "--rule")) (given (codes "--tickets")))
+    (number_decided (given (codes "--knee")) 0 0 999)))))))))
+  where
+    Parts : Type 0
+    Parts = ((n : ℕ) × IsNumber (given (codes "--chunks")) 1024 1 65536 n)
+        × (((n : ℕ) × IsNumber (given (codes "--extra")) 0 0 65536 n)
+        × (((n : ℕ) × (IsNumber (given (codes "--extra-size")) 64 32 65536 n × (n % 16 ≡ 0)))
+        × (((n : ℕ) × IsNumber (given (codes "--fuel")) 10000000 0 1000000000 n)
+        × (((n : ℕ) × IsNumber (given (codes "--backlog")) 64 1 4096 n)
+        × (((caps : List ℕ) × AreCaps (given (codes "--caps")) caps)
+        × (((n : ℕ) × (IsNumber (given (codes "--high")) 900 1 1000 n × ((low : ℕ) × IsNumber (given (codes "--low")) 700 0 (n - 1) low)))
+        × (((rule : Rule) × IsRule (given (codes "--rule")) (given (codes "--tickets")) rule)
+        × ((n : ℕ) × IsNumber (given (codes "--knee")) 0 0 999 n))))))))
+
+    to : Parts → (policy : Policy) × IsPolicy given policy
+    to p =
+        let q = p.1.1.1 in
+        let r = q.1.1.1 in (
+          record {
+            chunks = p.0.0;
+            extra = p.1.0.0;
+            extra_bytes = p.1.1.0.0;
+            fuel = q.0.0;
+            backlog = q.1.0.0;
+            caps = q.1.1.0.0;
+            high = r.0.0;
+            low = r.0.1.1.0;
+            rule = r.1.0.0;
+            knee = r.1.1.0;
+          },
+          record {
+            chunks = p.0.1;
+            extra = p.1.0.1;
+            extra_bytes = p.1.1.0.1.0;
+            extra_whole = p.1.1.0.1.1;
+            fuel = q.0.1;
+            backlog = q.1.0.1;
+            caps = q.1.1.0.1;
+            high = r.0.1.0;
+            low = r.0.1.1.1;
+            rule = r.1.0.1;
+            knee = r.1.1.1;
+          },
+        )
+
+    from : (policy : Policy) × IsPolicy given policy → Parts
+    from ((policy, is)) = (
+      (policy.chunks, is.chunks),
+      (
+        (policy.extra, is.extra),
+        (
+          (policy.extra_bytes, (is.extra_bytes, is.extra_whole)),
+          (
+            (policy.fuel, is.fuel),
+            (
+              (policy.backlog, is.backlog),
+              (
+                (policy.caps, is.caps),
+                (
+                  (policy.high, (is.high, (policy.low, is.low))),
+                  (
+                    (policy.rule, is.rule),
+                    (policy.knee, is.knee),
+                  ),
+                ),
+              ),
+            ),
+          ),
+        ),
+      ),
+    )
