@@ -1,4 +1,4 @@
-# Completion of the words of ./capriccio for bash: `source tools/completion.bash`, or put that line with the folder's path into ~/.bashrc.
+# Completion of the words of ./capriccio and ./report for bash: `source tools/completion.bash`, or put that line with the folder's path into ~/.bashrc.
 _capriccio() {
     local word=${COMP_WORDS[COMP_CWORD]} before=${COMP_WORDS[COMP_CWORD - 1]} command=${COMP_WORDS[1]}
     local placement="--chunk --max-path" policy="--chunks --extra --extra-size --fuel --backlog --caps --high --low --rule --tickets --knee" options=""
@@ -26,3 +26,23 @@ _capriccio() {
     fi
 }
 complete -F _capriccio capriccio ./capriccio
+
+# The report's own options stand before the words of the run.
+_capriccio_report() {
+    local place=1
+    while [ "$place" -lt "$COMP_CWORD" ] && [[ ${COMP_WORDS[place]} == --@(timeline|graph|log) ]]; do
+        place=$((place + 2))
+    done
+    if [ "$place" -gt "$COMP_CWORD" ]; then
+        compopt -o filenames 2>/dev/null
+        mapfile -t COMPREPLY < <(compgen -f -- "${COMP_WORDS[COMP_CWORD]}")
+    elif [ "$place" -eq "$COMP_CWORD" ]; then
+        mapfile -t COMPREPLY < <(compgen -W "--timeline --graph --log serve run" -- "${COMP_WORDS[COMP_CWORD]}")
+    else
+        # The rest is as behind ./capriccio.
+        COMP_WORDS=("${COMP_WORDS[0]}" "${COMP_WORDS[@]:place}")
+        COMP_CWORD=$((COMP_CWORD - place + 1))
+        _capriccio
+    fi
+}
+complete -F _capriccio_report report ./report

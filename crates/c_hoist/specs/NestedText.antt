@@ -11,6 +11,8 @@ use Rattle.c_scope.specs.declared.source_errors.SourceError.{SourceError}
 use Rattle.c_scope.specs.SourceText.{ReadsWhere, IsSourceErrorWhere}
 use Rattle.hoist_rules.specs.Statements.{items_hoisted}
 use Rattle.grammar_places.specs.Ranks.{site_numbers}
+use Rattle.deep_mean.specs.Naming.{deep_program}
+use Rattle.hoist_meaning.specs.SameRuns.{RunsTheSame}
 
 -- The rewritten tree breaks no rule of scope, defines `main` and exceeds no limit, and the program is that tree with numbers in the
 -- place of its names. The numbers of its calls are those of their names' places in the text.
@@ -23,6 +25,11 @@ IsRefusedHoisted tree error = IsRefused (items_hoisted tree) error
 -- the source reads as this program: every call in the parentheses of a `for` is whole
 abbrev pub ReadsNested : List ℕ → ProgramTree → Type 0
 ReadsNested source program = ReadsWhere AreForPartsWhole IsHoistedTo source program
+
+-- The program does what the source means, whose expressions hold calls: the runs of both are the same (`SameRuns` of hoist_meaning), for
+-- every tree that the source is.
+abbrev pub MeansText : List ℕ → ProgramTree → Type 0
+MeansText source program = (read : ReadsNested source program) → RunsTheSame program (deep_program read.tree)
 
 -- what the source is refused for
 abbrev pub IsNestedSourceErrorOf : List ℕ → SourceError → Type 0

@@ -4,7 +4,7 @@ ghost use Rattle.c_tree.specs.Trees.{ProgramTree};
 ghost use Rattle.c_tree.specs.ProgramView.{program_tree};
 ghost use Rattle.c_tree.specs.RawProgramView.{raw_program_tree};
 ghost use Rattle.c_parse.specs.ForParts.{AreForPartsWhole};
-ghost use Rattle.c_hoist.specs.NestedText.{IsHoistedTo, IsRefusedHoisted, ReadsNested, IsNestedSourceErrorOf};
+ghost use Rattle.c_hoist.specs.NestedText.{IsHoistedTo, IsRefusedHoisted, ReadsNested, IsNestedSourceErrorOf, MeansText};
 
 use c_lex::lex;
 use c_parse::parse_nested;
@@ -18,7 +18,8 @@ use std::alloc::Global;
 /// The program that a source of at most 1,048,576 bytes is, where a call may stand inside an expression everywhere but in the
 /// parentheses of a `for`: its tokens (ISO/IEC 9899:2018, 6.4), its tree (6.5 to 6.9), in which each call that isn't whole goes before
 /// its statement, and its names' meanings (6.2.1), of the subset that docs/LANGUAGE.md gives. The calls have the numbers of their
-/// names' places in the source. That the program does what the text means (`deep_mean`) is not proved.
+/// names' places in the source. The program does what the text means (`deep_mean`): for every schedule both have the same outputs,
+/// modelled calls with values, keys, traps and ends.
 ///
 /// # Errors
 ///
@@ -28,6 +29,7 @@ pub fn read_nested(alloc: Global, source: &[u8]) -> Result<Program, SourceError>
     requires { length source.now ≤ 1048576 }
     ensures program { IfOk result (λ p. ReadsNested source.now (program_tree p)) }
     ensures refusal { IfErr result (λ e. e ≢ SourceError.Memory → IsNestedSourceErrorOf source.now e) }
+    ensures meaning { IfOk result (λ p. MeansText source.now (program_tree p)) }
 
     // The source is no other program, and has no other refusal.
     ensures only_program { (p : ProgramTree) → ReadsNested source.now p →

@@ -1,13 +1,13 @@
-mod CommentLemmas
+pub mod CommentLemmas
 mod Digits
 mod GapUnique
-mod KeywordTable
-mod MarkTable
-mod Leads
+pub mod KeywordTable
+pub mod MarkTable
+pub mod Leads
 mod Lists
 mod NumberWords
-mod PieceLemmas
+pub mod PieceLemmas
 pub mod PlaceLemmas
-mod TakenLemmas
+pub mod TakenLemmas
 mod TokenUnique
 pub mod Unique

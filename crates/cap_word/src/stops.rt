@@ -5,7 +5,7 @@ use crate::traps::TrapKind;
 pub enum Stop {
     /// The program did what it may not do.
     Trap(TrapKind),
-    /// A chunk was needed, and none is free.
+    /// A chunk was needed, and no free chunk fits.
     NoChunk,
     /// The run has retired as many instructions as it may.
     Fuel,

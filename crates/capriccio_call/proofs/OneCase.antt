@@ -46,7 +46,7 @@ use Rattle.capriccio_commands.specs.Demos.{Demos, ShowsProgram, ShowsRun, demo_s
 use Rattle.capriccio_commands.specs.Due.{Does, IsDue, sizes_of}
 use Rattle.workload_source.specs.Programs.{program_text}
 use Rattle.workload.specs.Traces.{trace_text}
-use Rattle.command_outcomes.specs.Done.{Outside, IsRisen, IsDone, IsExact}
+use Rattle.command_outcomes.specs.Done.{Outside, IsRisen, IsDone, IsTraceTold, IsExact}
 use Rattle.c_hoist.proofs.EveryNested.{one_program, one_source_error, never}
 use Rattle.capriccio_commands.proofs.OneBuild.{plans-are-one, words-are-one, texts-are-one}
 use Rattle.capriccio_call.proofs.OneBudget.{one-budget, one-least}
@@ -255,13 +255,17 @@ in-range policy p i c ranges fits = record {
   pool = fits;
 }
 
-runs-case : (trace : List ℕ) (policy : RunOptions) (p : ProgramTree) (i : Image) (c : Certificate) (a b : Outcome) → IsRunPolicy policy → IsWithinPool policy c.chunk →
-    RunsOn (Some trace) (setup_of p i c policy) a → RunsOn (Some trace) (setup_of p i c policy) b → a ≡ b
-runs-case trace policy p i c a b ranges fits h k = one-outcome (setup_of p i c policy) trace a b (in-range policy p i c ranges fits) h k
+-- a run reads the trace, so its bytes are told where they have to be
+runs-case : (left : Option (List ℕ)) (policy : RunOptions) (p : ProgramTree) (i : Image) (c : Certificate) (a b : Outcome) → IsRunPolicy policy → IsWithinPool policy c.chunk → IsTraceTold left b →
+    RunsOn left (setup_of p i c policy) a → RunsOn left (setup_of p i c policy) b → a ≡ b
+runs-case left policy p i c a b ranges fits reads h k =
+    let bytes = reads (ap (λ (o : Outcome). o.reads_trace) k.5) in
+    one-outcome (setup_of p i c policy) bytes.0 a b (in-range policy p i c ranges fits)
+    (subst (λ (l : Option (List ℕ)). RunsOn l (setup_of p i c policy) a) bytes.1 h) (subst (λ (l : Option (List ℕ)). RunsOn l (setup_of p i c policy) b) bytes.1 k)
 
-served-case : (trace : List ℕ) (sizes : Options) (policy : RunOptions) (p : ProgramTree) (a b : Outcome) → IsRunPolicy policy → IsWithinPool policy sizes.chunk → IsWellScoped p →
-    ServesProgram (Some trace) sizes policy p a → ServesProgram (Some trace) sizes policy p b → a ≡ b
-served-case trace sizes policy p a b ranges fits scoped h k =
+served-case : (left : Option (List ℕ)) (sizes : Options) (policy : RunOptions) (p : ProgramTree) (a b : Outcome) → IsRunPolicy policy → IsWithinPool policy sizes.chunk → IsWellScoped p → IsTraceTold left b →
+    ServesProgram left sizes policy p a → ServesProgram left sizes policy p b → a ≡ b
+served-case left sizes policy p a b ranges fits scoped reads h k =
     ⊎_elim
     (λ x. ⊎_elim (λ y. unbuilt-case sizes p a b scoped x y) (λ y. absurd (not-unbuilt sizes p a x y.0 y.1)) k)
     (λ x. ⊎_elim (λ y. absurd (not-unbuilt sizes p b y x.0 x.1))
@@ -270,13 +274,13 @@ served-case trace sizes policy p a b ranges fits scoped h k =
     let is = laid.2 in
     let plans = plans-are-one p scoped sizes.max_path x.4.0 y.4.0 x.4.1 y.4.1 in
     let pairs = pairs-are-one (lowered p) sizes x.2 y.2 x.3 y.3 x.4 y.4 plans in
-    let image : RunsOn (Some trace) (setup_of p y.2 x.3 policy) a = subst (λ (i : Image). RunsOn (Some trace) (setup_of p i x.3 policy) a) pairs.0 x.5 in
-    let runs : RunsOn (Some trace) (setup_of p y.2 y.3 policy) a = subst (λ (c : Certificate). RunsOn (Some trace) (setup_of p y.2 c policy) a) pairs.1 image in
-    runs-case trace policy p y.2 y.3 a b ranges (subst (IsWithinPool policy) (sym is.chunk) fits) runs y.5) k)
+    let image : RunsOn left (setup_of p y.2 x.3 policy) a = subst (λ (i : Image). RunsOn left (setup_of p i x.3 policy) a) pairs.0 x.5 in
+    let runs : RunsOn left (setup_of p y.2 y.3 policy) a = subst (λ (c : Certificate). RunsOn left (setup_of p y.2 c policy) a) pairs.1 image in
+    runs-case left policy p y.2 y.3 a b ranges (subst (IsWithinPool policy) (sym is.chunk) fits) reads runs y.5) k)
     h
 
-run-case : (trace : List ℕ) (policy : RunOptions) (p : ProgramTree) (i : Image) (c : Certificate) (a b : Outcome) → IsRunPolicy policy → RunsPair (Some trace) policy p i c a → RunsPair (Some trace) policy p i c b → a ≡ b
-run-case trace policy p i c a b ranges h k =
+run-case : (left : Option (List ℕ)) (policy : RunOptions) (p : ProgramTree) (i : Image) (c : Certificate) (a b : Outcome) → IsRunPolicy policy → IsTraceTold left b → RunsPair left policy p i c a → RunsPair left policy p i c b → a ≡ b
+run-case left policy p i c a b ranges reads h k =
     ⊎_elim
     (λ x. ⊎_elim
     (λ y.
@@ -285,23 +289,23 @@ run-case trace policy p i c a b ranges h k =
     (λ y. absurd (x.3.fails (y.0.holds x.0 x.1 x.2))) k)
     (λ x. ⊎_elim
     (λ y. absurd (y.3.fails (x.0.holds y.0 y.1 y.2)))
-    (λ y. pool-case trace policy p i c a b ranges x.1 y.1) k)
+    (λ y. pool-case left policy p i c a b ranges reads x.1 y.1) k)
     h
   where
-    pool-case : (trace : List ℕ) (policy : RunOptions) (p : ProgramTree) (i : Image) (c : Certificate) (a b : Outcome) → IsRunPolicy policy →
-        ((67108864 < pool_bytes policy c) × (a ≡ refusal (cause.Pool (pool_bytes policy c)))) ⊎ (IsWithinPool policy c.chunk × RunsOn (Some trace) (setup_of p i c policy) a) →
-        ((67108864 < pool_bytes policy c) × (b ≡ refusal (cause.Pool (pool_bytes policy c)))) ⊎ (IsWithinPool policy c.chunk × RunsOn (Some trace) (setup_of p i c policy) b) → a ≡ b
-    pool-case trace policy p i c a b ranges h k =
+    pool-case : (left : Option (List ℕ)) (policy : RunOptions) (p : ProgramTree) (i : Image) (c : Certificate) (a b : Outcome) → IsRunPolicy policy → IsTraceTold left b →
+        ((67108864 < pool_bytes policy c) × (a ≡ refusal (cause.Pool (pool_bytes policy c)))) ⊎ (IsWithinPool policy c.chunk × RunsOn left (setup_of p i c policy) a) →
+        ((67108864 < pool_bytes policy c) × (b ≡ refusal (cause.Pool (pool_bytes policy c)))) ⊎ (IsWithinPool policy c.chunk × RunsOn left (setup_of p i c policy) b) → a ≡ b
+    pool-case left policy p i c a b ranges reads h k =
         ⊎_elim
         (λ x. ⊎_elim (λ y. alike a b (refusal (cause.Pool (pool_bytes policy c))) x.1 y.1) (λ y. let much = x.0 in let few = y.0 in absurd (omega arith)) k)
-        (λ x. ⊎_elim (λ y. let much = y.0 in let few = x.0 in absurd (omega arith)) (λ y. runs-case trace policy p i c a b ranges x.0 x.1 y.1) k)
+        (λ x. ⊎_elim (λ y. let much = y.0 in let few = x.0 in absurd (omega arith)) (λ y. runs-case left policy p i c a b ranges x.0 reads x.1 y.1) k)
         h
 
-run-bytes-case : (trace : List ℕ) (policy : RunOptions) (source image certificate : List ℕ) (a b : Outcome) → IsRunPolicy policy → RunsBytes (Some trace) policy source image certificate a → RunsBytes (Some trace) policy source image certificate b → a ≡ b
-run-bytes-case trace policy source image certificate a b ranges h k =
-    source-case source (λ p. AfterImage image (λ i. AfterCertificate certificate (λ c. RunsPair (Some trace) policy p i c))) a b
-    (λ p scoped x y. image-case image (λ i. AfterCertificate certificate (λ c. RunsPair (Some trace) policy p i c)) a b
-    (λ i z w. certificate-case certificate (λ c. RunsPair (Some trace) policy p i c) a b (λ c u v. run-case trace policy p i c a b ranges u v) z w) x y) h k
+run-bytes-case : (left : Option (List ℕ)) (policy : RunOptions) (source image certificate : List ℕ) (a b : Outcome) → IsRunPolicy policy → IsTraceTold left b → RunsBytes left policy source image certificate a → RunsBytes left policy source image certificate b → a ≡ b
+run-bytes-case left policy source image certificate a b ranges reads h k =
+    source-case source (λ p. AfterImage image (λ i. AfterCertificate certificate (λ c. RunsPair left policy p i c))) a b
+    (λ p scoped x y. image-case image (λ i. AfterCertificate certificate (λ c. RunsPair left policy p i c)) a b
+    (λ i z w. certificate-case certificate (λ c. RunsPair left policy p i c) a b (λ c u v. run-case left policy p i c a b ranges reads u v) z w) x y) h k
 
 shows-case : (trace : List ℕ) (p : ProgramTree) (a b : Outcome) → IsWellScoped p → ShowsProgram trace p a → ShowsProgram trace p b → a ≡ b
 shows-case trace p a b scoped h k =
@@ -318,40 +322,40 @@ demo-case number a b h k =
     let same : h.0 ≡ k.0 = one_program (program_text number) h.0 k.0 left.reads right.reads in
     shows-case (trace_text number) k.0 a b right.scoped (subst (λ (p : ProgramTree). ShowsProgram (trace_text number) p a) same h.2) k.2
 
-request-case : (request : Request) (words : List (List ℕ)) (f : Files) (trace : List ℕ) (before : Outside) (a b : Outcome) → IsWordList words request → before.files ≡ Some f → before.left ≡ Some trace → Does request before a → Does request before b → a ≡ b
-request-case (Graph source placement) words f trace before a b asked told left h k =
+request-case : (request : Request) (words : List (List ℕ)) (f : Files) (before : Outside) (a b : Outcome) → IsWordList words request → before.files ≡ Some f → IsTraceTold before.left b → Does request before a → Does request before b → a ≡ b
+request-case (Graph source placement) words f before a b asked told reads h k =
     let P : Option Files → Outcome → Type 0 = λ files o. Graphs files source placement.max_path o in
     load-case document.Source f source (λ bytes. AfterSource bytes (GraphsProgram placement.max_path)) a b
     (λ bytes x y. source-case bytes (GraphsProgram placement.max_path) a b (λ p scoped z w. program-case placement.max_path p a b scoped z w) x y)
     (subst (λ files. P files a) told h) (subst (λ files. P files b) told k)
-request-case (Check source i c) words f trace before a b asked told left h k =
+request-case (Check source i c) words f before a b asked told reads h k =
     let P : Option Files → Outcome → Type 0 = λ files o. Checks files source i c o in
     three-case f source i c ChecksBytes a b (λ s x y u v. bytes-case s x y a b u v) (subst (λ files. P files a) told h) (subst (λ files. P files b) told k)
-request-case (Budget source i c) words f trace before a b asked told left h k =
+request-case (Budget source i c) words f before a b asked told reads h k =
     let P : Option Files → Outcome → Type 0 = λ files o. Budgets files source i c o in
     three-case f source i c BudgetsBytes a b (λ s x y u v. budget-bytes-case s x y a b u v) (subst (λ files. P files a) told h) (subst (λ files. P files b) told k)
-request-case (Build source i c placement) words f trace before a b asked told left h k =
+request-case (Build source i c placement) words f before a b asked told reads h k =
     let P : Option Files → Outcome → Type 0 = λ files o. Builds files source i c (sizes_of placement) o in
     load-case document.Source f source (λ bytes. AfterSource bytes (BuildsProgram (sizes_of placement) i c)) a b
     (λ bytes x y. source-case bytes (BuildsProgram (sizes_of placement) i c) a b (λ p scoped z w. built-case (sizes_of placement) i c p a b scoped z w) x y)
     (subst (λ files. P files a) told h) (subst (λ files. P files b) told k)
-request-case (Serve source placement policy) words f trace before a b asked told left h k =
-    let P : Option Files → Option (List ℕ) → Outcome → Type 0 = λ files bytes o. Serves files bytes source (sizes_of placement) policy o in
-    load-case document.Source f source (λ bytes. AfterSource bytes (ServesProgram (Some trace) (sizes_of placement) policy)) a b
-    (λ bytes x y. source-case bytes (ServesProgram (Some trace) (sizes_of placement) policy) a b
-    (λ p scoped z w. served-case trace (sizes_of placement) policy p a b (serve-policy words source placement policy asked) (serve-pool words source placement policy asked) scoped z w) x y)
-    (subst (λ bytes. P (Some f) bytes a) left (subst (λ files. P files before.left a) told h)) (subst (λ bytes. P (Some f) bytes b) left (subst (λ files. P files before.left b) told k))
-request-case (Run source i c policy) words f trace before a b asked told left h k =
-    let P : Option Files → Option (List ℕ) → Outcome → Type 0 = λ files bytes o. Runs files bytes source i c policy o in
-    three-case f source i c (RunsBytes (Some trace) policy) a b (λ s x y u v. run-bytes-case trace policy s x y a b (run-policy words source i c policy asked) u v)
-    (subst (λ bytes. P (Some f) bytes a) left (subst (λ files. P files before.left a) told h)) (subst (λ bytes. P (Some f) bytes b) left (subst (λ files. P files before.left b) told k))
-request-case (Demo number) words f trace before a b asked told left h k = demo-case number a b h k
+request-case (Serve source placement policy) words f before a b asked told reads h k =
+    let P : Option Files → Outcome → Type 0 = λ files o. Serves files before.left source (sizes_of placement) policy o in
+    load-case document.Source f source (λ bytes. AfterSource bytes (ServesProgram before.left (sizes_of placement) policy)) a b
+    (λ bytes x y. source-case bytes (ServesProgram before.left (sizes_of placement) policy) a b
+    (λ p scoped z w. served-case before.left (sizes_of placement) policy p a b (serve-policy words source placement policy asked) (serve-pool words source placement policy asked) scoped reads z w) x y)
+    (subst (λ files. P files a) told h) (subst (λ files. P files b) told k)
+request-case (Run source i c policy) words f before a b asked told reads h k =
+    let P : Option Files → Outcome → Type 0 = λ files o. Runs files before.left source i c policy o in
+    three-case f source i c (RunsBytes before.left policy) a b (λ s x y u v. run-bytes-case before.left policy s x y a b (run-policy words source i c policy asked) reads u v)
+    (subst (λ files. P files a) told h) (subst (λ files. P files b) told k)
+request-case (Demo number) words f before a b asked told reads h k = demo-case number a b h k
 
-pub due-case : (words : List (List ℕ)) (f : Files) (trace : List ℕ) (before : Outside) (a b : Outcome) → before.files ≡ Some f → before.left ≡ Some trace → IsDue words before a → IsDue words before b → a ≡ b
-due-case words f trace before a b told left h k =
+pub due-case : (words : List (List ℕ)) (f : Files) (before : Outside) (a b : Outcome) → before.files ≡ Some f → IsTraceTold before.left b → IsDue words before a → IsDue words before b → a ≡ b
+due-case words f before a b told reads h k =
     ⊎_elim
     (λ x. ⊎_elim
-    (λ y. request-case y.0 words f trace before a b y.1 told left (subst (λ (r : Request). Does r before a) (one_request words x.0 y.0 x.1 y.1) x.2) y.2)
+    (λ y. request-case y.0 words f before a b y.1 told reads (subst (λ (r : Request). Does r before a) (one_request words x.0 y.0 x.1 y.1) x.2) y.2)
     (λ y. absurd (y.0 x.0 x.1)) k)
     (λ x. ⊎_elim (λ y. absurd (x.0 y.0 y.1)) (λ y. alike a b (refusal cause.Usage) x.1 y.1) k)
     h
@@ -362,9 +366,9 @@ not-risen : {P : Type 0} (old new : ℕ) → IsRisen old new → Stayed old new 
 not-risen old new risen stayed = let less = risen.rose stayed.1 in let same = stayed.0 in absurd (omega arith)
 
 pub exact : (words : List (List ℕ)) (before after : Outside) (given : Result Outcome Fault) → IsDone (IsDue words before) before after given → IsExact (IsDue words) before after given
-exact words before after (Ok o) h = λ none files trace outcome told left due. due-case words files trace before o outcome told left h.0 due
-exact words before after (Err Read) h = λ none files trace outcome told left due.
+exact words before after (Ok o) h = λ none files outcome told reads due. due-case words files before o outcome told reads h.0 due
+exact words before after (Err Read) h = λ none files outcome told reads due.
     ⊎_elim (λ x. let counted = x.1 in not-risen before.loads after.loads counted.loads none.loads) (λ x. let counted = x.4 in not-risen before.reads after.reads counted.reads none.reads) h
-exact words before after (Err Write) h = λ none files trace outcome told left due.
+exact words before after (Err Write) h = λ none files outcome told reads due.
     ⊎_elim (λ x. let counted = x.1 in not-risen before.stores after.stores counted.stores none.stores) (λ x. let counted = x.1 in not-risen before.writes after.writes counted.writes none.writes) h.2
-exact words before after (Err Memory) h = λ none files trace outcome told left due. tt
+exact words before after (Err Memory) h = λ none files outcome told reads due. tt

@@ -13,6 +13,12 @@ use thread_core::World;
 
 /// Does what the words say, and answers the status; where the command refuses, or something fails, `err` takes the line that
 /// says so. `last` is the world that was run, as it is at the stop, where a run came to its stop, and else nothing.
+///
+/// The status is 0 where the command did what it is for; 1 of words that are no list; 2 of a source that is refused; 3 of a pair
+/// that is; 4 of a file of it that is, or of a trace; 5 where a frame, the code or the pool is too large; 6, 7 and 8 after a
+/// failed read, a failed write and a want of memory; 9 where there is no file of a name. A run that doesn't end by itself answers
+/// 10 where it idles, 11 at a trap, 12 where no free chunk fits, 13 where the fuel is spent, 14 at too many threads. 17 is of a
+/// budget of a program with a cycle of calls.
 pub fn capriccio<F: Shelf, S: Source, K: Sink, E: Sink>(
     alloc: Global,
     words: &Vec<String>,
@@ -22,12 +28,21 @@ pub fn capriccio<F: Shelf, S: Source, K: Sink, E: Sink>(
     err: &mut E,
     last: &mut Option<World>,
 ) -> u8
-    ensures answer { let outside = outside_by F.files F.load_faults F.store_faults S.left S.faults K.taken K.faults in
-        IsAnswer (map (λ word. string_bytes word) words.now.items) (outside shelf.old trace.old out.old) (outside shelf.new trace.new out.new) (E.taken err.old) (E.taken err.new) (E.faults err.old) (E.faults err.new) last.new result }
-    ensures good { let outside = outside_by F.files F.load_faults F.store_faults S.left S.faults K.taken K.faults in
-        WasGood (map (λ word. string_bytes word) words.now.items) (outside shelf.old trace.old out.old) (outside shelf.new trace.new out.new) last.new result }
-    ensures after_fault { let outside = outside_by F.files F.load_faults F.store_faults S.left S.faults K.taken K.faults in
-        HoldsAfterFault (map (λ word. string_bytes word) words.now.items) (outside shelf.old trace.old out.old) (outside shelf.new trace.new out.new) (E.taken err.old) (E.taken err.new) (E.faults err.old) (E.faults err.new) result }
+    ensures answer { let outside = outside_by F.files F.load_faults F.store_faults S.left S.faults
+        K.taken K.faults in
+        IsAnswer (map (λ word. string_bytes word) words.now.items)
+        (outside shelf.old trace.old out.old) (outside shelf.new trace.new out.new)
+        (E.taken err.old) (E.taken err.new) (E.faults err.old) (E.faults err.new) last.new result }
+    ensures good { let outside = outside_by F.files F.load_faults F.store_faults S.left S.faults
+        K.taken K.faults in
+        WasGood (map (λ word. string_bytes word) words.now.items)
+        (outside shelf.old trace.old out.old) (outside shelf.new trace.new out.new) last.new
+        result }
+    ensures after_fault { let outside = outside_by F.files F.load_faults F.store_faults S.left
+        S.faults K.taken K.faults in
+        HoldsAfterFault (map (λ word. string_bytes word) words.now.items)
+        (outside shelf.old trace.old out.old) (outside shelf.new trace.new out.new)
+        (E.taken err.old) (E.taken err.new) (E.faults err.old) (E.faults err.new) result }
 {
     match do_words(alloc, words, shelf, trace, out) {
         Ok(

@@ -31,8 +31,11 @@ pub(crate) fn budget_files<F: Shelf>(
     certificate_name: &str,
 ) -> Result<Vec<u8>, Stop>
     ensures answer { MatchResult result
-        (λ text. Budgets (F.files shelf.old) source_name.now image_name.now certificate_name.now (printed 0 text.items) × (F.load_faults shelf.new ≡ F.load_faults shelf.old))
-        (IsShelfStop (Budgets (F.files shelf.old) source_name.now image_name.now certificate_name.now) (F.load_faults shelf.old) (F.load_faults shelf.new)) }
+        (λ text. Budgets (F.files shelf.old) source_name.now image_name.now certificate_name.now
+        (printed 0 text.items) × (F.load_faults shelf.new ≡ F.load_faults shelf.old))
+        (IsShelfStop
+        (Budgets (F.files shelf.old) source_name.now image_name.now certificate_name.now)
+        (F.load_faults shelf.old) (F.load_faults shelf.new)) }
     ensures files { KeepsFiles (F.files shelf.old) (F.files shelf.new) }
     ensures stores { F.store_faults shelf.new ≡ F.store_faults shelf.old }
 {
@@ -87,8 +90,10 @@ fn budget_pair(
 /// The text of the least budget of an accepted program.
 fn budget_accepted(alloc: Global, accepted: &Accepted) -> Result<Vec<u8>, Stop>
     ensures { MatchResult result
-        (λ text. BudgetsPair (accepted_tree accepted.now) accepted.now.image accepted.now.certificate (printed 0 text.items))
-        (IsStop (BudgetsPair (accepted_tree accepted.now) accepted.now.image accepted.now.certificate)) }
+        (λ text. BudgetsPair (accepted_tree accepted.now) accepted.now.image
+        accepted.now.certificate (printed 0 text.items))
+        (IsStop (BudgetsPair (accepted_tree accepted.now) accepted.now.image
+        accepted.now.certificate)) }
 {
     accepted.is_valid();
     match make_budget(alloc, accepted) {

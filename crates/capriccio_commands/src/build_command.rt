@@ -39,8 +39,11 @@ pub(crate) fn build_source<F: Shelf>(
 ) -> Result<Products, Stop>
     requires { AreInRange options }
     ensures answer { (image certificate : List ℕ) → MatchResult result
-        (λ products. Builds (F.files shelf.old) name.now image certificate options (stored_products image certificate products) × (F.load_faults shelf.new ≡ F.load_faults shelf.old))
-        (IsShelfStop (Builds (F.files shelf.old) name.now image certificate options) (F.load_faults shelf.old) (F.load_faults shelf.new)) }
+        (λ products. Builds (F.files shelf.old) name.now image certificate options
+        (stored_products image certificate products)
+        × (F.load_faults shelf.new ≡ F.load_faults shelf.old))
+        (IsShelfStop (Builds (F.files shelf.old) name.now image certificate options)
+        (F.load_faults shelf.old) (F.load_faults shelf.new)) }
     ensures files { KeepsFiles (F.files shelf.old) (F.files shelf.new) }
     ensures stores { F.store_faults shelf.new ≡ F.store_faults shelf.old }
 {
@@ -53,7 +56,8 @@ fn build_bytes(alloc: Global, source: &[u8], options: Options) -> Result<Product
     requires range { AreInRange options }
     requires few { length source.now ≤ 1048576 }
     ensures { (image certificate : List ℕ) → MatchResult result
-        (λ products. AfterSource source.now (BuildsProgram options image certificate) (stored_products image certificate products))
+        (λ products. AfterSource source.now (BuildsProgram options image certificate)
+        (stored_products image certificate products))
         (IsStop (AfterSource source.now (BuildsProgram options image certificate))) }
 {
     let program = read_source(alloc, source)?;
@@ -64,7 +68,8 @@ fn build_bytes(alloc: Global, source: &[u8], options: Options) -> Result<Product
 fn build_program(alloc: Global, program: &Program, options: Options) -> Result<Products, Stop>
     requires { AreInRange options }
     ensures { (image certificate : List ℕ) → MatchResult result
-        (λ products. BuildsProgram options image certificate (program_tree program.now) (stored_products image certificate products))
+        (λ products. BuildsProgram options image certificate (program_tree program.now)
+        (stored_products image certificate products))
         (IsStop (BuildsProgram options image certificate (program_tree program.now))) }
 {
     let built = match lay_out(alloc, program, options) {
@@ -81,7 +86,8 @@ fn build_program(alloc: Global, program: &Program, options: Options) -> Result<P
 fn products_of(alloc: Global, built: &Built) -> Result<Products, AllocError>
     requires image { images.IsWithinLimits built.now.image }
     requires certificate { texts.IsWithinLimits built.now.certificate }
-    ensures { IfOk result (λ products. IsProductsOf built.now.image built.now.certificate products) }
+    ensures { IfOk result (λ products.
+        IsProductsOf built.now.image built.now.certificate products) }
 {
     let image = write_image(alloc, &built.image)?;
     let certificate = write_cert(alloc, &built.certificate)?;

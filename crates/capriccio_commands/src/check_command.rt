@@ -70,8 +70,11 @@ pub(crate) fn check_files<F: Shelf>(
     certificate_name: &str,
 ) -> Result<Verdict, Stop>
     ensures answer { MatchResult result
-        (λ verdict. Checks (F.files shelf.old) source_name.now image_name.now certificate_name.now (verdict_outcome verdict) × (F.load_faults shelf.new ≡ F.load_faults shelf.old))
-        (IsShelfStop (Checks (F.files shelf.old) source_name.now image_name.now certificate_name.now) (F.load_faults shelf.old) (F.load_faults shelf.new)) }
+        (λ verdict. Checks (F.files shelf.old) source_name.now image_name.now certificate_name.now
+        (verdict_outcome verdict) × (F.load_faults shelf.new ≡ F.load_faults shelf.old))
+        (IsShelfStop
+        (Checks (F.files shelf.old) source_name.now image_name.now certificate_name.now)
+        (F.load_faults shelf.old) (F.load_faults shelf.new)) }
     ensures files { KeepsFiles (F.files shelf.old) (F.files shelf.new) }
     ensures stores { F.store_faults shelf.new ≡ F.store_faults shelf.old }
 {
@@ -92,7 +95,9 @@ fn check_bytes(
     certificate: &[u8],
 ) -> Result<Verdict, Stop>
     requires { length source.now ≤ 1048576 }
-    ensures { MatchResult result (λ verdict. ChecksBytes source.now image.now certificate.now (verdict_outcome verdict)) (IsStop (ChecksBytes source.now image.now certificate.now)) }
+    ensures { MatchResult result (λ verdict.
+        ChecksBytes source.now image.now certificate.now (verdict_outcome verdict))
+        (IsStop (ChecksBytes source.now image.now certificate.now)) }
 {
     let program = read_source(alloc, source)?;
     let image = read_image_bytes(alloc, image)?;
@@ -107,7 +112,9 @@ fn check_pair(
     image: Image,
     certificate: Certificate,
 ) -> Result<Verdict, Stop>
-    ensures { MatchResult result (λ verdict. ChecksPair (program_tree program) image certificate (verdict_outcome verdict)) (IsStop (ChecksPair (program_tree program) image certificate)) }
+    ensures { MatchResult result (λ verdict.
+        ChecksPair (program_tree program) image certificate (verdict_outcome verdict))
+        (IsStop (ChecksPair (program_tree program) image certificate)) }
 {
     match check(alloc, program, image, certificate) {
         Ok(accepted) => {

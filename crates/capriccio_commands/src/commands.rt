@@ -36,10 +36,12 @@ pub fn do_words<F: Shelf, S: Source, K: Sink>(
     trace: &mut S,
     out: &mut K,
 ) -> Result<Ended, Stop>
-    ensures { let outside = outside_by F.files F.load_faults F.store_faults S.left S.faults K.taken K.faults in
+    ensures { let outside = outside_by F.files F.load_faults F.store_faults S.left S.faults K.taken
+        K.faults in
         let before : Outside = outside shelf.old trace.old out.old in
         let after : Outside = outside shelf.new trace.new out.new in
-        EndsAs (IsDue (map (λ word. string_bytes word) words.now.items) before) before after result }
+        EndsAs (IsDue (map (λ word. string_bytes word) words.now.items) before) before after
+        result }
 {
     match read_words(alloc, words) {
         Ok(command) => do_command(alloc, shelf, trace, out, command),
@@ -57,7 +59,8 @@ fn do_command<F: Shelf, S: Source, K: Sink>(
     command: Command,
 ) -> Result<Ended, Stop>
     requires { (words : List (List ℕ)) × IsWordList words (request_of command) }
-    ensures { let outside = outside_by F.files F.load_faults F.store_faults S.left S.faults K.taken K.faults in
+    ensures { let outside = outside_by F.files F.load_faults F.store_faults S.left S.faults K.taken
+        K.faults in
         let before : Outside = outside shelf.old trace.old out.old in
         let after : Outside = outside shelf.new trace.new out.new in
         EndsAs (Does (request_of command.entry) before) before after result }
@@ -132,8 +135,24 @@ fn graph<F: Shelf, K: Sink>(
     options: Options,
 ) -> Result<Ended, Stop>
     ensures { (left : Option (List ℕ)) (reads : ℕ) →
-        let before : Outside = record { files = F.files shelf.old; loads = F.load_faults shelf.old; stores = F.store_faults shelf.old; left = left; reads = reads; taken = K.taken out.old; writes = K.faults out.old } in
-        let after : Outside = record { files = F.files shelf.new; loads = F.load_faults shelf.new; stores = F.store_faults shelf.new; left = left; reads = reads; taken = K.taken out.new; writes = K.faults out.new } in
+        let before : Outside = record {
+          files = F.files shelf.old;
+          loads = F.load_faults shelf.old;
+          stores = F.store_faults shelf.old;
+          left = left;
+          reads = reads;
+          taken = K.taken out.old;
+          writes = K.faults out.old;
+        } in
+        let after : Outside = record {
+          files = F.files shelf.new;
+          loads = F.load_faults shelf.new;
+          stores = F.store_faults shelf.new;
+          left = left;
+          reads = reads;
+          taken = K.taken out.new;
+          writes = K.faults out.new;
+        } in
         EndsAs (Graphs before.files source.now options.max_path) before after result }
 {
     let text = graph_source(alloc, shelf, source, options)?;
@@ -150,8 +169,24 @@ fn budget<F: Shelf, K: Sink>(
     certificate: &str,
 ) -> Result<Ended, Stop>
     ensures { (left : Option (List ℕ)) (reads : ℕ) →
-        let before : Outside = record { files = F.files shelf.old; loads = F.load_faults shelf.old; stores = F.store_faults shelf.old; left = left; reads = reads; taken = K.taken out.old; writes = K.faults out.old } in
-        let after : Outside = record { files = F.files shelf.new; loads = F.load_faults shelf.new; stores = F.store_faults shelf.new; left = left; reads = reads; taken = K.taken out.new; writes = K.faults out.new } in
+        let before : Outside = record {
+          files = F.files shelf.old;
+          loads = F.load_faults shelf.old;
+          stores = F.store_faults shelf.old;
+          left = left;
+          reads = reads;
+          taken = K.taken out.old;
+          writes = K.faults out.old;
+        } in
+        let after : Outside = record {
+          files = F.files shelf.new;
+          loads = F.load_faults shelf.new;
+          stores = F.store_faults shelf.new;
+          left = left;
+          reads = reads;
+          taken = K.taken out.new;
+          writes = K.faults out.new;
+        } in
         EndsAs (Budgets before.files source.now image.now certificate.now) before after result }
 {
     let text = budget_files(alloc, shelf, source, image, certificate)?;
@@ -171,7 +206,8 @@ fn serve<F: Shelf, S: Source, K: Sink>(
     requires sizes { AreInRange sizes }
     requires policy { IsRunPolicy policy }
     requires pool { policy.chunks * sizes.chunk + policy.extra * policy.extra_bytes ≤ 67108864 }
-    ensures { let outside = outside_by F.files F.load_faults F.store_faults S.left S.faults K.taken K.faults in
+    ensures { let outside = outside_by F.files F.load_faults F.store_faults S.left S.faults K.taken
+        K.faults in
         let before : Outside = outside shelf.old trace.old out.old in
         let after : Outside = outside shelf.new trace.new out.new in
         EndsAs (Serves before.files before.left source.now sizes policy) before after result }
@@ -192,10 +228,12 @@ fn run_pair<F: Shelf, S: Source, K: Sink>(
     policy: Policy,
 ) -> Result<Ended, Stop>
     requires { IsRunPolicy policy }
-    ensures { let outside = outside_by F.files F.load_faults F.store_faults S.left S.faults K.taken K.faults in
+    ensures { let outside = outside_by F.files F.load_faults F.store_faults S.left S.faults K.taken
+        K.faults in
         let before : Outside = outside shelf.old trace.old out.old in
         let after : Outside = outside shelf.new trace.new out.new in
-        EndsAs (Runs before.files before.left source.now image.now certificate.now policy) before after result }
+        EndsAs (Runs before.files before.left source.now image.now certificate.now policy) before
+        after result }
 {
     let accepted = accept_files(alloc, shelf, source, image, certificate, policy)?;
     run_accepted(alloc, accepted, policy, trace, out)
@@ -213,9 +251,26 @@ fn build<F: Shelf, K: Sink>(
 ) -> Result<Ended, Stop>
     requires { AreInRange options }
     ensures { (left : Option (List ℕ)) (reads : ℕ) →
-        let before : Outside = record { files = F.files shelf.old; loads = F.load_faults shelf.old; stores = F.store_faults shelf.old; left = left; reads = reads; taken = K.taken out.old; writes = K.faults out.old } in
-        let after : Outside = record { files = F.files shelf.new; loads = F.load_faults shelf.new; stores = F.store_faults shelf.new; left = left; reads = reads; taken = K.taken out.new; writes = K.faults out.new } in
-        EndsAs (Builds before.files source.now image.now certificate.now options) before after result }
+        let before : Outside = record {
+          files = F.files shelf.old;
+          loads = F.load_faults shelf.old;
+          stores = F.store_faults shelf.old;
+          left = left;
+          reads = reads;
+          taken = K.taken out.old;
+          writes = K.faults out.old;
+        } in
+        let after : Outside = record {
+          files = F.files shelf.new;
+          loads = F.load_faults shelf.new;
+          stores = F.store_faults shelf.new;
+          left = left;
+          reads = reads;
+          taken = K.taken out.new;
+          writes = K.faults out.new;
+        } in
+        EndsAs (Builds before.files source.now image.now certificate.now options) before after
+        result }
 {
     let products = build_source(alloc, shelf, source, options)?;
     store_both(
@@ -239,8 +294,24 @@ fn check<F: Shelf, K: Sink>(
     certificate: &str,
 ) -> Result<Ended, Stop>
     ensures { (left : Option (List ℕ)) (reads : ℕ) →
-        let before : Outside = record { files = F.files shelf.old; loads = F.load_faults shelf.old; stores = F.store_faults shelf.old; left = left; reads = reads; taken = K.taken out.old; writes = K.faults out.old } in
-        let after : Outside = record { files = F.files shelf.new; loads = F.load_faults shelf.new; stores = F.store_faults shelf.new; left = left; reads = reads; taken = K.taken out.new; writes = K.faults out.new } in
+        let before : Outside = record {
+          files = F.files shelf.old;
+          loads = F.load_faults shelf.old;
+          stores = F.store_faults shelf.old;
+          left = left;
+          reads = reads;
+          taken = K.taken out.old;
+          writes = K.faults out.old;
+        } in
+        let after : Outside = record {
+          files = F.files shelf.new;
+          loads = F.load_faults shelf.new;
+          stores = F.store_faults shelf.new;
+          left = left;
+          reads = reads;
+          taken = K.taken out.new;
+          writes = K.faults out.new;
+        } in
         EndsAs (Checks before.files source.now image.now certificate.now) before after result }
 {
     let verdict = check_files(alloc, shelf, source, image, certificate)?;
@@ -255,8 +326,24 @@ fn demo<K: Sink>(alloc: Global, out: &mut K, number: u32) -> Result<Ended, Stop>
     requires some { 1 ≤ number }
     requires few { number ≤ 1000 }
     ensures { (files : Option Files) (loads stores : ℕ) (left : Option (List ℕ)) (reads : ℕ) →
-        let before : Outside = record { files = files; loads = loads; stores = stores; left = left; reads = reads; taken = K.taken out.old; writes = K.faults out.old } in
-        let after : Outside = record { files = files; loads = loads; stores = stores; left = left; reads = reads; taken = K.taken out.new; writes = K.faults out.new } in
+        let before : Outside = record {
+          files = files;
+          loads = loads;
+          stores = stores;
+          left = left;
+          reads = reads;
+          taken = K.taken out.old;
+          writes = K.faults out.old;
+        } in
+        let after : Outside = record {
+          files = files;
+          loads = loads;
+          stores = stores;
+          left = left;
+          reads = reads;
+          taken = K.taken out.new;
+          writes = K.faults out.new;
+        } in
         EndsAs (Demos number) before after result }
 {
     let Shown {

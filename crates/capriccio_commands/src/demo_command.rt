@@ -54,7 +54,8 @@ pub(crate) fn show_workload(alloc: Global, number: u32) -> Result<Shown, Stop>
 fn workload_trace(alloc: Global, number: u32) -> Result<Vec<u8>, Stop>
     requires some { 1 ≤ number }
     requires few { number ≤ 1000 }
-    ensures { MatchResult result (λ trace. trace.items ≡ trace_text number) (IsStop (NoMore number)) }
+    ensures { MatchResult result (λ trace. trace.items ≡ trace_text number)
+        (IsStop (NoMore number)) }
 {
     match make_trace(alloc, number) {
         Ok(trace) => Ok(trace),
@@ -76,7 +77,8 @@ fn accept_workload(alloc: Global, number: u32) -> Result<Accepted, Stop>
 fn workload_program(alloc: Global, number: u32) -> Result<Program, Stop>
     requires some { 1 ≤ number }
     requires few { number ≤ 1000 }
-    ensures { MatchResult result (λ program. IsSourceText (program_text number) (program_tree program)) (IsStop (NoMore number)) }
+    ensures { MatchResult result (λ program.
+        IsSourceText (program_text number) (program_tree program)) (IsStop (NoMore number)) }
 {
     match make_program(alloc, number) {
         Ok(source) => read_source(alloc, source.as_slice()),
@@ -116,7 +118,9 @@ fn workload_policy() -> Policy
 fn show_run(alloc: Global, accepted: Accepted, trace: Vec<u8>) -> Result<Shown, Stop>
     requires { accepted.certificate.chunk ≡ demo_sizes.chunk }
     ensures { MatchResult result
-        (ShowsDue (RunsOn (Some trace.items) (setup_of (accepted_tree accepted) accepted.image accepted.certificate demo_policy)) (census_of (accepted_tree accepted) accepted.certificate))
+        (ShowsDue (RunsOn (Some trace.items)
+        (setup_of (accepted_tree accepted) accepted.image accepted.certificate demo_policy))
+        (census_of (accepted_tree accepted) accepted.certificate))
         (IsStop (NoMore trace.items)) }
 {
     let census = take_census(&accepted);
@@ -130,7 +134,8 @@ fn show_run(alloc: Global, accepted: Accepted, trace: Vec<u8>) -> Result<Shown, 
 fn show(alloc: Global, ended: Ended, census: Census, log: &[u8]) -> Result<Shown, Stop>
     requires world { (world : Held) × (ended.last ≡ Some world) }
     requires fits { IsFitText log.now }
-    ensures { (entries : List Entry) → log.now ≡ log_text entries → MatchResult result (ShowsEnd ended census entries) (IsStop (NoMore census)) }
+    ensures { (entries : List Entry) → log.now ≡ log_text entries →
+        MatchResult result (ShowsEnd ended census entries) (IsStop (NoMore census)) }
 {
     let Ended { status, last } = ended;
     let Some(world) = last else { unreachable!() };

@@ -19,7 +19,8 @@ pub(crate) fn frame_stop(
     function: u32,
     bytes: u32,
 ) -> Stop
-    requires { frame_refusal (lowered (program_tree program.now)) max_path ≡ Some (FrameTooLarge function bytes) }
+    requires { frame_refusal (lowered (program_tree program.now)) max_path
+        ≡ Some (FrameTooLarge function bytes) }
     ensures { IsStop (IsFrameRefused (program_tree program.now) max_path) result }
 {
     let functions = program.functions();

@@ -28,8 +28,10 @@ pub(crate) fn graph_source<F: Shelf>(
     options: Options,
 ) -> Result<Vec<u8>, Stop>
     ensures answer { MatchResult result
-        (λ text. Graphs (F.files shelf.old) name.now options.max_path (printed 0 text.items) × (F.load_faults shelf.new ≡ F.load_faults shelf.old))
-        (IsShelfStop (Graphs (F.files shelf.old) name.now options.max_path) (F.load_faults shelf.old) (F.load_faults shelf.new)) }
+        (λ text. Graphs (F.files shelf.old) name.now options.max_path (printed 0 text.items)
+        × (F.load_faults shelf.new ≡ F.load_faults shelf.old))
+        (IsShelfStop (Graphs (F.files shelf.old) name.now options.max_path)
+        (F.load_faults shelf.old) (F.load_faults shelf.new)) }
     ensures files { KeepsFiles (F.files shelf.old) (F.files shelf.new) }
     ensures stores { F.store_faults shelf.new ≡ F.store_faults shelf.old }
 {
@@ -63,7 +65,8 @@ fn graph_program(alloc: Global, program: &Program, options: Options) -> Result<V
 
 /// Why a program isn't analysed for paths of at most so many bytes.
 fn analysis_stop(alloc: Global, program: &Program, max_path: u32, error: BuildError) -> Stop
-    requires { (error ≡ errors.Memory) ⊎ (frame_refusal (lowered (program_tree program.now)) max_path ≡ Some error) }
+    requires { (error ≡ errors.Memory)
+        ⊎ (frame_refusal (lowered (program_tree program.now)) max_path ≡ Some error) }
     ensures { IsStop (IsFrameRefused (program_tree program.now) max_path) result }
 {
     match error {
@@ -83,10 +86,18 @@ fn text_of(
     max_path: u32,
 ) -> Result<Vec<u8>, Stop>
     requires planned { IsPlacedBy (lowered (program_tree program.now)) max_path
-        (record { weights = analysis.now.weights; tables = (program_tree program.now).tables; sites = analysis.now.sites.items; main = (program_tree program.now).main })
-        analysis.now.back (record { checkpointed = analysis.now.checkpointed; bounds = analysis.now.bounds }) }
-    requires enough { IsEnough (lowered (program_tree program.now)) max_path (record { checkpointed = analysis.now.checkpointed; bounds = analysis.now.bounds }) }
-    ensures { MatchResult result (λ text. IsAnalysed (program_tree program.now) max_path text.items) (IsStop (λ _. ⊥)) }
+        (record {
+          weights = analysis.now.weights;
+          tables = (program_tree program.now).tables;
+          sites = analysis.now.sites.items;
+          main = (program_tree program.now).main;
+        })
+        analysis.now.back
+        (record { checkpointed = analysis.now.checkpointed; bounds = analysis.now.bounds }) }
+    requires enough { IsEnough (lowered (program_tree program.now)) max_path
+        (record { checkpointed = analysis.now.checkpointed; bounds = analysis.now.bounds }) }
+    ensures { MatchResult result (λ text. IsAnalysed (program_tree program.now) max_path text.items)
+        (IsStop (λ _. ⊥)) }
 {
     let text = analysis_text(
         alloc,

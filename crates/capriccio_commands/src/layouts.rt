@@ -22,8 +22,10 @@ pub(crate) fn layout_stop(
     error: BuildError,
 ) -> Stop
     requires refused { (error ≡ errors.Memory)
-        ⊎ ((frame_refusal (lowered (program_tree program.now)) sizes.max_path ≡ Some error) ⊎ IsTooLarge (lowered (program_tree program.now)) sizes error) }
-    requires frames { IsTooLarge (lowered (program_tree program.now)) sizes error → frame_refusal (lowered (program_tree program.now)) sizes.max_path ≡ None }
+        ⊎ ((frame_refusal (lowered (program_tree program.now)) sizes.max_path ≡ Some error)
+        ⊎ IsTooLarge (lowered (program_tree program.now)) sizes error) }
+    requires frames { IsTooLarge (lowered (program_tree program.now)) sizes error →
+        frame_refusal (lowered (program_tree program.now)) sizes.max_path ≡ None }
     ensures { IsStop (IsUnbuilt sizes (program_tree program.now)) result }
 {
     match error {

@@ -35,8 +35,12 @@ pub(crate) fn accept_source<F: Shelf>(
 ) -> Result<Accepted, Stop>
     requires { AreInRange sizes }
     ensures answer { (trace : Option (List ℕ)) (policy : RunOptions) → MatchResult result
-        (λ accepted. LeadsOn trace policy accepted (Serves (F.files shelf.old) trace name.now sizes policy) × (accepted.certificate.chunk ≡ sizes.chunk) × (F.load_faults shelf.new ≡ F.load_faults shelf.old))
-        (IsShelfStop (Serves (F.files shelf.old) trace name.now sizes policy) (F.load_faults shelf.old) (F.load_faults shelf.new)) }
+        (λ accepted.
+        LeadsOn trace policy accepted (Serves (F.files shelf.old) trace name.now sizes policy)
+        × (accepted.certificate.chunk ≡ sizes.chunk)
+        × (F.load_faults shelf.new ≡ F.load_faults shelf.old))
+        (IsShelfStop (Serves (F.files shelf.old) trace name.now sizes policy)
+        (F.load_faults shelf.old) (F.load_faults shelf.new)) }
     ensures files { KeepsFiles (F.files shelf.old) (F.files shelf.new) }
     ensures stores { F.store_faults shelf.new ≡ F.store_faults shelf.old }
 {
@@ -49,7 +53,9 @@ fn accept_source_bytes(alloc: Global, source: &[u8], sizes: Options) -> Result<A
     requires range { AreInRange sizes }
     requires few { length source.now ≤ 1048576 }
     ensures { (trace : Option (List ℕ)) (policy : RunOptions) → MatchResult result
-        (λ accepted. LeadsOn trace policy accepted (AfterSource source.now (ServesProgram trace sizes policy)) × (accepted.certificate.chunk ≡ sizes.chunk))
+        (λ accepted.
+        LeadsOn trace policy accepted (AfterSource source.now (ServesProgram trace sizes policy))
+        × (accepted.certificate.chunk ≡ sizes.chunk))
         (IsStop (AfterSource source.now (ServesProgram trace sizes policy))) }
 {
     let program = read_source(alloc, source)?;
@@ -64,7 +70,9 @@ pub(crate) fn accept_program(
 ) -> Result<Accepted, Stop>
     requires { AreInRange sizes }
     ensures { (trace : Option (List ℕ)) (policy : RunOptions) → MatchResult result
-        (λ accepted. LeadsOn trace policy accepted (ServesProgram trace sizes policy (program_tree program)) × (accepted.certificate.chunk ≡ sizes.chunk))
+        (λ accepted.
+        LeadsOn trace policy accepted (ServesProgram trace sizes policy (program_tree program))
+        × (accepted.certificate.chunk ≡ sizes.chunk))
         (IsStop (ServesProgram trace sizes policy (program_tree program))) }
 {
     let built = match lay_out(alloc, &program, sizes) {
@@ -75,7 +83,6 @@ pub(crate) fn accept_program(
             return Err(stop);
         }
     };
-    drop(built.flat);
     match check(alloc, program, built.image, built.certificate) {
         Ok(accepted) => Ok(accepted),
         Err(
@@ -105,8 +112,14 @@ pub(crate) fn accept_files<F: Shelf>(
 ) -> Result<Accepted, Stop>
     requires { IsRunPolicy policy }
     ensures answer { (trace : Option (List ℕ)) → MatchResult result
-        (λ accepted. LeadsOn trace policy accepted (Runs (F.files shelf.old) trace source_name.now image_name.now certificate_name.now policy) × (pool_bytes policy accepted.certificate ≤ 67108864) × (F.load_faults shelf.new ≡ F.load_faults shelf.old))
-        (IsShelfStop (Runs (F.files shelf.old) trace source_name.now image_name.now certificate_name.now policy) (F.load_faults shelf.old) (F.load_faults shelf.new)) }
+        (λ accepted.
+        LeadsOn trace policy accepted
+        (Runs (F.files shelf.old) trace source_name.now image_name.now certificate_name.now policy)
+        × (pool_bytes policy accepted.certificate ≤ 67108864)
+        × (F.load_faults shelf.new ≡ F.load_faults shelf.old))
+        (IsShelfStop
+        (Runs (F.files shelf.old) trace source_name.now image_name.now certificate_name.now policy)
+        (F.load_faults shelf.old) (F.load_faults shelf.new)) }
     ensures files { KeepsFiles (F.files shelf.old) (F.files shelf.new) }
     ensures stores { F.store_faults shelf.new ≡ F.store_faults shelf.old }
 {
@@ -131,7 +144,9 @@ fn accept_bytes(
     requires few { length source.now ≤ 1048576 }
     requires range { IsRunPolicy policy }
     ensures { (trace : Option (List ℕ)) → MatchResult result
-        (λ accepted. LeadsOn trace policy accepted (RunsBytes trace policy source.now image.now certificate.now) × (pool_bytes policy accepted.certificate ≤ 67108864))
+        (λ accepted.
+        LeadsOn trace policy accepted (RunsBytes trace policy source.now image.now certificate.now)
+        × (pool_bytes policy accepted.certificate ≤ 67108864))
         (IsStop (RunsBytes trace policy source.now image.now certificate.now)) }
 {
     let program = read_source(alloc, source)?;
@@ -150,7 +165,10 @@ fn accept_pair(
 ) -> Result<Accepted, Stop>
     requires { IsRunPolicy policy }
     ensures { (trace : Option (List ℕ)) → MatchResult result
-        (λ accepted. LeadsOn trace policy accepted (RunsPair trace policy (program_tree program) image certificate) × (pool_bytes policy accepted.certificate ≤ 67108864))
+        (λ accepted.
+        LeadsOn trace policy accepted
+        (RunsPair trace policy (program_tree program) image certificate)
+        × (pool_bytes policy accepted.certificate ≤ 67108864))
         (IsStop (RunsPair trace policy (program_tree program) image certificate)) }
 {
     match check(alloc, program, image, certificate) {
@@ -182,11 +200,13 @@ pub(crate) fn check_stop(error: CheckError) -> Stop
 fn within_pool(accepted: Accepted, policy: Policy) -> Result<Accepted, Stop>
     requires { IsRunPolicy policy }
     ensures { (trace : Option (List ℕ)) → MatchResult result
-        (λ within. LeadsOn trace policy within (RunsPair trace policy (accepted_tree accepted) accepted.image accepted.certificate) × (pool_bytes policy within.certificate ≤ 67108864))
-        (IsStop (RunsPair trace policy (accepted_tree accepted) accepted.image accepted.certificate)) }
+        (λ within. LeadsOn trace policy within
+        (RunsPair trace policy (accepted_tree accepted) accepted.image accepted.certificate)
+        × (pool_bytes policy within.certificate ≤ 67108864))
+        (IsStop (RunsPair trace policy
+        (accepted_tree accepted) accepted.image accepted.certificate)) }
 {
-    // What the image's call tells: the pair is valid.
-    let _image = accepted.image();
+    accepted.is_valid();
     let extra_bytes = u64::from(policy.extra) * u64::from(policy.extra_bytes);
     let bytes = u64::from(policy.chunks) * u64::from(accepted.certificate().chunk) + extra_bytes;
     if bytes > 67_108_864 {

@@ -33,11 +33,14 @@ pub(crate) fn run_accepted<S: Source, K: Sink>(
 ) -> Result<Ended, Stop>
     requires range { IsRunPolicy policy }
     requires pool { pool_bytes policy accepted.certificate ≤ 67108864 }
-    ensures ends { RunEnds (RunsOn (S.left trace.old) (setup_of (accepted_tree accepted) accepted.image accepted.certificate policy)) (S.left trace.old) (S.left trace.new) (S.faults trace.old) (S.faults trace.new) (K.taken out.old) (K.taken out.new) (K.faults out.old) (K.faults out.new) result }
+    ensures ends { RunEnds
+        (RunsOn (S.left trace.old)
+        (setup_of (accepted_tree accepted) accepted.image accepted.certificate policy))
+        (S.left trace.old) (S.left trace.new) (S.faults trace.old) (S.faults trace.new)
+        (K.taken out.old) (K.taken out.new) (K.faults out.old) (K.faults out.new) result }
     ensures fits { OnOk result (TakesFit (K.taken out.old) (K.taken out.new)) }
 {
-    // What the image's call tells: the pair is valid.
-    let _image = accepted.image();
+    accepted.is_valid();
     match World::make(alloc, accepted, world_policy(policy), policy.fuel) {
         Ok(world) => run_world(alloc, world, policy, trace, out),
         Err(WorldError::Memory { accepted }) => {
@@ -57,7 +60,9 @@ fn run_world<S: Source, K: Sink>(
 ) -> Result<Ended, Stop>
     requires range { IsRunPolicy policy }
     requires made { IsMade policy world }
-    ensures ends { RunEnds (RunsOn (S.left trace.old) (setup_in world policy)) (S.left trace.old) (S.left trace.new) (S.faults trace.old) (S.faults trace.new) (K.taken out.old) (K.taken out.new) (K.faults out.old) (K.faults out.new) result }
+    ensures ends { RunEnds (RunsOn (S.left trace.old) (setup_in world policy)) (S.left trace.old)
+        (S.left trace.new) (S.faults trace.old) (S.faults trace.new) (K.taken out.old)
+        (K.taken out.new) (K.faults out.old) (K.faults out.new) result }
     ensures fits { OnOk result (TakesFit (K.taken out.old) (K.taken out.new)) }
 {
     let knee = policy.knee;
@@ -80,7 +85,9 @@ fn run_measured<S: Source, K: Sink, C: Measure + Copy + Drop>(
     requires curve { AnswersCurve (C.can_measure call) (C.measure_gives call) (Knee policy.knee) }
     requires range { IsRunPolicy policy }
     requires made { IsMade policy world }
-    ensures ends { RunEnds (RunsOn (S.left trace.old) (setup_in world policy)) (S.left trace.old) (S.left trace.new) (S.faults trace.old) (S.faults trace.new) (K.taken out.old) (K.taken out.new) (K.faults out.old) (K.faults out.new) result }
+    ensures ends { RunEnds (RunsOn (S.left trace.old) (setup_in world policy)) (S.left trace.old)
+        (S.left trace.new) (S.faults trace.old) (S.faults trace.new) (K.taken out.old)
+        (K.taken out.new) (K.faults out.old) (K.faults out.new) result }
     ensures fits { OnOk result (TakesFit (K.taken out.old) (K.taken out.new)) }
 {
     match monitor_of(alloc, policy, call) {
@@ -101,7 +108,9 @@ fn run_by_rule<S: Source, K: Sink, C: Measure + Drop>(
     requires range { IsRunPolicy policy }
     requires made { IsMade policy world }
     requires monitor { IsNewMonitor policy monitor }
-    ensures ends { RunEnds (RunsOn (S.left trace.old) (setup_in world policy)) (S.left trace.old) (S.left trace.new) (S.faults trace.old) (S.faults trace.new) (K.taken out.old) (K.taken out.new) (K.faults out.old) (K.faults out.new) result }
+    ensures ends { RunEnds (RunsOn (S.left trace.old) (setup_in world policy)) (S.left trace.old)
+        (S.left trace.new) (S.faults trace.old) (S.faults trace.new) (K.taken out.old)
+        (K.taken out.new) (K.faults out.old) (K.faults out.new) result }
     ensures fits { OnOk result (TakesFit (K.taken out.old) (K.taken out.new)) }
 {
     match policy.rule {
@@ -128,7 +137,9 @@ fn run_by_graph<S: Source, K: Sink, C: Measure + Drop>(
     requires made { IsMade policy world }
     requires monitor { IsNewMonitor policy monitor }
     requires rule { rule_of policy.rule ≡ by_graph }
-    ensures ends { RunEnds (RunsOn (S.left trace.old) (setup_in world policy)) (S.left trace.old) (S.left trace.new) (S.faults trace.old) (S.faults trace.new) (K.taken out.old) (K.taken out.new) (K.faults out.old) (K.faults out.new) result }
+    ensures ends { RunEnds (RunsOn (S.left trace.old) (setup_in world policy)) (S.left trace.old)
+        (S.left trace.new) (S.faults trace.old) (S.faults trace.new) (K.taken out.old)
+        (K.taken out.new) (K.faults out.old) (K.faults out.new) result }
     ensures fits { OnOk result (TakesFit (K.taken out.old) (K.taken out.new)) }
 {
     let end = run(alloc, &mut world, monitor, trace, out);
@@ -149,7 +160,9 @@ fn run_by_strides<S: Source, K: Sink, C: Measure + Drop>(
     requires monitor { IsNewMonitor policy monitor }
     requires rule { rule_of policy.rule ≡ by_stride rule.tickets }
     requires fresh { rule ≡ new_rule rule.tickets }
-    ensures ends { RunEnds (RunsOn (S.left trace.old) (setup_in world policy)) (S.left trace.old) (S.left trace.new) (S.faults trace.old) (S.faults trace.new) (K.taken out.old) (K.taken out.new) (K.faults out.old) (K.faults out.new) result }
+    ensures ends { RunEnds (RunsOn (S.left trace.old) (setup_in world policy)) (S.left trace.old)
+        (S.left trace.new) (S.faults trace.old) (S.faults trace.new) (K.taken out.old)
+        (K.taken out.new) (K.faults out.old) (K.faults out.new) result }
     ensures fits { OnOk result (TakesFit (K.taken out.old) (K.taken out.new)) }
 {
     let end = run_stride(alloc, &mut world, rule, monitor, trace, out);

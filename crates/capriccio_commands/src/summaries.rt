@@ -72,7 +72,8 @@ fn is_linked(kind: LinkKind) -> bool
 /// What is counted over the log of these bytes.
 pub(crate) fn tally_log(log: &[u8]) -> Tally
     requires { IsFitText log.now }
-    ensures counted { (entries : List Entry) → log.now ≡ log_text entries → result ≡ tally_of entries }
+    ensures counted { (entries : List Entry) → log.now ≡ log_text entries →
+        result ≡ tally_of entries }
     ensures room { HasRoom 0 result }
 {
     few_bytes(log);
@@ -121,7 +122,12 @@ fn count_entry(tally: Tally, entry: Entry) -> Tally
 /// One choice more.
 fn count_choice(tally: Tally) -> Tally
     requires { tally.choices < 2 ^ 63 }
-    ensures { result ≡ record { choices = tally.choices + 1; outputs = tally.outputs; sum = tally.sum; cost = tally.cost } }
+    ensures { result ≡ record {
+      choices = tally.choices + 1;
+      outputs = tally.outputs;
+      sum = tally.sum;
+      cost = tally.cost;
+    } }
 {
     let choices = tally.choices + 1;
     Tally { choices, ..tally }
@@ -131,7 +137,12 @@ fn count_choice(tally: Tally) -> Tally
 fn count_output(tally: Tally, value: i32) -> Tally
     requires outputs { tally.outputs < 2 ^ 63 }
     requires sum { unsigned_abs tally.sum < 2 ^ 94 }
-    ensures { result ≡ record { choices = tally.choices; outputs = tally.outputs + 1; sum = tally.sum +ℤ value; cost = tally.cost } }
+    ensures { result ≡ record {
+      choices = tally.choices;
+      outputs = tally.outputs + 1;
+      sum = tally.sum +ℤ value;
+      cost = tally.cost;
+    } }
 {
     let outputs = tally.outputs + 1;
     let sum = sum_with(tally.sum, value);
@@ -161,7 +172,8 @@ fn count_cost(tally: Tally, cost: u64) -> Tally
 
 /// The last line of the log of these bytes.
 pub(crate) fn last_line(log: &[u8]) -> &[u8]
-    ensures { (entries : List Entry) → log.now ≡ log_text entries → result.now ≡ last_from [] entries }
+    ensures { (entries : List Entry) → log.now ≡ log_text entries →
+        result.now ≡ last_from [] entries }
 {
     let mut last: &[u8] = &[];
     for line in Lines::new(log) {
@@ -173,7 +185,9 @@ pub(crate) fn last_line(log: &[u8]) -> &[u8]
 /// The summary of the run that has this census and this log.
 pub(crate) fn summary(alloc: Global, census: Census, log: &[u8]) -> Result<Vec<u8>, AllocError>
     requires { IsFitText log.now }
-    ensures { (entries : List Entry) → log.now ≡ log_text entries → IfOk result (λ text. text.items ≡ summary_text census (tally_of entries) (last_from [] entries)) }
+    ensures { (entries : List Entry) → log.now ≡ log_text entries →
+        IfOk result (λ text.
+        text.items ≡ summary_text census (tally_of entries) (last_from [] entries)) }
 {
     let tally = tally_log(log);
     summary_of(alloc, census, tally, last_line(log))

@@ -3,4 +3,5 @@ pub mod CoverLemmas
 pub mod RootLemmas
 pub mod CheckLemmas
 pub mod MadeLemmas
+pub mod KnownLemmas
 pub mod LeastBudgetLemmas

@@ -1,6 +1,6 @@
-ghost use Rattle.std.specs.Prelude.{◌≡◌, ◌<◌, length};
+ghost use Rattle.std.specs.Prelude.{◌≡◌, ◌<◌, ℕ, List, length, IfSome};
 ghost use Rattle.std.specs.List.{AllByRecursion};
-ghost use Rattle.flat_code.specs.Codes.{members_of};
+ghost use Rattle.flat_code.specs.Codes.{FlatCode, members_of};
 ghost use Rattle.flat_code.specs.ProgramView.{program_code};
 ghost use Rattle.chunk_budget.specs.Known.{IsKnown};
 ghost use Rattle.chunk_budget.specs.Tests.{highest};
@@ -26,12 +26,62 @@ fn greatest_height(functions: &[u32], heights: &[u32]) -> u32
     most
 }
 
-// The greatest height of a table's members. They are looked at unless the table is the one that was asked for last.
+// What is known of tables: the greatest heights of those that were looked at last.
+#[derive(Clone, Copy)]
+pub(crate) struct Known {
+    pub(crate) kept: [Option<Highest>; 64],
+    // The place of the one that makes room for the next.
+    pub(crate) oldest: usize,
+}
+
+// Nothing is known.
+pub(crate) fn nothing_known() -> Known
+    ensures { (code : FlatCode) → (heights : List ℕ) → IsKnown code heights result }
+{
+    Known {
+        kept: [None; 64],
+        oldest: 0,
+    }
+}
+
+// The greatest height of a table's members, where it is kept.
+fn kept_height(known: &Known, table: u32) -> Option<u32>
+    ensures { (code : FlatCode) → (heights : List ℕ) → IsKnown code heights known.now → IfSome result (λ height. height ≡ highest heights (members_of code table)) }
+{
+    for kept in &known.kept {
+        if let Some(last) = kept {
+            if last.table == table {
+                return Some(last.height);
+            }
+        }
+    }
+    None
+}
+
+// Keeps the greatest height of one table more, in place of the oldest.
+fn keep(known: &mut Known, newest: Highest)
+    requires { known.old.oldest < 64 }
+    ensures { (code : FlatCode) → (heights : List ℕ) → IsKnown code heights known.old → newest.height ≡ highest heights (members_of code newest.table) → IsKnown code heights known.new }
+{
+    known.kept[known.oldest] = Some(newest);
+    known.oldest = (known.oldest + 1) % 64;
+}
+
+// The greatest height of a table's members, each looked at.
+fn height_of_members(flat: &FlatProgram, heights: &[u32], table: u32) -> u32
+    requires table { table < length (program_code flat.now).tables }
+    requires heights { length heights.now ≡ length (program_code flat.now).functions }
+    ensures { result ≡ highest heights.now (members_of (program_code flat.now) table) }
+{
+    greatest_height(flat.tables()[table as usize].as_slice(), heights)
+}
+
+// The greatest height of a table's members. They are looked at unless the table is one of the 64 that were last looked at.
 pub(crate) fn table_height(
     flat: &FlatProgram,
     heights: &[u32],
     table: u32,
-    known: &mut Option<Highest>,
+    known: &mut Known,
 ) -> u32
     requires table { table < length (program_code flat.now).tables }
     requires heights { length heights.now ≡ length (program_code flat.now).functions }
@@ -39,12 +89,10 @@ pub(crate) fn table_height(
     ensures highest { result ≡ highest heights.now (members_of (program_code flat.now) table) }
     ensures known { IsKnown (program_code flat.now) heights.now known.new }
 {
-    if let Some(last) = *known {
-        if last.table == table {
-            return last.height;
-        }
+    if let Some(height) = kept_height(known, table) {
+        return height;
     }
-    let height = greatest_height(flat.tables()[table as usize].as_slice(), heights);
-    *known = Some(Highest { table, height });
+    let height = height_of_members(flat, heights, table);
+    keep(known, Highest { table, height });
     height
 }

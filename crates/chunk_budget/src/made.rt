@@ -11,7 +11,7 @@ ghost use Rattle.chunk_budget.specs.Known.{IsKnown};
 ghost use Rattle.call_cycles.specs.Orders.{IsFromBottom, StandsBefore};
 ghost use Rattle.chunk_budget.specs.Made.{height_asked, height_spawned, greatest_below};
 
-use crate::heights::{Highest, table_height};
+use crate::heights::{Known, nothing_known, table_height};
 use crate::sites::{chunks_added, function_of};
 use certificate_check::kind_of_operation;
 use flat_code::{FlatProgram, Op};
@@ -25,7 +25,7 @@ fn height_asked(
     heights: &[u32],
     function: usize,
     op: &Op,
-    known: &mut Option<Highest>,
+    known: &mut Known,
 ) -> u64
     requires rising { IsStrictlyIncreasing (fact_numbers certificate.now.sites) }
     requires heights { length heights.now ≡ length (program_code flat.now).functions }
@@ -59,7 +59,7 @@ fn height_over(
     ensures { result ≡ greatest (height_asked (program_code flat.now) certificate.now heights.now) (function_at (program_code flat.now) function).ops }
 {
     let ops = function_of(flat, function).ops.as_slice();
-    let mut known = None;
+    let mut known = nothing_known();
     let mut most = 0;
     for op in ops {
         let asked = height_asked(flat, certificate, heights, function, op, &mut known);

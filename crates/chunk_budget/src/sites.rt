@@ -10,7 +10,7 @@ ghost use Rattle.chunk_budget.specs.Known.{IsKnown};
 ghost use Rattle.chunk_budget.specs.Least.{least_in, least_below};
 ghost use Rattle.chunk_budget.specs.Tests.{low_call, low_site};
 
-use crate::heights::{Highest, table_height};
+use crate::heights::{Known, nothing_known, table_height};
 use crate::least::lesser;
 use certificate_check::kind_of_operation;
 use flat_code::{FlatFunction, FlatProgram, Op};
@@ -53,7 +53,7 @@ fn low_site(
     heights: &[u32],
     function: usize,
     op: &Op,
-    known: &mut Option<Highest>,
+    known: &mut Known,
 ) -> Option<u32>
     requires rising { IsStrictlyIncreasing (fact_numbers certificate.now.sites) }
     requires heights { length heights.now ≡ length (program_code flat.now).functions }
@@ -90,7 +90,7 @@ fn least_in_function(
     heights: &[u32],
     function: usize,
     first: Option<u32>,
-    known: &mut Option<Highest>,
+    known: &mut Known,
 ) -> Option<u32>
     requires rising { IsStrictlyIncreasing (fact_numbers certificate.now.sites) }
     requires heights { length heights.now ≡ length (program_code flat.now).functions }
@@ -114,7 +114,7 @@ fn least_of_sites(flat: &FlatProgram, certificate: &Certificate, heights: &[u32]
     requires heights { length heights.now ≡ length (program_code flat.now).functions }
     ensures { result ≡ least_below (low_site (program_code flat.now) certificate.now heights.now) (program_code flat.now) None (length (program_code flat.now).functions) }
 {
-    let mut known = None;
+    let mut known = nothing_known();
     let mut least = None;
     for function in 0..flat.functions().len() {
         least = least_in_function(flat, certificate, heights, function, least, &mut known);

@@ -1,9 +1,9 @@
 -- Each address belongs to one chunk at most, and where the chunks stand.
-use Rattle.std.proofs.Common.{◌≡◌, ℕ, ◌+◌, ◌-◌, ◌*◌, ◌/◌, ◌%◌, ◌<◌, ◌≤◌, inl, inr, sym, ◌∙◌, ap, subst, arith, nat_lt, Option, Some, None, IfSome, IfNone, Bool, cond}
+use Rattle.std.proofs.Common.{◌≡◌, ℕ, ◌+◌, ◌-◌, ◌*◌, ◌/◌, ◌%◌, ◌<◌, ◌≤◌, ◌⊎◌, inl, inr, sym, ◌∙◌, ap, subst, arith, nat_lt, Option, Some, None, IfSome, IfNone, Bool, cond}
 use Rattle.std.proofs.lemmas.Bool.{cases_lt, lt-ltb, le-ltb}
 use Rattle.std.proofs.lemmas.Nat.{mul-add-lt, div-mul-add, mod-mul-add, div_below, mod_below, div-add-mod'}
 use Rattle.chunk_pool.specs.declared.shape.Shape.{Shape}
-use Rattle.chunk_pool.specs.Pool.{Pool, shape_of, first_place, place_of, bytes_of, HasAddress, chunk_at, IsPool, chunk_in, first_end, last_end, first_size, start_in}
+use Rattle.chunk_pool.specs.Pool.{Pool, shape_of, first_place, place_of, payload_place_of, bytes_of, words_of, start_of, size_in, HasAddress, IsHeld, chunk_at, IsPool, chunk_in, first_end, last_end, first_size, start_in}
 use Rattle.chunk_pool.proofs.Shapes.{words_in-first, words_in-extra, start_in-first, start_in-extra, start_in-aligned, start_fits}
 
 -- ---- the four parts of the addresses
@@ -140,3 +140,19 @@ place_of-aligned p id sound =
 -- every chunk lies between the places of the first and of the end of the largest pool
 pub place_of-bounded : (p : Pool) (id : ℕ) → IsPool p → id < p.count → place_of p id + bytes_of p id ≤ 0x8400_0000
 place_of-bounded p id sound within = omega (arith, sound.shape.size_bounded, start_fits (shape_of p) id sound.shape within)
+
+-- ---- the word in which a byte lies
+
+pub word_at : (p : Pool) (id address : ℕ) → HasAddress p id address → (address - first_place) / 4 ≡ start_of p id + (address - place_of p id) / 4
+word_at p id address has = omega (arith, has.1)
+
+pub word_within : (p : Pool) (id address : ℕ) → HasAddress p id address → (address - place_of p id) / 4 < words_of p id
+word_within p id address has = omega (arith, has.1, has.2)
+
+pub position_within : (p : Pool) (id address : ℕ) → IsPool p → HasAddress p id address → (address - first_place) / 4 < size_in (shape_of p)
+position_within p id address sound has = omega (arith, has.1, has.2, start_fits (shape_of p) id sound.shape has.0)
+
+-- a byte of a payload lies in a word behind the header
+pub payload_word : (p : Pool) (id address : ℕ) → IsHeld p id ⊎ (payload_place_of p id ≤ address) → IsHeld p id ⊎ (4 ≤ (address - place_of p id) / 4)
+payload_word p id address (inl held) = inl held
+payload_word p id address (inr behind) = inr (omega (arith, behind))

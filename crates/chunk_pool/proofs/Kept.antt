@@ -1,13 +1,14 @@
 -- A pool that lies in one region, as its parts change.
-use Rattle.std.proofs.Common.{◌≡◌, ◌≢◌, ℕ, ◌+◌, ◌-◌, ◌^◌, ◌<◌, ◌≤◌, ◌⊎◌, inl, inr, List, [], ◌∷◌, length, map, take, drop, get_or, set, nat_le, refl, sym, ◌∙◌, ap, subst, arith, All, Contains}
+use Rattle.std.proofs.Common.{◌≡◌, ◌≢◌, ℕ, ◌+◌, ◌-◌, ◌/◌, ◌^◌, ◌<◌, ◌≤◌, ◌⊎◌, inl, inr, List, [], ◌∷◌, length, map, take, drop, get_or, set, nat_le, refl, sym, ◌∙◌, ap, subst, arith, All, Contains}
 use Rattle.std.specs.List.{range_with_len}
 use Rattle.std.proofs.lemmas.Bool.{cases_eq, cases_lt}
 use Rattle.std.proofs.lemmas.List.{length-set, length-append}
 use Rattle.std.proofs.lemmas.List.Elements.{All-head}
 use Rattle.chunk_pool.specs.declared.pool.ChunkPool.TheInside.{Inside}
 use Rattle.chunk_pool.specs.declared.shape.Shape.{Shape}
-use Rattle.chunk_pool.specs.Pool.{Pool, shape_of, word_of, payload_of, contents_with, with_word, words_of, words_in, start_of, start_in, size_in, free_count, after_give, first_or, IsHeld, IsLinked, IsShape, IsPool, offers, choice, class_for, next_in, start_chunk, start_shape, start_pool}
+use Rattle.chunk_pool.specs.Pool.{Pool, first_place, HasAddress, shape_of, word_of, payload_of, contents_with, with_word, words_of, words_in, start_of, start_in, size_in, free_count, after_give, first_or, IsHeld, IsLinked, IsShape, IsPool, offers, choice, class_for, next_in, start_chunk, start_shape, start_pool}
 use Rattle.chunk_pool.specs.Chunks.{chunks_in, followed, pool_of, IsKept}
+use Rattle.chunk_pool.proofs.AddressLaws.{position_within}
 use Rattle.chunk_pool.proofs.Shapes.{start-before, words_in-some}
 use Rattle.chunk_pool.proofs.PoolLaws.{same_pool, apart_from, absent-first, absent-extra, word_of-with_word_same, IsPool-with_word, IsPool-taken_first, IsPool-taken_extra, IsPool-given_first, IsPool-given_extra, given_first, given_extra, after_give-first, after_give-extra}
 use Rattle.chunk_pool.proofs.FreeLaws.{free_bounded}
@@ -26,6 +27,11 @@ has_words a p id v kept = words_in-some (shape_of p) id (shape_is a p v kept)
 -- the region is as long as the words of all chunks
 pub region_is : (a : Inside) (p : Pool) → pool_of a ≡ p → IsKept a → length a.region ≡ size_in (shape_of p)
 region_is a p v kept = kept.size ∙ ap (λ (q : Pool). size_in (shape_of q)) v
+
+-- where the word of an address stands, the region has a word
+pub address_within : (a : Inside) (p : Pool) (id address at : ℕ) → pool_of a ≡ p → IsKept a → HasAddress p id address → at ≡ (address - first_place) / 4 → at < length a.region
+address_within a p id address at v kept has is =
+    omega (arith, is, region_is a p v kept, position_within p id address (subst IsPool v kept.pool) has)
 
 pub read_is : (a : Inside) (p : Pool) (id word : ℕ) → pool_of a ≡ p → id < p.count → word < words_of p id → get_or a.region (start_of p id + word) 0 ≡ word_of p id word
 read_is a p id word v =

@@ -1,5 +1,5 @@
 ghost use Rattle.std.specs.Prelude.{◌≡◌, ℕ, ◌+◌, ◌-◌, ◌*◌, ◌/◌, ◌%◌, ◌<◌, ◌≤◌, ◌⊎◌, ◌↔◌, false, drop, length, map, replicate, All, IsTrue, IsNone, IfSome, IfNone, IfOk};
-ghost use Rattle.chunk_pool.specs.Pool.{Pool, word_of, payload_of, with_word, words_of, start_of, KeepsOthers, KeepsOtherWords, KeepsPayloads, free_beside, free_count, first_or, after_give, IsFree, IsHeld, IsPool, IsShape, start_pool, shape_of, size_in, bytes_of, place_of, end_of, fits, FitsNone, class_for, taken_for, IsTaken, HasAddress, chunk_at, start_chunk};
+ghost use Rattle.chunk_pool.specs.Pool.{Pool, word_of, payload_of, with_word, words_of, start_of, KeepsOthers, KeepsOtherWords, KeepsPayloads, free_beside, free_count, first_or, after_give, IsFree, IsHeld, IsPool, IsShape, start_pool, shape_of, size_in, bytes_of, place_of, payload_place_of, end_of, fits, FitsNone, class_for, taken_for, IsTaken, HasAddress, chunk_at, start_chunk};
 ghost use Rattle.std.specs.List.{range_with_len};
 ghost use Rattle.chunk_pool.specs.Chunks.{chunks_in};
 
@@ -206,6 +206,27 @@ impl ChunkPool {
         self.region.write(position, value);
     }
 
+    /// The word of chunk `id` in which its byte at `address` lies.
+    pub fn read_at(&self, id: u32, address: u32) -> u32
+        requires { HasAddress self.now id address }
+        ensures value { result ≡ word_of self.now id ((address - place_of self.now id) / 4) }
+        ensures sound { IsPool self.now }
+    {
+        self.region.read(position_at(address))
+    }
+
+    /// Writes the word of chunk `id` in which its byte at `address` lies. The header of a free chunk is not written.
+    pub fn write_at(&mut self, id: u32, address: u32, value: u32)
+        requires address_in_range { HasAddress self.old id address }
+        requires link_kept { IsHeld self.old id ⊎ (payload_place_of self.old id ≤ address) }
+
+        ensures after { self.new ≡ with_word self.old id ((address - place_of self.old id) / 4) value }
+        ensures sound { IsPool self.new }
+    {
+        let position = position_at(address);
+        self.region.write(position, value);
+    }
+
     /// The words of chunk `id` behind its header, from word 4 on.
     pub fn payload(&self, id: u32) -> &[u32]
         requires { id < self.now.count }
@@ -266,6 +287,15 @@ impl ChunkPool {
     {
         self.shape.chunk_at(address)
     }
+}
+
+/// Where the word stands in a region in which a byte at `address` lies. The chunks stand side by side in the order of their
+/// addresses, so the address alone tells it.
+fn position_at(address: u32) -> usize
+    requires { 0x8000_0000 ≤ address }
+    ensures { result ≡ (address - 0x8000_0000) / 4 }
+{
+    ((address - FIRST_PLACE) / 4) as usize
 }
 
 /// Links the chunks of a region of zeros: the first word of each is the number behind its own among those of its size.

@@ -213,7 +213,11 @@ IsThisCase outcome (Err Memory) = Unit {0}
 IsThisCase outcome (Err Read) = ⊥
 IsThisCase outcome (Err Write) = ⊥
 
--- where the files and the trace are told and no fault was counted, what is due is done
+-- the trace is told where the outcome reads it
+abbrev pub IsTraceTold : Option (List ℕ) → Outcome → Type 0
+IsTraceTold left outcome = outcome.reads_trace ≡ true → (trace : List ℕ) × (left ≡ Some trace)
+
+-- where the files are told, and the trace where what is due reads it, and no fault was counted, what is due is done
 abbrev pub IsExact : (Outside → Outcome → Type 0) → (before after : Outside) → Result Outcome Fault → Type 0
 IsExact due before after given =
-    NoFault before after → (files : Files) (trace : List ℕ) (outcome : Outcome) → before.files ≡ Some files → before.left ≡ Some trace → due before outcome → IsThisCase outcome given
+    NoFault before after → (files : Files) (outcome : Outcome) → before.files ≡ Some files → IsTraceTold before.left outcome → due before outcome → IsThisCase outcome given

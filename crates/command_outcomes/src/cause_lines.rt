@@ -53,21 +53,25 @@ fn put_cause(line: &mut Vec<u8>, cause: &Cause) -> Result<(), AllocError>
 }
 
 fn put_absent(line: &mut Vec<u8>, document: Document) -> Result<(), AllocError>
-    ensures { OnOk result (line.new.items ≡ line.old.items ++ (codes "absent: " ++ document_name document)) }
+    ensures { OnOk result
+        (line.new.items ≡ line.old.items ++ (codes "absent: " ++ document_name document)) }
 {
     put_text(line, b"absent: ")?;
     put_text(line, document.name())
 }
 
 fn put_too_long(line: &mut Vec<u8>, document: Document) -> Result<(), AllocError>
-    ensures { OnOk result (line.new.items ≡ line.old.items ++ (document_name document ++ codes ": TooLong")) }
+    ensures { OnOk result
+        (line.new.items ≡ line.old.items ++ (document_name document ++ codes ": TooLong")) }
 {
     put_text(line, document.name())?;
     put_text(line, b": TooLong")
 }
 
 fn put_certificate_line(line: &mut Vec<u8>, number: u32) -> Result<(), AllocError>
-    ensures { OnOk result (line.new.items ≡ line.old.items ++ (codes "certificate: Line " ++ canonical_decimal number)) }
+    ensures { OnOk result
+        (line.new.items ≡ line.old.items ++
+        (codes "certificate: Line " ++ canonical_decimal number)) }
 {
     put_text(line, b"certificate: Line ")?;
     put_number(line, u64::from(number))
@@ -84,7 +88,9 @@ fn put_frame(line: &mut Vec<u8>, name: &[u8], bytes: u32) -> Result<(), AllocErr
 }
 
 fn put_code(line: &mut Vec<u8>, words: u64) -> Result<(), AllocError>
-    ensures { OnOk result (line.new.items ≡ line.old.items ++ ((codes "limit: code is " ++ canonical_decimal words) ++ codes " words")) }
+    ensures { OnOk result
+        (line.new.items ≡ line.old.items ++
+        ((codes "limit: code is " ++ canonical_decimal words) ++ codes " words")) }
 {
     put_text(line, b"limit: code is ")?;
     put_number(line, words)?;
@@ -92,7 +98,9 @@ fn put_code(line: &mut Vec<u8>, words: u64) -> Result<(), AllocError>
 }
 
 fn put_pool(line: &mut Vec<u8>, bytes: u64) -> Result<(), AllocError>
-    ensures { OnOk result (line.new.items ≡ line.old.items ++ ((codes "limit: pool is " ++ canonical_decimal bytes) ++ codes " bytes")) }
+    ensures { OnOk result
+        (line.new.items ≡ line.old.items ++
+        ((codes "limit: pool is " ++ canonical_decimal bytes) ++ codes " bytes")) }
 {
     put_text(line, b"limit: pool is ")?;
     put_number(line, bytes)?;
@@ -124,7 +132,8 @@ pub fn put_rejected(
 }
 
 fn put_source(line: &mut Vec<u8>, error: &SourceError) -> Result<(), AllocError>
-    ensures { OnOk result (line.new.items ≡ line.old.items ++ (codes "source: " ++ source_words error.now)) }
+    ensures { OnOk result
+        (line.new.items ≡ line.old.items ++ (codes "source: " ++ source_words error.now)) }
 {
     put_text(line, b"source: ")?;
     match error {
@@ -145,7 +154,8 @@ fn put_source(line: &mut Vec<u8>, error: &SourceError) -> Result<(), AllocError>
 }
 
 fn put_image(line: &mut Vec<u8>, error: ImageError) -> Result<(), AllocError>
-    ensures { OnOk result (line.new.items ≡ line.old.items ++ (codes "image: " ++ image_words error)) }
+    ensures { OnOk result
+        (line.new.items ≡ line.old.items ++ (codes "image: " ++ image_words error)) }
 {
     put_text(line, b"image: ")?;
     match error {

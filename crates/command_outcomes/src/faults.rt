@@ -5,7 +5,7 @@ ghost use Rattle.command_outcomes.specs.FaultLines.{fault_status, fault_line};
 /// What failed outside.
 #[derive(Clone, Copy)]
 pub enum Fault {
-    /// A file could not be loaded.
+    /// A file could not be loaded, or the trace could not be read.
     Read,
     /// A file could not be stored, or the output took not all.
     Write,

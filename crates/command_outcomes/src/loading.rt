@@ -25,7 +25,8 @@ pub fn load<F: Shelf>(
     document: Document,
     name: &str,
 ) -> Result<Vec<u8>, Stop>
-    ensures answer { IsLoadAnswer document (F.files shelf.old) name.now (F.load_faults shelf.old) (F.load_faults shelf.new) result }
+    ensures answer { IsLoadAnswer document (F.files shelf.old) name.now (F.load_faults shelf.old)
+        (F.load_faults shelf.new) result }
     ensures files { KeepsFiles (F.files shelf.old) (F.files shelf.new) }
     ensures stores { F.store_faults shelf.new ≡ F.store_faults shelf.old }
 {
@@ -57,7 +58,8 @@ pub fn load_three<F: Shelf>(
     image_name: &str,
     certificate_name: &str,
 ) -> Result<LoadedFiles, Stop>
-    ensures answer { AreLoaded (F.files shelf.old) source_name.now image_name.now certificate_name.now (F.load_faults shelf.old) (F.load_faults shelf.new) result }
+    ensures answer { AreLoaded (F.files shelf.old) source_name.now image_name.now
+        certificate_name.now (F.load_faults shelf.old) (F.load_faults shelf.new) result }
     ensures files { KeepsFiles (F.files shelf.old) (F.files shelf.new) }
     ensures stores { F.store_faults shelf.new ≡ F.store_faults shelf.old }
 {
@@ -74,7 +76,8 @@ pub fn load_three<F: Shelf>(
 /// The program that the bytes of a source are.
 pub fn read_source(alloc: Global, source: &[u8]) -> Result<Program, Stop>
     requires { length source.now ≤ 1048576 }
-    ensures { MatchResult result (λ program. IsSourceText source.now (program_tree program)) (IsStop (AfterSource source.now NoMore)) }
+    ensures { MatchResult result (λ program. IsSourceText source.now (program_tree program))
+        (IsStop (AfterSource source.now NoMore)) }
 {
     match read_nested(alloc, source) {
         Ok(program) => Ok(program),
@@ -96,7 +99,8 @@ pub fn read_image_bytes(alloc: Global, bytes: &[u8]) -> Result<Image, Stop>
 
 /// The certificate that these bytes spell.
 pub fn read_certificate_bytes(alloc: Global, bytes: &[u8]) -> Result<Certificate, Stop>
-    ensures { MatchResult result (IsCertificateText bytes.now) (IsStop (AfterCertificate bytes.now NoMore)) }
+    ensures { MatchResult result (IsCertificateText bytes.now)
+        (IsStop (AfterCertificate bytes.now NoMore)) }
 {
     match read_cert(alloc, bytes) {
         Ok(certificate) => Ok(certificate),

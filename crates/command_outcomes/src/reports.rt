@@ -12,7 +12,8 @@ use std::alloc::Global;
 /// Tells why a command ended before it had done what its words ask: standard error takes the line, and the answer is the
 /// status.
 pub fn finish<E: Sink>(alloc: Global, err: &mut E, stop: Stop) -> u8
-    ensures { IsFinished stop (E.taken err.old) (E.taken err.new) (E.faults err.old) (E.faults err.new) result }
+    ensures { IsFinished stop (E.taken err.old) (E.taken err.new) (E.faults err.old)
+        (E.faults err.new) result }
 {
     match stop {
         Stop::Refused(cause) => tell_cause(alloc, err, &cause),
@@ -22,7 +23,8 @@ pub fn finish<E: Sink>(alloc: Global, err: &mut E, stop: Stop) -> u8
 
 /// Writes the line of a refusal, and answers the status.
 fn tell_cause<E: Sink>(alloc: Global, err: &mut E, cause: &Cause) -> u8
-    ensures { IsFinished (Refused cause.now) (E.taken err.old) (E.taken err.new) (E.faults err.old) (E.faults err.new) result }
+    ensures { IsFinished (Refused cause.now) (E.taken err.old) (E.taken err.new) (E.faults err.old)
+        (E.faults err.new) result }
 {
     match line_of(alloc, cause) {
         Ok(line) => tell(err, line.as_slice(), cause.status()),

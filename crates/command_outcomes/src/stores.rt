@@ -16,7 +16,9 @@ pub fn store_both<F: Shelf>(
     other_name: &str,
     other_bytes: &[u8],
 ) -> Result<(), Stop>
-    ensures stored { AreStores ((name.now, bytes.now) ∷ (other_name.now, other_bytes.now) ∷ []) (F.files shelf.old) (F.files shelf.new) (F.store_faults shelf.old) (F.store_faults shelf.new) result }
+    ensures stored { AreStores ((name.now, bytes.now) ∷ (other_name.now, other_bytes.now) ∷ [])
+        (F.files shelf.old) (F.files shelf.new) (F.store_faults shelf.old)
+        (F.store_faults shelf.new) result }
     ensures loads { F.load_faults shelf.new ≡ F.load_faults shelf.old }
 {
     store(alloc, shelf, name, bytes)?;
@@ -25,7 +27,8 @@ pub fn store_both<F: Shelf>(
 
 /// Stores a file.
 fn store<F: Shelf>(alloc: Global, shelf: &mut F, name: &str, bytes: &[u8]) -> Result<(), Stop>
-    ensures stored { AreStores ((name.now, bytes.now) ∷ []) (F.files shelf.old) (F.files shelf.new) (F.store_faults shelf.old) (F.store_faults shelf.new) result }
+    ensures stored { AreStores ((name.now, bytes.now) ∷ []) (F.files shelf.old) (F.files shelf.new)
+        (F.store_faults shelf.old) (F.store_faults shelf.new) result }
     ensures loads { F.load_faults shelf.new ≡ F.load_faults shelf.old }
 {
     match shelf.store(alloc, name, bytes) {

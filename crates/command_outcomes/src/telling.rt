@@ -10,7 +10,8 @@ use cap_io::{Sink, SinkError, put_all};
 
 /// Writes a text to the output, and answers the end that goes with it.
 pub fn print<K: Sink>(out: &mut K, text: &[u8], status: u8) -> Result<Ended, Stop>
-    ensures { IsPrinted status text.now (K.taken out.old) (K.taken out.new) (K.faults out.old) (K.faults out.new) result }
+    ensures { IsPrinted status text.now (K.taken out.old) (K.taken out.new) (K.faults out.old)
+        (K.faults out.new) result }
 {
     match put_all(out, text) {
         Ok(()) => Ok(Ended { status, last: None }),
@@ -22,7 +23,8 @@ pub fn print<K: Sink>(out: &mut K, text: &[u8], status: u8) -> Result<Ended, Sto
 /// Writes a line to standard error, and answers the status that stands then.
 pub fn tell<E: Sink>(err: &mut E, line: &[u8], status: u8) -> u8
     requires { line.now ≢ [] }
-    ensures { IsTold status line.now (E.taken err.old) (E.taken err.new) (E.faults err.old) (E.faults err.new) result }
+    ensures { IsTold status line.now (E.taken err.old) (E.taken err.new) (E.faults err.old)
+        (E.faults err.new) result }
 {
     match put_all(err, line) {
         Ok(()) => status,

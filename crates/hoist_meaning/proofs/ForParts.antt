@@ -33,7 +33,8 @@ use Rattle.hoist_meaning.proofs.Sizes.{Grows, grows_none, grows_on, stmt_grows}
 use Rattle.hoist_meaning.proofs.SiteNumbers.{Occurs, occurs_first, occurs_second, occurs_as, TreeHas, stmt_site}
 use Rattle.hoist_meaning.proofs.Sound.{SimpleSound, PartsSound, TurnSound, StepSound}
 use Rattle.hoist_meaning.proofs.Fits.{PlaceFits, Whole}
-use Rattle.hoist_meaning.proofs.SimpleSounds.{condition_sound, simple_sound}
+use Rattle.hoist_meaning.proofs.ConditionSounds.{condition_sound}
+use Rattle.hoist_meaning.proofs.SimpleSounds.{simple_sound}
 use Rattle.hoist_meaning.proofs.TextSites.{simple_site}
 use Rattle.hoist_meaning.proofs.Pieces.{place_on, simples_text}
 

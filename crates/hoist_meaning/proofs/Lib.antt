@@ -43,10 +43,13 @@ pub mod Texts
 pub mod Programs
 pub mod Fits
 pub mod Rising
+pub mod SimpleFacts
+pub mod ConditionSounds
 pub mod SimpleSounds
 pub mod Pieces
 pub mod TextSites
 pub mod ForParts
+pub mod Loops
 pub mod StmtSounds
 pub mod Starts
 pub mod Fewer

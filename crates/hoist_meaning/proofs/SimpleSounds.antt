@@ -1,13 +1,13 @@
--- What is known of a place makes its expressions and its simple statements sound.
-use Rattle.std.proofs.Common.{ℕ, ◌≡◌, ◌+◌, ◌≤◌, ⊎_elim, inl, inr, refl, sym, ap, subst, ◌∙◌, Bool, true, false, List, [], ◌∷◌, ◌++◌, append-nil, length, length-append, arith}
+-- What is known of a place makes its right sides and its simple statements sound.
+use Rattle.std.proofs.Common.{ℕ, ◌≡◌, ◌+◌, ◌≤◌, refl, sym, ap, subst, ◌∙◌, Bool, true, false, List, [], ◌∷◌, ◌++◌, append-nil, length, length-append, arith}
 use Rattle.std.specs.Prelude.{slice_index}
-use Rattle.c_tree.specs.RawTrees.{NameTree, RawExprTree, RawExprTrees, RawNumber, RawName, RawElement, RawUnary, RawParenthesized, RawBinary, RawLogicalAnd, RawLogicalOr, RawConditional, RawCall, RawTableCall, RawSimpleTree, RawDeclareScalar, RawDeclareArray, RawDeclareWith, RawSet, RawSetElement, RawCalling, RawTableCalling, RawDo}
+use Rattle.c_tree.specs.RawTrees.{NameTree, RawExprTree, RawExprTrees, RawCall, RawTableCall, RawSimpleTree, RawDeclareScalar, RawDeclareArray, RawDeclareWith, RawSet, RawSetElement, RawCalling, RawTableCalling, RawDo}
 use Rattle.c_tree.specs.RawViews.{raw_in_order}
 use Rattle.c_tree.specs.Trees as tree
-use Rattle.c_tree.specs.Trees.{ExprTree, RightTree, SimpleTree, Called, ProgramTree}
+use Rattle.c_tree.specs.Trees.{ExprTree, RightTree, ProgramTree}
 use Rattle.c_mean.specs.Frames.{Place, InLocal, InGlobal, Nowhere, function_at}
 use Rattle.scope_rules.specs.declared.meanings.Variable.{Variable}
-use Rattle.scope_rules.specs.Names.{Binding, find}
+use Rattle.scope_rules.specs.Names.{find}
 use Rattle.scope_rules.specs.Meanings.{is_scalar, is_array, variable_of}
 use Rattle.scope_rules.specs.Expressions.{scalar_faults, array_faults, expr_faults, listed, expr_of}
 use Rattle.scope_rules.specs.Calls.{right_faults, right_of, call_of, table_call_of}
@@ -32,121 +32,25 @@ use Rattle.hoist_calls.proofs.CallCounts.{part_places}
 use Rattle.hoist_meaning.specs.SourceNames.{AreSourceNames}
 use Rattle.hoist_meaning.proofs.Bindings.{Agreement, in_text, in_tree, AreBelow, found_alike}
 use Rattle.hoist_meaning.proofs.Items.{after, after_both}
-use Rattle.hoist_meaning.proofs.Spots.{StandsAt, below_limit, with_part, with_names, before_stands}
+use Rattle.hoist_meaning.proofs.Spots.{StandsAt, below_limit}
 use Rattle.hoist_meaning.proofs.Declarations.{declared_or, BothStand, simple_declares, variables_of, simple_stands}
-use Rattle.hoist_meaning.proofs.Extends.{Extends, extends_paired, extends_from, names_extend, part_and}
-use Rattle.hoist_meaning.proofs.Premises.{KnowsSpawnAlone, after_part, IsSound, with_value_names, with_element_names, side_faults, IsSideSound, side_left, index_tree, IsElementSound}
+use Rattle.hoist_meaning.proofs.Extends.{extends_paired}
+use Rattle.hoist_meaning.proofs.Premises.{after_part, with_value_names, with_element_names, side_faults, IsSideSound, side_left, index_tree, IsElementSound}
 use Rattle.hoist_meaning.proofs.Parts.{three_fine}
 use Rattle.hoist_meaning.proofs.PlainEnds.{VariablePair, variable_found, scalar_variable, array_variable}
 use Rattle.hoist_meaning.proofs.TableEnds.{three_after}
 use Rattle.hoist_meaning.proofs.SidePlaces.{value_place, value_extend, element_place}
-use Rattle.hoist_meaning.proofs.Sizes.{Grows, grows_none, grows_on, stmts_grow, before_adds, value_adds, element_adds}
+use Rattle.hoist_meaning.proofs.Sizes.{Grows, grows_none, grows_on, stmts_grow, value_adds, element_adds}
 use Rattle.hoist_meaning.proofs.SiteNumbers.{Occurs, occurs_first, occurs_second, occurs_as, TreeHas, tree_both, tree_three, calls_length, sites_stand, value_sites_stand}
 use Rattle.hoist_meaning.proofs.Frames.{PlacesAlike}
 use Rattle.hoist_meaning.proofs.Alike.{Within, SideSimple, Zeroes}
 use Rattle.hoist_meaning.proofs.Goes.{OwnSide, Scope}
-use Rattle.hoist_meaning.proofs.Fits.{PlaceFits, Whole, ConditionFits, SideFits, SimpleFits, simple_hoisted}
-use Rattle.hoist_meaning.proofs.Rising.{rise_more, names_rise, value_rises, element_rises, extends_pair, bound_alone, scope_of, stand_later}
-use Rattle.hoist_meaning.proofs.Sound.{ConditionSound, SideSound, ElementBoth, SimpleSound}
-
--- ---- what a statement's own faults say of its right side
-
-right_is_side : (bs : List Binding) (e : RawExprTree) → right_faults bs e ≡ side_faults true bs e
-right_is_side bs (RawNumber v) = refl
-right_is_side bs (RawName n) = refl
-right_is_side bs (RawElement n i) = refl
-right_is_side bs (RawUnary op e) = refl
-right_is_side bs (RawParenthesized e) = refl
-right_is_side bs (RawBinary op l r) = refl
-right_is_side bs (RawLogicalAnd l r) = refl
-right_is_side bs (RawLogicalOr l r) = refl
-right_is_side bs (RawConditional c x y) = refl
-right_is_side bs (RawCall n es) = refl
-right_is_side bs (RawTableCall n i e) = refl
-
--- ---- a size that comes next
-
-next_size : (xs : List ℕ) (w : ℕ) (more : List ℕ) → slice_index ((xs ++ w ∷ []) ++ more) (length xs) ≡ w
-next_size [] w more = refl
-next_size (x ∷ xs) w more = next_size xs w more
-
-size_there : (xs : List ℕ) (w : ℕ) (all : List ℕ) → Grows (xs ++ w ∷ []) all → slice_index all (length xs) ≡ w
-size_there xs w all h = ap (λ s. slice_index s (length xs)) h.is ∙ next_size xs w h.more
-
--- ---- places by the numbers of their variables
-
-renumbered : (b : Agreement) (n m : ℕ) (s t : Spot) → BothStand b n m s t → BothStand b (length s.sizes) (length t.sizes) s t
-renumbered b n m s t h = record {
-  text = record { names = h.text.names; count = refl };
-  tree = record { agrees = h.tree.agrees; names = h.tree.names; count = refl };
-  below = subst (λ i. AreBelow i (length t.sizes) b) (sym h.text.count) (subst (λ j. AreBelow n j b) (sym h.tree.count) h.below);
-}
-
-simple_alone : (s : Spot) (p : RawSimpleTree) → KnowsSpawnAlone s.names → KnowsSpawnAlone (deep.simple_after s p).names
-simple_alone s (RawDeclareScalar n) h = bound_alone s.names n.text (next_variable s) false h
-simple_alone s (RawDeclareArray n size) h = bound_alone s.names n.text (next_variable s) true h
-simple_alone s (RawDeclareWith n v) h = bound_alone s.names n.text (next_variable s) false h
-simple_alone s (RawSet n v) h = h
-simple_alone s (RawSetElement n i v) h = h
-simple_alone s (RawCalling n es) h = h
-simple_alone s (RawTableCalling n i e) h = h
-
--- a name that is declared, or that can't be
-declared_within : (v : Bool) (t : List ℕ) (x y : ℕ) (array : Bool) (c a : Agreement) → Within c a → Within (declared_or v t x y array c) (declared_or v t x y array a)
-declared_within true t x y array c a h = h
-declared_within false t x y array c a h = λ u w p. ⊎_elim (λ q. inl q) (λ q. inr (h u w q)) p
-
-declared_more : (v : Bool) (t : List ℕ) (x y : ℕ) (array : Bool) (a : Agreement) → Within a (declared_or v t x y array a)
-declared_more true t x y array a = λ u w p. p
-declared_more false t x y array a = λ u w p. inr p
-
--- a simple statement keeps the pairs from before
-simple_more : (n m : ℕ) (p : RawSimpleTree) (a : Agreement) → Within a (simple_declares n m p a)
-simple_more n m (RawDeclareScalar x) a = declared_more (is_fixed (find x.text (in_text a))) x.text n m false a
-simple_more n m (RawDeclareArray x size) a = declared_more (is_fixed (find x.text (in_text a))) x.text n m true a
-simple_more n m (RawDeclareWith x v) a = declared_more (is_fixed (find x.text (in_text a))) x.text n m false a
-simple_more n m (RawSet x v) a = λ u w p. p
-simple_more n m (RawSetElement x i v) a = λ u w p. p
-simple_more n m (RawCalling x es) a = λ u w p. p
-simple_more n m (RawTableCalling x i e) a = λ u w p. p
-
-element_extend : (k v : ℕ) (i e : RawExprTree) (a : Agreement) → Extends k v (v + (part_after 0 (holds_nested e) i + value_names e)) a (with_element_names k v i e a)
-element_extend k v i e a =
-    let later = holds_nested e in
-    let c = with_part (is_named later i) (k + names_in i) (v + names_in i) (with_names k v i a) in
-    let k1 = part_after k later i in
-    let v1 = part_after v later i in
-    let w = v + (part_after 0 later i + value_names e) in
-    part_and later k v w i a (with_value_names k1 v1 e c) (omega arith) (names_extend k v i a) (extends_from k1 v1 k1 v1 (v1 + value_names e) w c (with_value_names k1 v1 e c) (omega arith) (omega arith) (omega arith) (value_extend k1 v1 e c))
+use Rattle.hoist_meaning.proofs.Fits.{PlaceFits, Whole, SideFits, SimpleFits, simple_hoisted}
+use Rattle.hoist_meaning.proofs.Rising.{rise_more, value_rises, element_rises, extends_pair, scope_of, stand_later}
+use Rattle.hoist_meaning.proofs.Sound.{SideSound, ElementBoth, SimpleSound}
+use Rattle.hoist_meaning.proofs.SimpleFacts.{right_is_side, size_there, renumbered, simple_alone, declared_within, simple_more, element_extend}
 
 module _ (text : DeepProgram) (program : ProgramTree) (ns text_calls tree_calls : List ℕ) (f : ℕ) (whole : Whole text program ns text_calls tree_calls f) (gives loop : Bool) where
-  -- a condition, after which the places stand by another agreement with the same pairs
-  pub record ConditionEnds (a : Agreement) (k : ℕ) (s t : Spot) (e : RawExprTree) : Type 0 where
-    pub next : Agreement
-    pub sound : ConditionSound text program ns f a k s t e
-    pub place : PlaceFits next (counted s (calls_in e)) (after t (before k e))
-    pub fewer : Within next a
-    pub more : Within a next
-
-  pub condition_sound : (a : Agreement) (k : ℕ) (s t : Spot) (e : RawExprTree) → ConditionFits text program ns text_calls tree_calls f gives loop a k s t e → ConditionEnds a k s t e
-  condition_sound a k s t e h =
-      let m = length t.sizes in
-      let w = m + names_in e in
-      let b = with_names k m e a in
-      let u = after t (before k e) in
-      let scope = scope_of text program f a (names_in e) s t u.sizes h.place (before_adds k e t) h.tree_sizes whole.tree_few in
-      let place = before_stands a k m e t h.place.stand.tree scope.few in
-      let ext = names_extend k m e a in
-      let sites = sites_stand ns tree_calls text_calls whole.numbers k s.site e t h.plain h.in_tree h.in_text in
-      let sound : IsSound ns gives loop a k m s.site e t = record { source = h.named; fine = h.fine; left_fine = ap (λ bs. expr_faults bs (left_of k e)) (sym place.names) ∙ h.left_fine; sites = sites } in
-      record {
-        next = b;
-        sound = record { variables = m; gives = gives; loop = loop; scope = scope; sound = sound };
-        place = record { stand = stand_later a b k w s (counted s (calls_in e)) t u h.place refl refl ext place (names_rise (length s.sizes) k m e a h.place.stand.below); knows = h.place.knows };
-        fewer = λ x y p. extends_paired k m w a b x y ext p;
-        more = λ x y p. extends_pair k m w a b x y ext p;
-      }
-
   -- a right side or a returned value
   pub record SideEnds (a : Agreement) (k : ℕ) (s t : Spot) (e : RawExprTree) : Type 0 where
     pub next : Agreement

@@ -38,7 +38,8 @@ use Rattle.hoist_meaning.proofs.SiteNumbers.{Occurs, occurs_first, occurs_second
 use Rattle.hoist_meaning.proofs.Fits.{Whole, StmtsFit}
 use Rattle.hoist_meaning.proofs.Pieces.{stmts_text}
 use Rattle.hoist_meaning.proofs.TextSites.{deep_sites}
-use Rattle.hoist_meaning.proofs.StmtSounds.{InLoops, stmts_sound}
+use Rattle.hoist_meaning.proofs.Loops.{InLoops}
+use Rattle.hoist_meaning.proofs.StmtSounds.{stmts_sound}
 use Rattle.hoist_meaning.proofs.Starts.{ones, start_words}
 use Rattle.hoist_meaning.proofs.Fewer.{stmts_no_more}
 use Rattle.hoist_meaning.proofs.TreeCounts.{no_declared, no_used, no_parameters}

@@ -1,6 +1,6 @@
 -- What is known of a place makes the statements there sound.
 use Rattle.std.proofs.Common.{ℕ, ◌+◌, ◌≡◌, ◌≤◌, refl, sym, ap, subst, ◌∙◌, inl, inr, Bool, true, false, not, List, [], ◌∷◌, ◌++◌, length, append-nil, length-append, Option, Some, None, arith}
-use Rattle.c_tree.specs.RawTrees.{RawExprTree, RawNumber, RawName, RawElement, RawUnary, RawParenthesized, RawBinary, RawLogicalAnd, RawLogicalOr, RawConditional, RawCall, RawTableCall, RawStmtTree, RawStmtTrees, RawDo, RawEmpty, RawBlock, RawIf, RawIfElse, RawWhile, RawFor, RawBreak, RawContinue, RawReturn, NoRawStmts, RawThen}
+use Rattle.c_tree.specs.RawTrees.{RawExprTree, RawStmtTree, RawStmtTrees, RawDo, RawEmpty, RawBlock, RawIf, RawIfElse, RawWhile, RawFor, RawBreak, RawContinue, RawReturn, NoRawStmts, RawThen}
 use Rattle.c_tree.specs.RawViews.{raw_in_order}
 use Rattle.c_tree.specs.WholeCalls.{HasNoCall, IsStmtWhole, AreStmtsWhole}
 use Rattle.c_parse.specs.ForParts.{IsForWhole}
@@ -9,7 +9,6 @@ use Rattle.c_mean.specs.Frames.{function_at}
 use Rattle.scope_rules.specs.declared.faults.Rule.{Rule}
 use Rattle.scope_rules.specs.Expressions.{expr_faults}
 use Rattle.scope_rules.specs.Faults.{broken}
-use Rattle.scope_rules.specs.Names.{Binding}
 use Rattle.scope_rules.specs.Calls.{right_faults}
 use Rattle.scope_rules.specs.Places.{Spot}
 use Rattle.scope_rules.specs.Statements as tree_stmts
@@ -35,31 +34,18 @@ use Rattle.hoist_meaning.specs.SourceNames.{IsStmtNamed}
 use Rattle.hoist_meaning.proofs.Bindings.{Agreement}
 use Rattle.hoist_meaning.proofs.Items.{after, after_both}
 use Rattle.hoist_meaning.proofs.Alike.{Within}
-use Rattle.hoist_meaning.proofs.Premises.{side_faults}
 use Rattle.hoist_meaning.proofs.Sizes.{Grows, grows_on, stmt_grows, stmts_grow}
 use Rattle.hoist_meaning.proofs.SiteNumbers.{Occurs, occurs_first, occurs_second, occurs_as, TreeHas, tree_both, calls_length, stmt_site}
 use Rattle.hoist_meaning.proofs.Sound.{IsBodyAt, JumpSound, in_turn, after_test, StmtSound, StmtsSound}
 use Rattle.hoist_meaning.proofs.Fits.{PlaceFits, Whole, StmtFits, StmtsFit}
-use Rattle.hoist_meaning.proofs.SimpleSounds.{condition_sound, side_sound, simple_sound}
+use Rattle.hoist_meaning.proofs.SimpleSounds.{side_sound, simple_sound}
 use Rattle.hoist_meaning.proofs.Texts.{while_plain, while_held}
 use Rattle.hoist_meaning.proofs.ForParts.{Has, has_first, has_second, parts_sound, tree_sites, step_tree_site, step_grows, turn_sound, step_sound, no_optional, optional_place}
 use Rattle.hoist_meaning.proofs.TextSites.{simples_site, optional_site, step_site, deep_site}
 use Rattle.hoist_meaning.proofs.Pieces.{grows_length, place_on, BodyIs, body_is, optional_text, step_text, stmt_text, stmts_text}
-
--- where the innermost loop leads, if the statement stands in one
-pub data InLoops : Bool → Option Agreement → Agreement → Type 0 where
-  NoneLeft : (a : Agreement) → InLoops false None a
-  OneLeft : (loop : Bool) (o a : Agreement) → Within o a → InLoops loop (Some o) a
-
-pub within_self : (a : Agreement) → Within a a
-within_self a = λ x y p. p
-
-pub within_on : (a b c : Agreement) → Within a b → Within b c → Within a c
-within_on a b c h g = λ x y p. g x y (h x y p)
-
-loops_on : (loop : Bool) (o : Option Agreement) (a b : Agreement) → Within a b → InLoops loop o a → InLoops loop o b
-loops_on loop o a b h (InLoops.NoneLeft _) = InLoops.NoneLeft b
-loops_on loop o a b h (InLoops.OneLeft _ q _ g) = InLoops.OneLeft loop q b (within_on q a b g h)
+use Rattle.hoist_meaning.proofs.SimpleFacts.{right_is_side}
+use Rattle.hoist_meaning.proofs.ConditionSounds.{condition_sound}
+use Rattle.hoist_meaning.proofs.Loops.{InLoops, within_self, within_on, loops_on}
 
 module _ (text : DeepProgram) (program : ProgramTree) (ns text_calls tree_calls : List ℕ) (f : ℕ) (limits : Whole text program ns text_calls tree_calls f) (gives : Bool) where
   abbrev Fit : Bool → Agreement → ℕ → Spot → Spot → RawStmtTree → Type 0
@@ -202,19 +188,6 @@ module _ (text : DeepProgram) (program : ProgramTree) (ns text_calls tree_calls 
           whole = h.whole.2;
         },
       )
-
-  right_side : (names : List Binding) (e : RawExprTree) → right_faults names e ≡ side_faults true names e
-  right_side names (RawNumber v) = refl
-  right_side names (RawName n) = refl
-  right_side names (RawElement n i) = refl
-  right_side names (RawUnary op e) = refl
-  right_side names (RawParenthesized e) = refl
-  right_side names (RawBinary op l r) = refl
-  right_side names (RawLogicalAnd l r) = refl
-  right_side names (RawLogicalOr l r) = refl
-  right_side names (RawConditional c x y) = refl
-  right_side names (RawCall n es) = refl
-  right_side names (RawTableCall n i e) = refl
 
   -- ---- `while`
 
@@ -465,7 +438,7 @@ module _ (text : DeepProgram) (program : ProgramTree) (ns text_calls tree_calls 
           named = h.named;
           place = h.place;
           fine = both.0;
-          left_fine = sym (right_side t1.names (value_left k v)) ∙ faults.1;
+          left_fine = sym (right_is_side t1.names (value_left k v)) ∙ faults.1;
           tree_sizes = subst (λ (u : Spot). Grows u.sizes (function_at program f).sizes) joined h.tree_sizes;
           plain = h.plain;
           in_text = h.in_text;

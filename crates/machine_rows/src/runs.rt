@@ -160,8 +160,7 @@ fn pass(
     requires fuel { 0 < fuel.old.left }
     ensures { IsReady (checked_of accepted.now) (code_of accepted.now) (local_of areas.now context.new) }
 {
-    // What the image's call tells: the pair is valid.
-    let _image = accepted.image();
+    accepted.is_valid();
     retire(context, fuel);
     if let Some(value) = answer {
         reply(context, value);

@@ -1,5 +1,5 @@
 -- `graph` and `build` of a program: some outcome is due.
-use Rattle.std.proofs.Common.{◌≡◌, ◌∙◌, ℕ, ◌+◌, ◌-◌, ◌^◌, ◌<◌, ◌≤◌, ◌⊎◌, inl, inr, Bool, true, false, List, [], ◌∷◌, ◌++◌, eqb, Option, Some, None, refl, sym, ap, subst, arith}
+use Rattle.std.proofs.Common.{◌≡◌, ℕ, ◌+◌, ◌-◌, ◌^◌, ◌<◌, ◌≤◌, ◌⊎◌, inl, inr, Bool, true, false, List, [], ◌∷◌, ◌++◌, eqb, Option, Some, None, refl, subst, arith}
 use Rattle.std.specs.Prelude.{min, option_map, if◌then◌else◌}
 use Rattle.std.specs.List.{IsDistinct}
 use Rattle.std.proofs.lemmas.Bool.{cases_lt}
@@ -8,7 +8,6 @@ use Rattle.c_tree.specs.Trees.{ProgramTree}
 use Rattle.c_tree.specs.WellScoped.{IsWellScoped}
 use Rattle.c_lower.specs.ProgramCode.{lowered}
 use Rattle.c_lower.proofs.Sites.{sites_distinct}
-use Rattle.flat_code.specs.Codes.{FlatCode}
 use Rattle.flat_code.specs.WellFormed.{site_numbers}
 use Rattle.call_graph.specs.Graph.{CallGraphState}
 use Rattle.cycle_break.specs.BackEdges.{back_edges}
@@ -17,7 +16,7 @@ use Rattle.checkpoint_place.specs.declared.refusals.PlaceError.{PlaceError}
 use Rattle.checkpoint_place.specs.declared.refusals.PlaceError.TheVariants as place
 use Rattle.checkpoint_place.specs.Refusal.{is_too_large, refusal_from}
 use Rattle.stack_plan.specs.Plans.{weights_of}
-use Rattle.stack_build.specs.Builds.{frame_refusal, IsPlacedBy, IsPlanned, IsTooLarge, IsLaidOut}
+use Rattle.stack_build.specs.Builds.{frame_refusal, IsPlacedBy, IsPlanned, IsLaidOut}
 use Rattle.stack_build.specs.Refusals.{of_place}
 use Rattle.stack_build.specs.declared.refusals.BuildError.{BuildError}
 use Rattle.stack_build.specs.declared.refusals.BuildError.TheVariants.{FrameTooLarge, CodeTooLarge, Memory}
@@ -28,9 +27,9 @@ use Rattle.codegen_link.specs.Layout.{code_words}
 use Rattle.analysis_lines.specs.Lines.{analysis_lines, name_at}
 use Rattle.command_outcomes.specs.declared.documents.Document.TheVariants as document
 use Rattle.command_outcomes.specs.declared.stops.Cause.TheVariants as cause
-use Rattle.command_outcomes.specs.Outcome.{Outcome, printed, refused}
+use Rattle.command_outcomes.specs.Outcome.{printed, refused}
 use Rattle.command_outcomes.specs.CauseLines.{frame_words, refusal}
-use Rattle.capriccio_commands.specs.Graphs.{names_of, IsAnalysed, IsFrameRefused, HasFittingFrames, GraphsProgram, Graphs}
+use Rattle.capriccio_commands.specs.Graphs.{names_of, IsFrameRefused, HasFittingFrames, GraphsProgram, Graphs}
 use Rattle.capriccio_commands.specs.BuildsFiles.{built, HasFittingCode, IsUnbuilt, BuildsProgram, Builds}
 use Rattle.capriccio_commands.proofs.LoweredGraph.{lowered-graph}
 use Rattle.capriccio_commands.proofs.OneBuild.{plans-are-one}

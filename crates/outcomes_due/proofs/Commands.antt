@@ -1,5 +1,5 @@
 -- Commands of which an outcome is always due.
-use Rattle.std.proofs.Common.{◌≡◌, ℕ, ◌+◌, ◌*◌, ◌<◌, ◌≤◌, ◌⊎◌, inl, inr, refl, List, Option, arith}
+use Rattle.std.proofs.Common.{ℕ, ◌<◌, ◌≤◌, ◌⊎◌, inl, inr, refl, List, Option}
 use Rattle.std.proofs.lemmas.Bool.{cases_lt}
 use Rattle.cap_io.specs.Files.{Files}
 use Rattle.c_tree.specs.Trees.{ProgramTree}
@@ -11,23 +11,22 @@ use Rattle.stack_certificate.specs.declared.certificates.Certificate.{Certificat
 use Rattle.machine_world.specs.WellFormed.{AreWords}
 use Rattle.command_words.specs.declared.options.Placement.{Placement}
 use Rattle.command_words.specs.declared.options.Policy.{Policy as RunOptions}
-use Rattle.command_words.specs.WordList.{Request, Serve, Run, Build, Check, Graph, Demo, Budget, IsWordList}
+use Rattle.command_words.specs.WordList.{Request, Run, Build, Check, Graph, Budget, IsWordList}
 use Rattle.command_outcomes.specs.declared.stops.Cause.TheVariants as cause
-use Rattle.command_outcomes.specs.Outcome.{Outcome}
 use Rattle.command_outcomes.specs.CauseLines.{refusal}
 use Rattle.command_outcomes.specs.Done.{Outside}
-use Rattle.command_outcomes.specs.Loads.{IsSourceText, IsImageText, IsCertificateText}
 use Rattle.capriccio_commands.specs.declared.check_command.Verdict.TheVariants.{Accepted, Rejected}
+use Rattle.capriccio_commands.specs.Budgets.{BudgetsBytes, Budgets}
 use Rattle.capriccio_commands.specs.Checks.{verdict_outcome, ChecksPair, ChecksBytes, Checks}
 use Rattle.capriccio_commands.specs.RunSteps.{IsRunPolicy}
 use Rattle.capriccio_commands.specs.Runs.{setup_of, pool_bytes, RunsPair, RunsBytes, Runs}
 use Rattle.capriccio_commands.specs.Due.{Does, IsDue, sizes_of}
 use Rattle.capriccio_commands.proofs.Options.{run-policy}
 use Rattle.pairs_decided.proofs.Pairs.{pair_decided}
-use Rattle.words_decided.proofs.Requests.{list_or_none}
 use Rattle.outcomes_due.specs.Told.{HoldBytes}
 use Rattle.outcomes_due.proofs.Loading.{Some_due, three_due, source_due, image_due, certificate_due}
 use Rattle.outcomes_due.proofs.Building.{graph_due, build_due}
+use Rattle.outcomes_due.proofs.Budgeting.{budget_pair}
 use Rattle.outcomes_due.proofs.Running.{IsInRange, run_due}
 
 abbrev PairFailure : ProgramTree → Image → Certificate → Type 0
@@ -46,9 +45,18 @@ check_due files source image certificate are =
     image_due i _ i_bytes (λ img img_is.
     certificate_due c _ (λ cert cert_is. check_pair program img cert (pair_decided (lowered program) img cert)))))
 
+-- ---- budget
+
+pub budget_due : (files : Option Files) (source image certificate : List ℕ) → HoldBytes files → Some_due (Budgets files source image certificate)
+budget_due files source image certificate are =
+    three_due files source image certificate BudgetsBytes are (λ s i c i_bytes.
+    source_due s _ (λ program is.
+    image_due i _ i_bytes (λ img img_is.
+    certificate_due c _ (λ cert cert_is. budget_pair program is.scoped img cert (pair_decided (lowered program) img cert)))))
+
 -- ---- run
 
-in_range : (program : ProgramTree) (i : Image) (c : Certificate) (policy : RunOptions) → IsRunPolicy policy → pool_bytes policy c ≤ 67108864 → IsInRange (setup_of program i c policy)
+pub in_range : (program : ProgramTree) (i : Image) (c : Certificate) (policy : RunOptions) → IsRunPolicy policy → pool_bytes policy c ≤ 67108864 → IsInRange (setup_of program i c policy)
 in_range program i c policy ranges pool = record {
   some_chunks = ranges.some_chunks;
   chunks = ranges.chunks;
@@ -99,3 +107,6 @@ graph_words_due words before source placement is are = of_request words before (
 pub build_words_due : (words : List (List ℕ)) (before : Outside) (source image certificate : List ℕ) (placement : Placement) → IsWordList words (Build source image certificate placement) → HoldBytes before.files → Some_due (IsDue words before)
 build_words_due words before source image certificate placement is are =
     of_request words before (Build source image certificate placement) is (build_due before.files source image certificate (sizes_of placement) are)
+
+pub budget_words_due : (words : List (List ℕ)) (before : Outside) (source image certificate : List ℕ) → IsWordList words (Budget source image certificate) → HoldBytes before.files → Some_due (IsDue words before)
+budget_words_due words before source image certificate is are = of_request words before (Budget source image certificate) is (budget_due before.files source image certificate are)

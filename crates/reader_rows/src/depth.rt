@@ -16,7 +16,8 @@ TooDeep 267: int f() { a = |1?1:|63|1||; }
 TooDeep 322: int f() { |if(1)|62|;|| }
 TooDeep 511: int f() { |while(1)|62|;|| }
 TooDeep 447: int f() { |for(;;)|62|;|| }
-TooDeep 694: int f() { |if(1);else |62|;|| }";
+TooDeep 694: int f() { |if(1);else |62|;|| }
+TooDeep 77: int f() { a = |!|63|1?2:3||; }";
 
 // Long sources that open nothing for long, and such that open too much or fit nothing.
 const LONG: &str = "tree 1: int f() { a = 1|+1|500000|||; }
@@ -28,6 +29,19 @@ TooDeep 139: int f() { a =|- |524000|||
 TooDeep 76: int f() { a =|!|1048000|||
 TooDeep 71: int f()|{|1048000|||
 TooDeep 322: int f() { |if(1)|200000|||";
+
+// A hundred constructs of each kind, one after another.
+const CLOSED: &str = "tree 1: int f() { |{}|100||| }
+tree 1: int f() { a = 0|+(1)|100|||; }
+tree 1: int f() { a = 0|+a[1]|100|||; }
+tree 1: int f() { a = 0|+-1|100|||; }
+tree 1: int f() { a = 0|+!1|100|||; }
+tree 1: int f() { a = 0|+(1?2:3)|100|||; }
+tree 1: int f() { |a = 1?2:3;|100||| }
+tree 1: int f() { |if(1);|100||| }
+tree 1: int f() { |if(1);else;|100||| }
+tree 1: int f() { |while(1);|100||| }
+tree 1: int f() { |for(;;);|100||| }";
 
 // Whether the grammar gives this answer for the source of the parts.
 fn built_gives(alloc: Global, parts: &str, more: usize, want: &str) -> bool {
@@ -44,7 +58,7 @@ fn built_gives(alloc: Global, parts: &str, more: usize, want: &str) -> bool {
 #[test]
 fn the_limit_of_each_construct(rt: HostRuntime) {
     let mut rows = LIMITS;
-    for _ in 0..11 {
+    for _ in 0..12 {
         let (row, after) = first_line(rows);
         let (want, parts) = wanted(row);
         let fits = built_gives(rt.alloc(), parts, 0, "tree 1");
@@ -61,6 +75,18 @@ fn the_limit_of_each_construct(rt: HostRuntime) {
 fn long_sources(rt: HostRuntime) {
     let mut rows = LONG;
     for _ in 0..9 {
+        let (row, after) = first_line(rows);
+        let (want, parts) = wanted(row);
+        assert!(rt; built_gives(rt.alloc(), parts, 0, want), "{row}");
+        rows = after;
+    }
+    assert!(rt; rows.is_empty());
+}
+
+#[test]
+fn constructs_are_closed(rt: HostRuntime) {
+    let mut rows = CLOSED;
+    for _ in 0..11 {
         let (row, after) = first_line(rows);
         let (want, parts) = wanted(row);
         assert!(rt; built_gives(rt.alloc(), parts, 0, want), "{row}");

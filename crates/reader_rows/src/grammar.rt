@@ -78,6 +78,9 @@ NestedCall 18: int f() { return (f()); }
 NestedCall 14: int f() { if (f()) ; }
 NestedCall 18: int f() { a = 1 + t[2](3); }
 NestedCall 12: int f() { g(h()); a = -g(); }
+NestedCall 21: void f() { for (i = -g(); 1; h()) ; }
+NestedCall 18: void f() { for (; g(); ) ; }
+NestedCall 23: void f() { for (;; i = g() + 1) ; }
 Unexpected 20: int f() { g(h()); } 1";
 
 // The tree's number of items, or the refusal with its place.
@@ -124,7 +127,7 @@ pub(crate) fn gives(alloc: Global, source: &[u8], want: &str) -> bool {
 #[test]
 fn reads_and_refuses(rt: HostRuntime) {
     let mut rows = ROWS;
-    for _ in 0..70 {
+    for _ in 0..73 {
         let (row, after) = first_line(rows);
         let (want, source) = wanted(row);
         assert!(rt; gives(rt.alloc(), source.as_bytes(), want), "{row}");

@@ -5,7 +5,7 @@ use c_scope::{SourceError, read_program};
 use std::alloc::Global;
 
 // The readers one after another: tokens, tree, rules, `main`, where a later reading has no word if an earlier one refuses
-// (the first fourteen); then the rules of scope, each broken and beside it kept.
+// (the first fourteen); then the rules of scope, each broken and beside it kept; then what is declared again or hides.
 const ROWS: &str = "program: int main() { put(7); return 0; }
 NoMain: 
 OpenComment at 0: /* x
@@ -64,7 +64,21 @@ program: int main() { int wait_for; waitfor(0, 5); return 0; }
 Kind at 4: int a[0]; int main() { return 0; }
 Kind at 11: void f() { return 1; } int main() { return 0; }
 Kind at 13: int main() { break; return 0; }
-program: int main() { while (1) { if (1) continue; break; } return 0; }";
+program: int main() { while (1) { if (1) continue; break; } return 0; }
+Twice at 17: int f(int x, int x); int f(int a, int b) { return a; } int main() { return 0; }
+Twice at 26: int f() { return 0; } int f() { return 0; } int main() { return 0; }
+program: int f() { return 0; } int f(); int main() { return f(); }
+NoMain: int main;
+Twice at 14: int main; int main() { return 0; }
+Kind at 40: int f(int x) { return x; } int main() { f[0](1); return 0; }
+Arity at 30: void w(int n) {} int main() { spawn(w); return 0; }
+Arity at 30: void w(int n) {} int main() { spawn(w, 1, 2); return 0; }
+program: int a[2]; int main() { for (int a = 0; a < 1; a = a + 1) ; return a[1]; }
+Kind at 39: int a[2]; int main() { for (int a = 0; a[0]; ) ; return 0; }
+program: int a[2]; int main() { int a = a[1]; return a; }
+Kind at 31: int a[2]; int main() { int a = a; return 0; }
+Kind at 10: int f(int put) { return 0; } int main() { return 0; }
+Kind at 10: int f(int spawn); int f(int x) { return x; } int main() { return 0; }";
 
 /// Whether the refusal is printed so.
 pub(crate) fn is_printed(alloc: Global, error: &SourceError, want: &str) -> bool {
@@ -99,7 +113,7 @@ pub(crate) fn tells(alloc: Global, source: &[u8], want: &str) -> bool {
 #[test]
 fn the_first_reader_refuses_and_the_rules_of_scope(rt: HostRuntime) {
     let mut rows = ROWS;
-    for _ in 0..59 {
+    for _ in 0..73 {
         let (row, after) = first_line(rows);
         let (want, source) = wanted(row);
         assert!(rt; tells(rt.alloc(), source.as_bytes(), want), "{row}");

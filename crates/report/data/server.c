@@ -1,23 +1,27 @@
-// An arrival is the number of a channel. On it come the prices of an order, one after another; 500 ticks after the last of them the
-// order is over. Two workers take orders, and each answers with what both have sold so far.
-int sold;
+// Three workers share four units. The second request reads past its array, while the third waits for its units.
+int get(int i) {
+  int a[4];
+  a[0] = 7;
+  return a[i];
+}
 
-int sum_of(int channel) {
-  int sum;
-  sum = 0;
-  while (waitfor(channel, 500)) sum = sum + wait(channel);
-  return sum;
+int twice(int i) {
+  return get(i) + get(i + 1);
 }
 
 void worker(int n) {
+  int request;
   while (1) {
-    sold = sum_of(accept()) + sold;
-    put(sold);
+    request = accept();
+    take(1, request);
+    sleep(50);
+    put(twice(request));
+    give(1, request);
   }
 }
 
 int main() {
-  spawn(worker, 1);
-  spawn(worker, 2);
+  int n;
+  for (n = 0; n < 3; n = n + 1) spawn(worker, n);
   return 0;
 }

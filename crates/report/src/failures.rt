@@ -5,7 +5,7 @@ use std::alloc::AllocError;
 /// Why there is no report, or not all of it.
 #[derive(Clone, Copy)]
 pub enum Failure {
-    /// The words don't say what is to be shown.
+    /// The words behind `--log` are those of no run.
     Words,
     /// The file of the source is none.
     Source,
@@ -36,7 +36,7 @@ impl Failure {
     pub fn line(self) -> &'static [u8] {
         match self {
             Failure::Words => {
-                b"usage: report [--timeline FILE] [--graph FILE] --log LOG serve SRC ..\n"
+                b"usage: report [--timeline FILE] [--graph FILE] [--log LOG] serve SRC .. | run SRC IMG CRT ..\n"
             }
             Failure::Source => b"report: the source is none\n",
             Failure::Log => b"report: the log is none\n",

@@ -1,20 +1,21 @@
-// A program that shows what happened in a run of Capriccio, from its log.
+// A program that makes a run of Capriccio and shows what happened in it.
 //
-// In: options of its own and the words of the run, the log and the source in files, and the run's trace on standard input. Out: a
-// report on standard output, pictures in files, and the status. `./report` makes the run and calls it. docs/REPORT.md says what
-// the report tells. `show` of outcome.rt is the whole program over the objects that it is handed; `main` makes the real ones.
+// In: options of its own and the words of the run, the source in a file, and the trace on standard input. Out: a report on
+// standard output, pictures in files, and the status of the run. The run is that of `capriccio`, which the crate `report_run` calls
+// over a log in memory; with `--log` a stored log is read in place of a run. docs/REPORT.md says what the report tells. `show` of
+// outcome.rt is the whole program over the objects that it is handed; `main` makes the real ones.
 #![tactic(auto)]
 
-mod command_line;
 mod failures;
 mod inputs;
 mod outcome;
+mod subject;
 mod wanted;
 
-use crate::command_line::words_of;
 use crate::failures::{Failure, tell};
 use crate::outcome::show;
 use cap_io::{DirShelf, StdSink, StdSource};
+use report_run::words_of;
 use std::process::ExitCode;
 
 fn main(rt: HostRuntime) -> ExitCode {
@@ -25,10 +26,17 @@ fn main(rt: HostRuntime) -> ExitCode {
         return ExitCode::from(tell(&mut err, Failure::Memory));
     };
     let mut trace = StdSource::new(rt.stdin());
-    let shown = show(rt.alloc(), words, &mut shelf, &mut trace, &mut out);
+    let shown = show(
+        rt.alloc(),
+        words,
+        &mut shelf,
+        &mut trace,
+        &mut out,
+        &mut err,
+    );
     drop(trace);
     match shown {
-        Ok(()) => ExitCode::from(0),
+        Ok(status) => ExitCode::from(status),
         Err(failure) => ExitCode::from(tell(&mut err, failure)),
     }
 }

@@ -1,67 +1,153 @@
 use crate::failures::{Failure, of_memory, of_places, of_report};
 use crate::inputs::{load, read_whole, store};
+use crate::subject::{Subject, subject_of};
 use crate::wanted::Wanted;
-use cap_io::{Shelf, Sink, Source, put_all};
-use report_text::{Places, put_blocking, put_report, put_times};
+use cap_io::{CleanSink, CleanSource, Shelf, Sink, Source, put_all};
+use report_run::make_run;
+use report_text::{Places, last_line, put_blocking, put_line, put_report, put_times, times_of};
+use schedule_log::read_entry;
 use std::alloc::Global;
+use stop_report::put_stop;
+use thread_core::World;
 
 /// The most bytes of a source.
 const MOST_BYTES: u32 = 1_048_576;
 
-/// Shows what the words ask for.
-pub fn show<F: Shelf, S: Source, K: Sink>(
+/// Shows what the words ask for, and answers the status: that of the run, or 0 where a stored log is read.
+pub fn show<F: Shelf, S: Source, K: Sink, E: Sink>(
     alloc: Global,
     words: Vec<String>,
     shelf: &mut F,
     input: &mut S,
     out: &mut K,
-) -> Result<(), Failure> {
+    err: &mut E,
+) -> Result<u8, Failure> {
     let wanted = Wanted::read(alloc, words).map_err(of_memory)?;
-    let places = places_of(alloc, &wanted, shelf)?;
-    let log = log_of(alloc, &wanted, shelf)?;
     let trace = read_whole(alloc, input)?;
-    let text = text_of(
+    let times = times_of(alloc, trace.as_slice()).map_err(of_memory)?;
+    if let Some(name) = &wanted.log {
+        let log = load(alloc, shelf, name.as_str(), u32::MAX)?;
+        let Some(subject) = subject_of(alloc, &wanted.words)? else {
+            return Err(Failure::Words);
+        };
+        show_log(
+            alloc,
+            &wanted,
+            subject,
+            times.as_slice(),
+            log.as_slice(),
+            None,
+            shelf,
+            out,
+        )?;
+        return Ok(0);
+    }
+    show_run(alloc, &wanted, trace, times.as_slice(), shelf, out, err)
+}
+
+/// Makes the run that the words ask for and shows it. Of anything else that they ask for, and of a run that came to no stop, it
+/// hands on what was written.
+fn show_run<F: Shelf, K: Sink, E: Sink>(
+    alloc: Global,
+    wanted: &Wanted,
+    trace: Vec<u8>,
+    times: &[u64],
+    shelf: &mut F,
+    out: &mut K,
+    err: &mut E,
+) -> Result<u8, Failure> {
+    let mut source = CleanSource::new(trace);
+    let mut log = CleanSink::new(alloc);
+    let mut last = None;
+    let status = make_run(
         alloc,
-        &places,
-        trace.as_slice(),
-        log.as_slice(),
-        wanted.chunks(),
-    )?;
-    if put_all(out, text.as_str().as_bytes()).is_err() {
-        return Err(Failure::Write);
-    }
-    store_timeline(alloc, &wanted, &places, log.as_slice(), shelf)?;
-    store_graph(alloc, &wanted, &places, log.as_slice(), shelf)
+        &wanted.words,
+        shelf,
+        &mut source,
+        &mut log,
+        err,
+        &mut last,
+    );
+    drop(source);
+    let shown = show_made(alloc, wanted, times, log.bytes(), &last, shelf, out);
+    drop(last);
+    drop(log);
+    shown?;
+    Ok(status)
 }
 
-/// The places of the source that the words name.
-fn places_of<F: Shelf>(alloc: Global, wanted: &Wanted, shelf: &mut F) -> Result<Places, Failure> {
-    let Some(name) = wanted.source() else {
-        return Err(Failure::Words);
-    };
-    let source = load(alloc, shelf, name.as_str(), MOST_BYTES)?;
-    let file = name.clone().map_err(of_memory)?;
+/// Shows a run that was made, by its log and the world at its stop.
+fn show_made<F: Shelf, K: Sink>(
+    alloc: Global,
+    wanted: &Wanted,
+    times: &[u64],
+    log: &[u8],
+    last: &Option<World>,
+    shelf: &mut F,
+    out: &mut K,
+) -> Result<(), Failure> {
+    match (subject_of(alloc, &wanted.words)?, last) {
+        (Some(subject), Some(world)) => {
+            show_log(alloc, wanted, subject, times, log, Some(world), shelf, out)
+        }
+        _ => put(out, log),
+    }
+}
+
+/// Shows a run by its log and, where it is there, the world at its stop.
+fn show_log<F: Shelf, K: Sink>(
+    alloc: Global,
+    wanted: &Wanted,
+    subject: Subject,
+    times: &[u64],
+    log: &[u8],
+    world: Option<&World>,
+    shelf: &mut F,
+    out: &mut K,
+) -> Result<(), Failure> {
+    let places = places_of(alloc, subject, shelf)?;
+    let text = text_of(alloc, &places, subject, times, log, world)?;
+    put(out, text.as_str().as_bytes())?;
+    store_timeline(alloc, wanted, &places, log, shelf)?;
+    store_graph(alloc, wanted, &places, log, shelf)
+}
+
+/// Writes all of this.
+fn put<K: Sink>(out: &mut K, bytes: &[u8]) -> Result<(), Failure> {
+    match put_all(out, bytes) {
+        Ok(()) => Ok(()),
+        Err(_) => Err(Failure::Write),
+    }
+}
+
+/// The places of the source of a run.
+fn places_of<F: Shelf>(alloc: Global, subject: Subject, shelf: &mut F) -> Result<Places, Failure> {
+    let source = load(alloc, shelf, subject.source, MOST_BYTES)?;
+    let mut file = String::new(alloc);
+    file.push_str(subject.source).map_err(of_memory)?;
     Places::read(alloc, file, source).map_err(of_places)
-}
-
-/// The log that the words name.
-fn log_of<F: Shelf>(alloc: Global, wanted: &Wanted, shelf: &mut F) -> Result<Vec<u8>, Failure> {
-    match &wanted.log {
-        Some(name) => load(alloc, shelf, name.as_str(), u32::MAX),
-        None => Err(Failure::Words),
-    }
 }
 
 /// The report.
 fn text_of(
     alloc: Global,
     places: &Places,
-    trace: &[u8],
+    subject: Subject,
+    times: &[u64],
     log: &[u8],
-    chunks: u32,
+    world: Option<&World>,
 ) -> Result<String, Failure> {
     let mut text = String::new(alloc);
-    put_report(alloc, &mut text, places, trace, log, chunks).map_err(of_report)?;
+    let left = put_report(alloc, &mut text, places, times, log, subject.options).map_err(
+        of_report,
+    )?;
+    let line = last_line(log);
+    if let Some(world) = world {
+        if let Ok(last) = read_entry(line) {
+            put_stop(alloc, &mut text, places, world, left, &last).map_err(of_memory)?;
+        }
+    }
+    put_line(&mut text, line).map_err(of_memory)?;
     Ok(text)
 }
 

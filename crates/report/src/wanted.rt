@@ -1,7 +1,6 @@
-use cap_text::read_dec;
 use std::alloc::{AllocError, Global};
 
-/// What is asked for: the files that the pictures go to, the file of the log, and the words of the run.
+/// What is asked for: the files that the pictures go to, the file of a stored log, and the words of the run.
 #[derive(Drop)]
 pub struct Wanted {
     pub timeline: Option<String>,
@@ -71,31 +70,5 @@ impl Wanted {
                 Ok(Next::Word)
             }
         }
-    }
-
-    /// The name of the source: the second word of the run.
-    pub fn source(&self) -> Option<&String> {
-        self.words.as_slice().get(1)
-    }
-
-    /// How many chunks of the certificate's size the run has, by its words: 1,024 where they don't say.
-    pub fn chunks(&self) -> u32 {
-        let mut chunks: u32 = 1024;
-        let mut is_next = false;
-        for word in self.words.as_slice() {
-            if is_next {
-                chunks = count_or(word.as_str().as_bytes(), chunks);
-            }
-            is_next = word.as_str() == "--chunks";
-        }
-        chunks
-    }
-}
-
-/// The number of chunks that a word spells, or this one.
-fn count_or(word: &[u8], chunks: u32) -> u32 {
-    match read_dec(word, 65_536) {
-        Ok(number) => number as u32,
-        Err(_) => chunks,
     }
 }

@@ -1,3 +1,4 @@
+use crate::lines::{RequestsLine, SpreadPart};
 use order_statistics::spread_of;
 use run_numbers::Numbers;
 use std::alloc::{AllocError, Global};
@@ -25,15 +26,14 @@ pub(crate) fn put_requests(
     numbers: &Numbers,
     times: &[u64],
 ) -> Result<(), AllocError> {
-    let came = numbers.arrivals.len();
-    let dropped = numbers.dropped;
-    let taken = numbers.takes.len();
     let firsts = answered_in(alloc, numbers, times, false)?;
-    let answered = firsts.ticks.len();
-    write!(
-        text,
-        "requests: {came} came, {dropped} dropped, {taken} taken, {answered} answered\n"
-    )?;
+    let line = RequestsLine {
+        came: numbers.arrivals.len() as u64,
+        dropped: numbers.dropped,
+        taken: numbers.takes.len() as u64,
+        answered: firsts.ticks.len() as u64,
+    };
+    write!(text, "{line}\n")?;
     put_latency(text, "first", firsts)?;
     let lasts = answered_in(alloc, numbers, times, true)?;
     put_latency(text, "last", lasts)
@@ -97,15 +97,14 @@ fn put_latency(text: &mut String, which: &str, mut found: Latencies) -> Result<(
     let Some(spread) = spread_of(found.ticks.as_mut_slice()) else {
         return Ok(());
     };
-    let least = spread.least;
-    let median = spread.median;
-    let ninetieth = spread.ninetieth;
-    let ninety_ninth = spread.ninety_ninth;
-    let greatest = spread.greatest;
-    write!(
-        text,
-        "latency to the {which} answer: least {least}, median {median}, 90th {ninetieth}, 99th {ninety_ninth}, greatest {greatest}"
-    )?;
+    let part = SpreadPart {
+        least: spread.least,
+        median: spread.median,
+        ninetieth: spread.ninetieth,
+        ninety_ninth: spread.ninety_ninth,
+        greatest: spread.greatest,
+    };
+    write!(text, "latency to the {which} answer: {part}")?;
     if let Some(slow) = found.slowest {
         let arrived = slow.arrived;
         let thread = slow.thread;

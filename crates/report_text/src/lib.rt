@@ -1,21 +1,24 @@
 // The text of a report on a run.
 //
-// In: the source of a run, its trace and its log. Out: the lines of a report (`put_report`): requests and their latencies, waits by
-// place, chunks, and who is left where; and its
-// pictures (`put_times`, `put_blocking`). `Places` reads where the calls of a source stand. What is counted are the numbers of
-// `run_numbers` and the spreads of `order_statistics`, with their clauses; of the text that shows them no clause speaks.
+// In: the source of a run, the times of its trace and its log. Out: the lines of a report (`put_report`): requests and their
+// latencies, waits by place, chunks, choices, the gate, and who is left where; and its pictures (`put_times`, `put_blocking`).
+// `Places` reads where the calls, the functions and the elements of arrays of a source stand. What is counted are the numbers of
+// `run_numbers` and `gate_spells` and the spreads of `order_statistics`, with their clauses; of the text that shows them no clause
+// speaks.
 #![tactic(auto)]
 
+mod elements;
 mod latencies;
 mod left;
+mod lines;
 mod pictures;
 mod places;
 mod report;
 mod times;
 mod waits;
 
-pub use left::put_left;
+pub use gate_spells::Marks;
 pub use pictures::{put_blocking, put_times};
 pub use places::{Places, PlacesError};
-pub use report::{ReportError, put_report};
+pub use report::{Options, ReportError, last_line, put_line, put_report};
 pub use times::times_of;

@@ -1,12 +1,14 @@
 use crate::latencies::put_requests;
 use crate::left::put_left;
+use crate::lines::{ChunksLine, GateLine};
 use crate::places::Places;
-use crate::times::times_of;
 use crate::waits::put_waits;
 use cap_text::Lines;
-use run_history::History;
-use run_numbers::{Numbers, ReadError, numbers_of};
-use schedule_log::{Entry, read_entry};
+use cap_word::SiteKey;
+use gate_spells::{Marks, Spells};
+use run_history::Happening;
+use run_numbers::{Numbers, ReadError, Takes, Watch, WatchError, numbers_of};
+use schedule_log::{Entry, Item};
 use std::alloc::{AllocError, Global};
 
 /// Why there is no report.
@@ -18,103 +20,215 @@ pub enum ReportError {
     Memory,
 }
 
-/// Appends the report on the run of a source with this trace and this log, of so many chunks.
+/// What a report takes from the options of the run.
+#[derive(Clone, Copy)]
+pub struct Options {
+    /// The number of chunks, of both sizes, and when the gate closes and opens.
+    pub marks: Marks,
+    /// Whether the run has resources beside its chunks. A log doesn't tell their use, so the gate isn't shown then.
+    pub has_caps: bool,
+}
+
+/// What is read off a log beside its numbers, as it is read.
+#[derive(Drop)]
+struct Course<'a> {
+    /// At the number of each site, whether its call is `accept`.
+    accepts: &'a [bool],
+    /// And whether it is `take`.
+    at_take: &'a [bool],
+    marks: Marks,
+    /// The wait at `take` that each thread went past last, since it took its request.
+    takes: Takes,
+    /// One more than the greatest number of a thread that ran.
+    threads: u32,
+    choices: u64,
+    spells: Spells,
+    /// The clock at which the last segment ended.
+    ended: u64,
+    /// How many requests wait, and how many threads are at `accept`.
+    requests: u64,
+    at_accept: u64,
+    /// At how many choices the closed gate held back a request that a thread waited for.
+    held_back: u64,
+}
+
+impl<'a> Watch for Course<'a> {
+    fn see(&mut self, entry: &Entry, told: Happening) -> Result<(), WatchError> {
+        if self.takes.add(told, self.at_take).is_err() {
+            return Err(WatchError::Memory);
+        }
+        self.take(entry, told);
+        let knee = self.marks.knee.min(999);
+        match self.spells.with(Marks { knee, ..self.marks }, told) {
+            Some(spells) => {
+                self.spells = spells;
+                Ok(())
+            }
+            None => Err(WatchError::Ended),
+        }
+    }
+}
+
+impl<'a> Course<'a> {
+    /// Before the first entry.
+    fn new(alloc: Global, accepts: &'a [bool], at_take: &'a [bool], marks: Marks) -> Course<'a> {
+        Course {
+            accepts,
+            at_take,
+            marks,
+            takes: Takes::new(alloc),
+            threads: 0,
+            choices: 0,
+            spells: Spells::new(),
+            ended: 0,
+            requests: 0,
+            at_accept: 0,
+            held_back: 0,
+        }
+    }
+
+    /// Takes one entry more, and what it tells; the gate is as it was before.
+    fn take(&mut self, entry: &Entry, told: Happening) {
+        match entry {
+            Entry::Run { thread, .. } => {
+                self.threads = self.threads.max(thread.saturating_add(1));
+                self.choices = self.choices.saturating_add(1);
+                self.choose(told);
+            }
+            Entry::Block { key, .. } => {
+                if is_accept_at(self.accepts, key) {
+                    self.at_accept = self.at_accept.saturating_add(1);
+                }
+            }
+            _ => (),
+        }
+        match told {
+            Happening::Came {
+                item: Item::Arrive { .. },
+                ..
+            } => self.requests = self.requests.saturating_add(1),
+            Happening::Ran { segment, .. } => self.ended = segment.ended,
+            _ => (),
+        }
+    }
+
+    /// Takes a choice, by what it tells.
+    fn choose(&mut self, told: Happening) {
+        if let Happening::Waited(wait) = told {
+            if wait.request.is_some() {
+                self.requests = self.requests.saturating_sub(1);
+                self.at_accept = self.at_accept.saturating_sub(1);
+                return;
+            }
+        }
+        if !self.spells.is_open() && self.requests > 0 && self.at_accept > 0 {
+            self.held_back = self.held_back.saturating_add(1);
+        }
+    }
+}
+
+/// Whether the innermost call of a key is `accept`.
+fn is_accept_at(accepts: &[bool], key: &SiteKey) -> bool {
+    match key.sites().first() {
+        Some(site) => accepts.get(*site as usize).copied().unwrap_or(false),
+        None => false,
+    }
+}
+
+/// Appends the report on the run of a source with this log and these options, up to what is left at its end. `times` are the times of
+/// the trace's events, in order. The answer is how many of the threads that ran are left.
 pub fn put_report(
     alloc: Global,
     text: &mut String,
     places: &Places,
-    trace: &[u8],
+    times: &[u64],
     log: &[u8],
-    chunks: u32,
-) -> Result<(), ReportError> {
+    options: Options,
+) -> Result<u64, ReportError> {
     let accepts = places.accepts(alloc).map_err(of_memory)?;
-    let numbers = match numbers_of(alloc, log, accepts.as_slice(), chunks) {
-        Ok(numbers) => numbers,
-        Err(ReadError::Memory) => return Err(ReportError::Memory),
-        Err(_) => return Err(ReportError::Log),
-    };
-    put_numbers(alloc, text, places, trace, &numbers).map_err(of_memory)?;
-    put_choices(text, log, numbers.most_held, chunks).map_err(of_memory)?;
-    put_end(alloc, text, places, log, accepts.as_slice())
+    let at_take = places.takes(alloc).map_err(of_memory)?;
+    let mut course = Course::new(alloc, accepts.as_slice(), at_take.as_slice(), options.marks);
+    let read = numbers_of(
+        alloc,
+        log,
+        accepts.as_slice(),
+        options.marks.chunks,
+        &mut course,
+    );
+    let reading = read.map_err(of_reading)?;
+    let numbers = &reading.numbers;
+    put_requests(alloc, text, numbers, times).map_err(of_memory)?;
+    put_waits(alloc, text, places, numbers.waits.as_slice()).map_err(of_memory)?;
+    put_choices(text, numbers, &course, options).map_err(of_memory)?;
+    put_left(
+        text,
+        places,
+        &reading.history,
+        &course.takes,
+        accepts.as_slice(),
+        course.threads,
+    )
+    .map_err(of_memory)
+}
+
+/// Why there is no report, where the log isn't read to its end.
+fn of_reading(error: ReadError) -> ReportError {
+    match error {
+        ReadError::Memory => ReportError::Memory,
+        ReadError::Line | ReadError::Count | ReadError::Ended => ReportError::Log,
+    }
 }
 
 fn of_memory(_error: AllocError) -> ReportError {
     ReportError::Memory
 }
 
-/// Appends the lines on requests and waits.
-fn put_numbers(
-    alloc: Global,
-    text: &mut String,
-    places: &Places,
-    trace: &[u8],
-    numbers: &Numbers,
-) -> Result<(), AllocError> {
-    let times = times_of(alloc, trace)?;
-    put_requests(alloc, text, numbers, times.as_slice())?;
-    put_waits(alloc, text, places, numbers.waits.as_slice())
-}
-
-/// Appends the line on chunks and choices.
+/// Appends the lines on chunks, choices and the gate.
 fn put_choices(
     text: &mut String,
-    log: &[u8],
-    most_held: u32,
-    chunks: u32,
+    numbers: &Numbers,
+    course: &Course,
+    options: Options,
 ) -> Result<(), AllocError> {
-    let choices = choices_in(log);
-    write!(
-        text,
-        "chunks: at most {most_held} of {chunks} held between segments\nchoices: {choices}\n"
-    )
-}
-
-/// How many choices a log has.
-fn choices_in(log: &[u8]) -> u64 {
-    let mut choices: u64 = 0;
-    for line in Lines::new(log) {
-        if let Ok(Entry::Run { .. }) = read_entry(line) {
-            choices = choices.saturating_add(1);
-        }
+    let line = ChunksLine {
+        most_held: numbers.most_held,
+        chunks: options.marks.chunks,
+    };
+    let choices = course.choices;
+    write!(text, "{line}\nchoices: {choices}\n")?;
+    if options.has_caps {
+        return Ok(());
     }
-    choices
+    put_gate(text, course)
 }
 
-/// Appends the lines on what is left after the last entry, and the last line of the log.
-fn put_end(
-    alloc: Global,
-    text: &mut String,
-    places: &Places,
-    log: &[u8],
-    accepts: &[bool],
-) -> Result<(), ReportError> {
-    let mut history = History::new(alloc);
-    let mut threads: u32 = 0;
+/// Appends the line on the gate.
+fn put_gate(text: &mut String, course: &Course) -> Result<(), AllocError> {
+    let spells = course.spells;
+    let is_open = spells.is_open();
+    let since = spells.since.unwrap_or(course.ended);
+    let line = GateLine {
+        times: spells.times,
+        ticks: spells
+            .ticks
+            .saturating_add(course.ended.saturating_sub(since)),
+        held_back: course.held_back,
+    };
+    let end = if is_open { "" } else { ", closed at the end" };
+    write!(text, "{line}{end}\n")
+}
+
+/// The last line of a log.
+pub fn last_line(log: &[u8]) -> &[u8] {
     let mut last: &[u8] = &[];
     for line in Lines::new(log) {
-        let Ok(entry) = read_entry(line) else {
-            return Err(ReportError::Log);
-        };
-        if history.tell(&entry, accepts).is_err() {
-            return Err(ReportError::Log);
-        }
-        threads = threads.max(threads_with(&entry));
         last = line;
     }
-    put_left(text, places, &history, threads).map_err(of_memory)?;
-    put_line(text, last).map_err(of_memory)
-}
-
-/// One more than the number of the thread that an entry chooses.
-fn threads_with(entry: &Entry) -> u32 {
-    match entry {
-        Entry::Run { thread, .. } => thread.saturating_add(1),
-        _ => 0,
-    }
+    last
 }
 
 /// Appends a line of a log.
-fn put_line(text: &mut String, line: &[u8]) -> Result<(), AllocError> {
+pub fn put_line(text: &mut String, line: &[u8]) -> Result<(), AllocError> {
     for byte in line {
         text.push(char::from(*byte))?;
     }

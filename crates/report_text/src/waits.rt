@@ -1,3 +1,4 @@
+use crate::lines::WaitsPart;
 use crate::places::Places;
 use order_statistics::{spread_of, total_of};
 use run_numbers::WaitLength;
@@ -43,14 +44,14 @@ fn put_site_waits(
     let Some(spread) = spread_of(ticks) else {
         return Ok(());
     };
-    let count = spread.count;
-    let median = spread.median;
-    let ninety_ninth = spread.ninety_ninth;
-    let greatest = spread.greatest;
+    let part = WaitsPart {
+        count: spread.count,
+        total,
+        median: spread.median,
+        ninety_ninth: spread.ninety_ninth,
+        greatest: spread.greatest,
+    };
     text.push_str("  ")?;
     places.put_site(text, site)?;
-    write!(
-        text,
-        ": {count}, {total}, {median}, {ninety_ninth}, {greatest}\n"
-    )
+    write!(text, ": {part}\n")
 }

@@ -1,4 +1,4 @@
-use crate::graph::GraphEdge;
+use crate::graph::{GraphEdge, put_label};
 use crate::names::put_escaped;
 use std::alloc::AllocError;
 
@@ -11,24 +11,25 @@ const BOX: u64 = 30;
 /// The left and the right side of the boxes.
 const LEFT: u64 = 420;
 
-const RIGHT: u64 = 800;
+const RIGHT: u64 = 920;
 
 /// How far an arrow bows out for each node between its ends, and at most.
 const BOW: u64 = 45;
 
 const FARTHEST: u64 = 360;
 
-/// Appends the blocking graph as SVG: the nodes one below another with their names, and an arrow for each edge with its count
-/// and the whole part of its average cost. Arrows down stand right of the boxes, and arrows up and back to the same node left.
+/// Appends the blocking graph as SVG: the nodes one below another with their names, and an arrow for each edge with its label.
+/// Arrows down stand right of the boxes, and arrows up and back to the same node left.
 pub fn put_drawing(
     text: &mut String,
     names: &[String],
     edges: &[GraphEdge],
 ) -> Result<(), AllocError> {
-    let height = (names.len() as u64).saturating_mul(STEP).saturating_add(20);
+    let bottom = (names.len() as u64).saturating_mul(STEP).saturating_add(10);
+    let height = bottom.saturating_add(20);
     write!(
         text,
-        "<svg xmlns=\"http://www.w3.org/2000/svg\" width=\"1220\" height=\"{height}\" font-family=\"sans-serif\" font-size=\"11\">\n"
+        "<svg xmlns=\"http://www.w3.org/2000/svg\" width=\"1420\" height=\"{height}\" viewBox=\"0 0 1420 {height}\" font-family=\"sans-serif\" font-size=\"11\">\n"
     )?;
     text.push_str(
         "<defs><marker id=\"tip\" markerWidth=\"8\" markerHeight=\"8\" refX=\"7\" refY=\"4\" orient=\"auto\"><path d=\"M0,0 L8,4 L0,8 z\"/></marker></defs>\n<rect width=\"100%\" height=\"100%\" fill=\"#ffffff\"/>\n",
@@ -41,7 +42,13 @@ pub fn put_drawing(
         put_box(text, node, name.as_str())?;
         node = node.saturating_add(1);
     }
-    text.push_str("</svg>\n")
+    for edge in edges {
+        put_arrow_label(text, edge)?;
+    }
+    write!(
+        text,
+        "<text x=\"{LEFT}\" y=\"{bottom}\">n x c: n segments went so, with c instructions on average; then the average change of what they hold, where there is one</text>\n</svg>\n"
+    )
 }
 
 /// Appends the box of a node.
@@ -63,27 +70,61 @@ fn top_of(node: u64) -> u64 {
     node.saturating_mul(STEP).saturating_add(10)
 }
 
-/// Appends an arrow with its label.
-fn put_arrow(text: &mut String, edge: &GraphEdge) -> Result<(), AllocError> {
-    let count = edge.count;
-    let cost = edge.cost / 256;
-    let start = top_of(u64::from(edge.from)).saturating_add(20);
-    let end = top_of(u64::from(edge.to)).saturating_add(10);
+/// Where an arrow begins, ends and turns, and on which side.
+#[derive(Clone, Copy)]
+struct Arrow {
+    start: u64,
+    end: u64,
+    bow: u64,
+    goes_down: bool,
+}
+
+/// The arrow of an edge.
+fn arrow_of(edge: &GraphEdge) -> Arrow {
     let between = u64::from(edge.from.abs_diff(edge.to));
-    let bow = between.saturating_mul(BOW).saturating_add(30).min(FARTHEST);
-    let middle = (start / 2).saturating_add(end / 2);
-    let (side, far, anchor) = if edge.from < edge.to {
-        (RIGHT, RIGHT + bow, "start")
+    Arrow {
+        start: top_of(u64::from(edge.from)).saturating_add(20),
+        end: top_of(u64::from(edge.to)).saturating_add(10),
+        bow: between.saturating_mul(BOW).saturating_add(30).min(FARTHEST),
+        goes_down: edge.from < edge.to,
+    }
+}
+
+/// Appends an arrow.
+fn put_arrow(text: &mut String, edge: &GraphEdge) -> Result<(), AllocError> {
+    let arrow = arrow_of(edge);
+    let start = arrow.start;
+    let end = arrow.end;
+    let bow = arrow.bow.min(FARTHEST);
+    let (side, far) = if arrow.goes_down {
+        (RIGHT, RIGHT + bow)
     } else {
-        (LEFT, LEFT - bow, "end")
-    };
-    let label = if edge.from < edge.to {
-        RIGHT + bow * 3 / 4 + 4
-    } else {
-        LEFT - bow * 3 / 4 - 4
+        (LEFT, LEFT - bow)
     };
     write!(
         text,
-        "<path d=\"M{side},{start} C{far},{start} {far},{end} {side},{end}\" fill=\"none\" stroke=\"#555555\" marker-end=\"url(#tip)\"/>\n<text x=\"{label}\" y=\"{middle}\" text-anchor=\"{anchor}\">{count} x {cost}</text>\n"
+        "<path d=\"M{side},{start} C{far},{start} {far},{end} {side},{end}\" fill=\"none\" stroke=\"#555555\" marker-end=\"url(#tip)\"/>\n"
     )
+}
+
+/// Appends the label of an arrow, on a white ground.
+fn put_arrow_label(text: &mut String, edge: &GraphEdge) -> Result<(), AllocError> {
+    let arrow = arrow_of(edge);
+    // Arrows of several lengths that have the same middle have their labels at several heights.
+    let lower = u64::from(edge.from.abs_diff(edge.to) % 4) * 12;
+    let middle = (arrow.start / 2)
+        .saturating_add(arrow.end / 2)
+        .saturating_add(lower);
+    let bow = arrow.bow.min(FARTHEST);
+    let (x, anchor) = if arrow.goes_down {
+        (RIGHT + bow * 3 / 4 + 4, "start")
+    } else {
+        (LEFT - bow * 3 / 4 - 4, "end")
+    };
+    write!(
+        text,
+        "<text x=\"{x}\" y=\"{middle}\" text-anchor=\"{anchor}\" paint-order=\"stroke\" stroke=\"#ffffff\" stroke-width=\"4\">"
+    )?;
+    put_label(text, edge)?;
+    text.push_str("</text>\n")
 }

@@ -11,7 +11,7 @@ pub enum Doing {
     Waits { site: u32 },
 }
 
-/// A part of a row: from one column to another, both within it.
+/// A part of a row: from one place to another, both within it.
 #[derive(Clone, Copy)]
 pub struct Mark {
     pub from: u32,
@@ -24,17 +24,30 @@ pub struct Mark {
 pub struct Rows {
     alloc: Global,
     end: u64,
+    wide: u32,
     rows: BTreeMap<u32, Vec<Mark>>,
 }
 
 impl Rows {
-    /// The rows of a run that ended at that clock, before its first entry. It takes no memory.
-    pub fn new(alloc: Global, end: u64) -> Rows {
+    /// The rows of a run that ended at that clock, before its first entry, with places of so many columns, one at least. It takes
+    /// no memory.
+    pub fn new(alloc: Global, end: u64, wide: u32) -> Rows {
         Rows {
             alloc,
             end,
+            wide: wide.max(1),
             rows: BTreeMap::new(alloc),
         }
+    }
+
+    /// The clock at which the run ended.
+    pub fn end(&self) -> u64 {
+        self.end
+    }
+
+    /// How many columns a place has.
+    pub fn wide(&self) -> u32 {
+        self.wide
     }
 
     /// What one entry more tells.
@@ -64,11 +77,16 @@ impl Rows {
         self.mark(segment.thread, segment.began, segment.ended, Doing::Runs)
     }
 
+    /// The place of a clock.
+    fn place_of(&self, clock: u64) -> u32 {
+        column_of(clock, self.end) / self.wide.max(1)
+    }
+
     /// Marks what a thread does from one clock to another.
     fn mark(&mut self, thread: u32, from: u64, to: u64, doing: Doing) -> Result<(), AllocError> {
         let mark = Mark {
-            from: column_of(from, self.end),
-            to: column_of(to, self.end),
+            from: self.place_of(from),
+            to: self.place_of(to),
             doing,
         };
         let row = self.rows.entry(thread)?.or_insert(Vec::new(self.alloc));
@@ -76,8 +94,8 @@ impl Rows {
     }
 }
 
-/// Extends a row by a mark. Marks meet in at most one column: what is done there first is shown, and a mark that has no column
-/// of its own isn't kept.
+/// Extends a row by a mark. Marks meet in at most one place: what is done there first is shown, and a mark that has no place of its
+/// own isn't kept.
 fn extend(row: &mut Vec<Mark>, mark: Mark) -> Result<(), AllocError> {
     let Some(last) = row.last_mut() else {
         row.push(mark)?;

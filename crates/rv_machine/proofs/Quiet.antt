@@ -1,11 +1,10 @@
 -- The rows that store nothing leave every memory.
-use Rattle.std.proofs.Common.{◌≡◌, ℕ, ◌%◌, Bool, true, false, eqb, ℤ, Result, Ok, Err, refl}
+use Rattle.std.proofs.Common.{◌≡◌, ℕ, ◌%◌, Bool, true, false, eqb, ℤ, refl}
 use Rattle.std.proofs.lemmas.Bool.{cond_both}
-use Rattle.cap_word.specs.declared.faults.FaultKind.{FaultKind}
 use Rattle.cap_word.specs.declared.faults.FaultKind.TheVariants.{Misaligned}
 use Rattle.rv_machine.specs.Bytes.{Nothing}
 use Rattle.rv_machine.specs.Registers.{write}
-use Rattle.rv_machine.specs.Rows.{Machine, Goes, Fails, next, relative, passes, sets, jumps, branches, loads}
+use Rattle.rv_machine.specs.Rows.{Machine, Goes, Fails, next, relative, passes, sets, jumps, branches}
 use Rattle.rv_machine.specs.Step.{memory_after}
 
 pub memory_after-jumps : {S : Type 0} (put : S → ℕ → ℕ → S) (memory : S) (m : Machine) (rd target : ℕ) → memory ≡ memory_after put (jumps m rd target) memory
@@ -24,8 +23,3 @@ memory_after-branches put memory m imm true =
     (λ _. refl)
     (λ _. refl)
 memory_after-branches put memory m imm false = refl
-
-pub memory_after-loads : {S : Type 0} (put : S → ℕ → ℕ → S) (memory : S) (m : Machine) (rd : ℕ) (loaded : Result ℕ FaultKind) → memory ≡ memory_after put (loads m rd loaded) memory
-unfolding loads sets
-memory_after-loads put memory m rd (Ok value) = refl
-memory_after-loads put memory m rd (Err kind) = refl

@@ -1,4 +1,5 @@
 -- What a row of the table does to the machine, by its form.
+use Rattle.std.specs.Prelude.{true}
 use Rattle.rv_machine.specs.declared.rows.Row.{Row}
 use Rattle.rv_machine.specs.declared.rows.Row.TheVariants as row
 use Rattle.rv_machine.specs.Rows as rows
@@ -8,8 +9,7 @@ unfoldable pub row_effect : Row → Machine → Outcome
 row_effect row.Passes m = rows.passes m
 row_effect (row.Sets rd value) m = rows.sets m rd value
 row_effect (row.Jumps rd target) m = rows.jumps m rd target
-row_effect (row.Branches imm taken) m = rows.branches m imm taken
-row_effect (row.Loads rd loaded) m = rows.loads m rd loaded
+row_effect (row.Branches imm) m = rows.branches m imm true
 row_effect (row.StoresByte at value) m = rows.byte_stored m at value
 row_effect (row.StoresHalf at value) m = rows.half_stored m at value
 row_effect (row.StoresWord at value) m = rows.word_stored m at value

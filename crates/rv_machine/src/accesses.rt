@@ -19,6 +19,7 @@ pub(crate) fn load_byte<M: Memory>(memory: &M, address: u32) -> Result<u32, Faul
     }
 }
 
+#[inline(always)]
 #[tactic(auto, unfolding(crate::specs::Rows::half_loaded))]
 pub(crate) fn load_half<M: Memory>(memory: &M, address: u32) -> Result<u32, FaultKind>
     ensures { result ≡ half_loaded (M.byte_at memory.now) address }

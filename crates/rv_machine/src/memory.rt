@@ -30,6 +30,7 @@ pub trait Memory {
         ensures whole { self.new ≡ (if result then with_byte self.old address byte else self.old) };
 
     /// The half of two bytes at the address, a multiple of 2, or None where one isn't readable.
+    #[inline(always)]
     #[tactic(auto, unfolding(crate::specs::Bytes::half_at))]
     fn load_half(&self, address: u32) -> Option<u16>
         requires { address % 2 ≡ 0 }

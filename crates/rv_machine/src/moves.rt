@@ -1,7 +1,7 @@
-ghost use Rattle.std.specs.Prelude.{◌≡◌, ℕ, Bool, Option};
+ghost use Rattle.std.specs.Prelude.{◌≡◌, ℕ, Bool, true, Option};
 ghost use Rattle.cap_word.specs.Word as word;
 ghost use Rattle.rv_machine.specs.Registers as file;
-ghost use Rattle.rv_machine.specs.Rows.{jumps, branches, loads};
+ghost use Rattle.rv_machine.specs.Rows.{jumps, branches};
 ghost use Rattle.rv_machine.specs.Step.{machine, answer, regs_after};
 ghost use Rattle.rv_machine.specs.declared.results.StepResult.TheVariants.{Went, Fault};
 
@@ -86,32 +86,17 @@ impl Regs {
         StepResult::Went
     }
 
-    // A branch, taken where the test holds.
-    #[tactic(auto, unfolding(crate::specs::Rows::branches, crate::specs::Rows::passes))]
-    pub(crate) fn branch(&mut self, imm: BranchOffset, taken: bool) -> StepResult
-        ensures answer { (bytes : ℕ → Option ℕ) (writable : ℕ → Bool) → result ≡ answer (branches (machine self.old bytes writable) imm taken) self.old }
-        ensures registers { (bytes : ℕ → Option ℕ) (writable : ℕ → Bool) → self.new ≡ regs_after (branches (machine self.old bytes writable) imm taken) self.old }
+    // A branch that is taken.
+    #[tactic(auto, unfolding(crate::specs::Rows::branches))]
+    pub(crate) fn branch(&mut self, imm: BranchOffset) -> StepResult
+        ensures answer { (bytes : ℕ → Option ℕ) (writable : ℕ → Bool) → result ≡ answer (branches (machine self.old bytes writable) imm true) self.old }
+        ensures registers { (bytes : ℕ → Option ℕ) (writable : ℕ → Bool) → self.new ≡ regs_after (branches (machine self.old bytes writable) imm true) self.old }
     {
-        if !taken {
-            return self.advance();
-        }
         let target = self.relative(imm.value());
         if target % 4 != 0 {
             return self.fault(FaultKind::Misaligned);
         }
         self.pc = target;
         StepResult::Went
-    }
-
-    // A register gets what was loaded.
-    #[tactic(auto, unfolding(crate::specs::Rows::loads, crate::specs::Rows::sets))]
-    pub(crate) fn load(&mut self, rd: Register, loaded: Result<u32, FaultKind>) -> StepResult
-        ensures answer { (bytes : ℕ → Option ℕ) (writable : ℕ → Bool) → result ≡ answer (loads (machine self.old bytes writable) rd loaded) self.old }
-        ensures registers { (bytes : ℕ → Option ℕ) (writable : ℕ → Bool) → self.new ≡ regs_after (loads (machine self.old bytes writable) rd loaded) self.old }
-    {
-        match loaded {
-            Ok(value) => self.set(rd, value),
-            Err(kind) => self.fault(kind),
-        }
     }
 }

@@ -1,6 +1,7 @@
 ghost use Rattle.std.specs.Prelude.{◌≡◌};
 ghost use Rattle.rv_machine.specs.Effect.{effect};
 ghost use Rattle.rv_machine.specs.RowEffect.{row_effect};
+ghost use Rattle.rv_machine.specs.Rows.{branches, loads};
 ghost use Rattle.rv_machine.specs.Step.{machine};
 
 use crate::accesses::{extend_byte, extend_half, load_byte, load_half, load_word};
@@ -12,7 +13,8 @@ use cap_word::{
 };
 use rv_code::{BranchOffset, Instr, Register};
 
-// What an instruction does, in the few forms that the rows of the table have, with the values that it reads.
+// What an instruction does, in the few forms that the rows of the table have, with the values that it reads. Each field but a
+// fault's kind has 32 bits, so that a value stays whole in a register of the processor on which this runs.
 #[derive(Drop)]
 pub(crate) enum Row {
     // On to the next instruction.
@@ -21,10 +23,8 @@ pub(crate) enum Row {
     Sets(Register, u32),
     // A jump to a place, which leaves the next place in a register.
     Jumps(Register, u32),
-    // A branch, taken where the test holds.
-    Branches(BranchOffset, bool),
-    // A register gets what was loaded.
-    Loads(Register, Result<u32, FaultKind>),
+    // A branch that is taken.
+    Branches(BranchOffset),
     // To an address, the low byte of a value is stored.
     StoresByte(u32, u32),
     // To an address, the low half of a value is stored.
@@ -37,6 +37,29 @@ pub(crate) enum Row {
     Fails(FaultKind),
 }
 
+// The row of a branch, which is taken where the test holds.
+#[tactic(auto, unfolding(crate::specs::RowEffect::row_effect, crate::specs::Rows::branches, crate::specs::Rows::passes))]
+fn branch_row<M: Memory>(memory: &M, regs: &Regs, imm: BranchOffset, taken: bool) -> Row
+    ensures { row_effect result (machine regs.now (M.byte_at memory.now) (M.is_writable memory.now)) ≡ branches (machine regs.now (M.byte_at memory.now) (M.is_writable memory.now)) imm taken }
+{
+    if taken {
+        Row::Branches(imm)
+    } else {
+        Row::Passes
+    }
+}
+
+// The row of a load: a register gets what was loaded.
+#[tactic(auto, unfolding(crate::specs::RowEffect::row_effect, crate::specs::Rows::loads, crate::specs::Rows::sets))]
+fn load_row<M: Memory>(memory: &M, regs: &Regs, rd: Register, loaded: Result<u32, FaultKind>) -> Row
+    ensures { row_effect result (machine regs.now (M.byte_at memory.now) (M.is_writable memory.now)) ≡ loads (machine regs.now (M.byte_at memory.now) (M.is_writable memory.now)) rd loaded }
+{
+    match loaded {
+        Ok(value) => Row::Sets(rd, value),
+        Err(kind) => Row::Fails(kind),
+    }
+}
+
 // The row of the table for an instruction, in the manual's order.
 #[tactic(auto, unfolding(crate::specs::Effect::effect, crate::specs::RowEffect::row_effect))]
 pub(crate) fn row_of<M: Memory>(instr: Instr, memory: &M, regs: &Regs) -> Row
@@ -47,29 +70,72 @@ pub(crate) fn row_of<M: Memory>(instr: Instr, memory: &M, regs: &Regs) -> Row
         Instr::Auipc { rd, imm } => Row::Sets(rd, add(regs.pc, upper(imm))),
         Instr::Jal { rd, imm } => Row::Jumps(rd, regs.relative(imm.value())),
         Instr::Jalr { rd, rs1, imm } => Row::Jumps(rd, even(regs.address(rs1, imm))),
-        Instr::Beq { rs1, rs2, imm } => Row::Branches(imm, regs.read(rs1) == regs.read(rs2)),
-        Instr::Bne { rs1, rs2, imm } => Row::Branches(imm, regs.read(rs1) != regs.read(rs2)),
-        Instr::Blt { rs1, rs2, imm } => Row::Branches(
+        Instr::Beq { rs1, rs2, imm } => branch_row(
+            memory,
+            regs,
+            imm,
+            regs.read(rs1) == regs.read(rs2),
+        ),
+        Instr::Bne { rs1, rs2, imm } => branch_row(
+            memory,
+            regs,
+            imm,
+            regs.read(rs1) != regs.read(rs2),
+        ),
+        Instr::Blt { rs1, rs2, imm } => branch_row(
+            memory,
+            regs,
             imm,
             is_below(regs.read(rs1), regs.read(rs2)),
         ),
-        Instr::Bge { rs1, rs2, imm } => Row::Branches(
+        Instr::Bge { rs1, rs2, imm } => branch_row(
+            memory,
+            regs,
             imm,
             !is_below(regs.read(rs1), regs.read(rs2)),
         ),
-        Instr::Bltu { rs1, rs2, imm } => Row::Branches(imm, regs.read(rs1) < regs.read(rs2)),
-        Instr::Bgeu { rs1, rs2, imm } => Row::Branches(imm, regs.read(rs1) >= regs.read(rs2)),
-        Instr::Lb { rd, rs1, imm } => Row::Loads(
+        Instr::Bltu { rs1, rs2, imm } => branch_row(
+            memory,
+            regs,
+            imm,
+            regs.read(rs1) < regs.read(rs2),
+        ),
+        Instr::Bgeu { rs1, rs2, imm } => branch_row(
+            memory,
+            regs,
+            imm,
+            regs.read(rs1) >= regs.read(rs2),
+        ),
+        Instr::Lb { rd, rs1, imm } => load_row(
+            memory,
+            regs,
             rd,
             extend_byte(load_byte(memory, regs.address(rs1, imm))),
         ),
-        Instr::Lh { rd, rs1, imm } => Row::Loads(
+        Instr::Lh { rd, rs1, imm } => load_row(
+            memory,
+            regs,
             rd,
             extend_half(load_half(memory, regs.address(rs1, imm))),
         ),
-        Instr::Lw { rd, rs1, imm } => Row::Loads(rd, load_word(memory, regs.address(rs1, imm))),
-        Instr::Lbu { rd, rs1, imm } => Row::Loads(rd, load_byte(memory, regs.address(rs1, imm))),
-        Instr::Lhu { rd, rs1, imm } => Row::Loads(rd, load_half(memory, regs.address(rs1, imm))),
+        Instr::Lw { rd, rs1, imm } => load_row(
+            memory,
+            regs,
+            rd,
+            load_word(memory, regs.address(rs1, imm)),
+        ),
+        Instr::Lbu { rd, rs1, imm } => load_row(
+            memory,
+            regs,
+            rd,
+            load_byte(memory, regs.address(rs1, imm)),
+        ),
+        Instr::Lhu { rd, rs1, imm } => load_row(
+            memory,
+            regs,
+            rd,
+            load_half(memory, regs.address(rs1, imm)),
+        ),
         Instr::Sb { rs1, rs2, imm } => Row::StoresByte(regs.address(rs1, imm), regs.read(rs2)),
         Instr::Sh { rs1, rs2, imm } => Row::StoresHalf(regs.address(rs1, imm), regs.read(rs2)),
         Instr::Sw { rs1, rs2, imm } => Row::StoresWord(regs.address(rs1, imm), regs.read(rs2)),

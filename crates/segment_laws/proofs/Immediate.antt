@@ -65,9 +65,6 @@ pub record SetsBy (c : Checked) (code : List ℕ) (l : Local) (t : FlatThread) (
   pub others : (r : ℕ) → (r ≡ rd → ⊥) → read next.core.x r ≡ read l.core.x r
   pub areas : next.areas ≡ l.areas
 
-pub SetsBy-one : (c : Checked) (code : List ℕ) (l : Local) (t : FlatThread) (w : ℕ) (frame : Frame) (below : List Frame) (rd value : ℕ) → Sets c code l t w frame below rd value → SetsBy c code l t w 1 frame below rd value
-SetsBy-one c code l t w frame below rd value set = record { next = set.next; leads = set.leads; during = set.during; value_is = set.value_is; others = set.others; areas = set.areas }
-
 -- the same register, twice
 pub SetsBy-two : (c : Checked) (code : List ℕ) (l : Local) (t : FlatThread) (w : ℕ) (frame : Frame) (below : List Frame) (rd first value : ℕ) → (one : Sets c code l t w frame below rd first) → Sets c code one.next t (w + 1) frame below rd value →
     SetsBy c code l t w 2 frame below rd value

@@ -11,7 +11,7 @@ use Rattle.rv_machine.specs.Registers.{read}
 use Rattle.machine_world.specs.Areas.{Areas}
 use Rattle.machine_world.specs.Held.{copies}
 use Rattle.machine_world.specs.InPlace.{HeadersName, TpIsFront}
-use Rattle.machine_world.specs.Local.{Local, Ended, Wrong, tp, t1, with_header, saved_tp, saved_sp, linked, linked_on, unlinked, unlinked_on, begins_at, chunk_with_payload, ended}
+use Rattle.machine_world.specs.Local.{Local, Wrong, tp, t1, with_header, saved_tp, saved_sp, linked, linked_on, unlinked, unlinked_on, begins_at, chunk_with_payload}
 use Rattle.machine_world.proofs.LinkLaws.{saved_tp-with_header}
 use Rattle.segment_laws.specs.Ways.{Owns}
 use Rattle.segment_laws.proofs.Stacks.{word_of-other}
@@ -186,8 +186,3 @@ next_found areas thread sound owns front names more = through front.below refl w
       let behind = Rattle.machine_world.proofs.HeldLaws.copies-cons next c (next ∷ chain_from p (chunk_below p next) n) in
       let held = IsHeld-owned (thread_of areas thread) next owns (omega (arith, here, behind, copies-here next (chain_from p (chunk_below p next) n))) in
       ap (chunk_at (after_give p c)) named ∙ payload_found p next sound held.0
-
--- ---- END
-
-pub ended_is : (areas : Areas) (thread : Thread) → thread.depth ≡ 1 → ended (thread_of areas thread) (thread_of areas thread).core.chain ≡ Stops (Ended (given_areas areas thread.chunk))
-ended_is areas thread last = ap (λ (n : ℕ). ended (thread_of areas thread) (chain_from areas.pool thread.chunk n)) last

@@ -144,7 +144,7 @@ impl Spot {
 impl Areas {
     ghost use Rattle.std.specs.Prelude.{option_map};
     ghost use Rattle.segment_run.specs.Kept.{AreKept};
-    ghost use Rattle.segment_run.specs.Spots.{world_spot, IsOn, IsSpotOf, word_on, with_word_on};
+    ghost use Rattle.segment_run.specs.Spots.{world_spot, IsOn, word_on, with_word_on};
 
     // The spot of an address, if it is on the map.
     fn spot(&self, address: u32) -> Option<Spot>
@@ -196,27 +196,27 @@ impl Areas {
         }
     }
 
-    // The word at a spot.
-    fn word_on(&self, spot: Spot) -> u32
-        requires { IsSpotOf self.now spot }
+    // The word at the spot of an address.
+    fn word_on(&self, spot: Spot, address: u32) -> u32
+        requires { IsOn self.now address spot }
         ensures { result ≡ word_on self.now spot }
     {
         match spot {
             Spot::InGlobals { offset } => self.globals[(offset / 4) as usize],
             Spot::InTables { offset } => self.tables[(offset / 4) as usize],
-            Spot::InPayload { chunk, offset } => self.pool.read(chunk, offset / 4),
+            Spot::InPayload { chunk, .. } => self.pool.read_at(chunk, address),
         }
     }
 
-    // Writes the word at a spot.
-    fn write_on(&mut self, spot: Spot, value: u32)
-        requires { IsSpotOf self.old spot }
+    // Writes the word at the spot of an address.
+    fn write_on(&mut self, spot: Spot, address: u32, value: u32)
+        requires { IsOn self.old address spot }
         ensures { self.new ≡ with_word_on self.old spot value }
     {
         match spot {
             Spot::InGlobals { offset } => self.globals[(offset / 4) as usize] = value,
             Spot::InTables { offset } => self.tables[(offset / 4) as usize] = value,
-            Spot::InPayload { chunk, offset } => self.pool.write(chunk, offset / 4, value),
+            Spot::InPayload { chunk, .. } => self.pool.write_at(chunk, address, value),
         }
     }
 }
@@ -240,7 +240,7 @@ impl Memory for Areas {
 
     fn load(&self, address: u32) -> Option<u8> {
         match self.spot(address) {
-            Some(spot) => Some((self.word_on(spot) >> (8 * (address % 4)) & 0xff) as u8),
+            Some(spot) => Some((self.word_on(spot, address) >> (8 * (address % 4)) & 0xff) as u8),
             None => None,
         }
     }
@@ -255,8 +255,8 @@ impl Memory for Areas {
     fn store(&mut self, address: u32, byte: u8) -> bool {
         match self.spot(address) {
             Some(spot) if spot.is_writable() => {
-                let word = put_byte(self.word_on(spot), address % 4, byte);
-                self.write_on(spot, word);
+                let word = put_byte(self.word_on(spot, address), address % 4, byte);
+                self.write_on(spot, address, word);
                 true
             }
             _ => false,
@@ -265,7 +265,7 @@ impl Memory for Areas {
 
     fn load_word(&self, address: u32) -> Option<u32> {
         match self.spot(address) {
-            Some(spot) => Some(self.word_on(spot)),
+            Some(spot) => Some(self.word_on(spot, address)),
             None => None,
         }
     }
@@ -273,7 +273,7 @@ impl Memory for Areas {
     fn store_word(&mut self, address: u32, word: u32) -> bool {
         match self.spot(address) {
             Some(spot) if spot.is_writable() => {
-                self.write_on(spot, word);
+                self.write_on(spot, address, word);
                 true
             }
             _ => false,

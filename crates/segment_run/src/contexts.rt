@@ -29,7 +29,7 @@ pub struct Context {
 }
 
 /// One instruction retires: pc goes on to the next and the fuel falls by one. At the ECALL of a call of the thread package
-/// this passes the call.
+/// this passes the call. pc is below 2^32 - 4, and some fuel is left.
 pub fn retire(context: &mut Context, fuel: &mut Fuel)
     requires pc { context.old.pc < 2 ^ 32 - 4 }
     requires fuel { 0 < fuel.old.left }

@@ -21,7 +21,7 @@ const END_STUB: u32 = 0x1000;
 const HEADER: u32 = 16;
 
 /// A new thread at the start of a function, with an argument in a0, on a chunk for the function's bound; None exactly where
-/// no free chunk fits that, and then nothing changes.
+/// no free chunk fits that, and then nothing changes. The function is one of the certificate's.
 pub fn start(
     accepted: &Accepted,
     areas: &mut Areas,

@@ -13,9 +13,6 @@ use Rattle.segment_steps.specs.Alike.{Comes}
 pub goes_one : {S W Q E : Type 0} (m : Move S W Q E) (s t : S) → m ≡ Goes s → m ≡ Goes t → s ≡ t
 goes_one m s t a b = let both : Goes s ≡ Goes t = sym a ∙ b in cc
 
-pub Comes-same : (code : List ℕ) (k : ℕ) (l one other : Local) → Comes code k l one → Comes code k l other → one ≡ other
-Comes-same code k l one other first second = goes_one (moves (local_machine code) k l) one other first second
-
 -- a first step, and then the others
 pub Comes-suc : (code : List ℕ) (k : ℕ) (l next at : Local) → local_step code l ≡ Goes next → Comes code k next at → Comes code (suc k) l at
 Comes-suc code k l next at step rest = ap (λ (m : LocalMove). and_then m (moves (local_machine code) k)) step ∙ rest

@@ -1,5 +1,5 @@
 -- A source is a program, or has a refusal.
-use Rattle.std.proofs.Common.{ℕ, ◌≡◌, ◌⊎◌, inl, inr, refl, List}
+use Rattle.std.proofs.Common.{ℕ, ◌⊎◌, inl, inr, List}
 use Rattle.c_lex.specs.declared.tokens.Token.{Token}
 use Rattle.c_lex.specs.declared.tokens.LexError.{LexError}
 use Rattle.c_lex.specs.Tokens.{AreTokensOf, IsLexErrorOf}
@@ -21,10 +21,10 @@ use Rattle.hoist_rules.proofs.Whole.{items_hoisted_whole}
 use Rattle.hoist_rules.proofs.Temporaries.{items_small}
 use Rattle.grammar_places.specs.Ranks.{site_numbers}
 use Rattle.grammar_places.proofs.RankLaws.{ranks_are_numbers}
-use Rattle.c_hoist.specs.NestedText.{IsHoistedTo, IsRefusedHoisted, ReadsNested, IsNestedSourceErrorOf}
-use Rattle.c_hoist.proofs.CallCounts.{each_call}
+use Rattle.c_hoist.specs.NestedText.{ReadsNested, IsNestedSourceErrorOf}
+use Rattle.hoist_meaning.proofs.TreeCounts.{each_call}
 use Rattle.trees_decided.proofs.Lexing.{lex_decided}
-use Rattle.trees_decided.proofs.Parsing.{AParse, ParsesOrNot, tokens_parse_nested}
+use Rattle.trees_decided.proofs.Parsing.{ParsesOrNot, tokens_parse_nested}
 use Rattle.trees_decided.proofs.Scoping.{IsFree, Refused, free_or_refused, resolved_by, free_numbered_scoped}
 
 -- the source reads as this program, which is well scoped

@@ -34,12 +34,21 @@ pub struct Analysis {
 /// of the walk, and the placement. It refuses with `FrameTooLarge` only where a frame exceeds that or 2,032
 /// bytes, and names the first such function; where there is one, no analysis is given.
 pub fn analyse(alloc: Global, program: &Program, options: Options) -> Result<Analysis, BuildError>
-    ensures refused { IfErr result (λ error. (error ≡ Memory) ⊎ (frame_refusal (lowered (program_tree program.now)) options.max_path ≡ Some error)) }
-    ensures planned { IfOk result (λ a. IsPlacedBy (lowered (program_tree program.now)) options.max_path
-        (record { weights = a.weights; tables = (program_tree program.now).tables; sites = a.sites.items; main = (program_tree program.now).main })
+    ensures refused { IfErr result (λ error. (error ≡ Memory)
+        ⊎ (frame_refusal (lowered (program_tree program.now)) options.max_path ≡ Some error)) }
+    ensures planned { IfOk result (λ a.
+        IsPlacedBy (lowered (program_tree program.now)) options.max_path
+        (record {
+          weights = a.weights;
+          tables = (program_tree program.now).tables;
+          sites = a.sites.items;
+          main = (program_tree program.now).main;
+        })
         a.back (record { checkpointed = a.checkpointed; bounds = a.bounds })) }
     // No frame exceeds 2,032 bytes or its bound, and no bound a path.
-    ensures enough { IfOk result (λ a. IsEnough (lowered (program_tree program.now)) options.max_path (record { checkpointed = a.checkpointed; bounds = a.bounds })) }
+    ensures enough { IfOk result (λ a.
+        IsEnough (lowered (program_tree program.now)) options.max_path
+        (record { checkpointed = a.checkpointed; bounds = a.bounds })) }
 {
     let flat = lower(alloc, program)?;
     let planned = plan_of(alloc, &flat, options.max_path)?;

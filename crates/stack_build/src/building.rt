@@ -4,7 +4,6 @@ ghost use Rattle.certificate_check.specs.Accepting.{accepted_tree};
 ghost use Rattle.certificate_rules.specs.Validity.{IsValid};
 ghost use Rattle.c_lower.specs.ProgramCode.{lowered};
 ghost use Rattle.codegen_link.specs.Plans.{AreInRange};
-ghost use Rattle.flat_code.specs.ProgramView.{program_code};
 ghost use Rattle.stack_build.specs.declared.refusals.BuildError.TheVariants.{Memory};
 ghost use Rattle.stack_build.specs.Builds.{frame_refusal, IsTooLarge, IsLaidOut};
 
@@ -13,7 +12,6 @@ use c_lower::lower;
 use c_tree::Program;
 use certificate_check::{Accepted, CheckError, check};
 use codegen_link::{Options, generate};
-use flat_code::FlatProgram;
 use stack_certificate::Certificate;
 use stack_image::Image;
 use stack_plan::plan_of;
@@ -22,8 +20,6 @@ use std::alloc::Global;
 /// What a program is built into.
 #[derive(Drop)]
 pub struct Built {
-    /// The flat code of the program.
-    pub flat: FlatProgram,
     pub image: Image,
     pub certificate: Certificate,
 }
@@ -35,22 +31,22 @@ pub struct Built {
 pub fn lay_out(alloc: Global, program: &Program, options: Options) -> Result<Built, BuildError>
     requires { AreInRange options }
     ensures refused { IfErr result (λ error. (error ≡ Memory)
-        ⊎ ((frame_refusal (lowered (program_tree program.now)) options.max_path ≡ Some error) ⊎ IsTooLarge (lowered (program_tree program.now)) options error)) }
+        ⊎ ((frame_refusal (lowered (program_tree program.now)) options.max_path ≡ Some error)
+        ⊎ IsTooLarge (lowered (program_tree program.now)) options error)) }
     // Frames come first: no frame is too large where there is a pair, or where the code is too large.
-    ensures frames { MatchResult result (λ _. frame_refusal (lowered (program_tree program.now)) options.max_path ≡ None)
-        (λ error. IsTooLarge (lowered (program_tree program.now)) options error → frame_refusal (lowered (program_tree program.now)) options.max_path ≡ None) }
-    ensures flat { IfOk result (λ build. program_code build.flat ≡ lowered (program_tree program.now)) }
-    ensures laid_out { IfOk result (λ build. IsLaidOut (lowered (program_tree program.now)) options build.image build.certificate) }
-    ensures valid { IfOk result (λ build. IsValid (lowered (program_tree program.now)) build.image build.certificate) }
+    ensures frames { MatchResult result (λ _.
+        frame_refusal (lowered (program_tree program.now)) options.max_path ≡ None)
+        (λ error. IsTooLarge (lowered (program_tree program.now)) options error →
+        frame_refusal (lowered (program_tree program.now)) options.max_path ≡ None) }
+    ensures laid_out { IfOk result (λ build.
+        IsLaidOut (lowered (program_tree program.now)) options build.image build.certificate) }
+    ensures valid { IfOk result (λ build.
+        IsValid (lowered (program_tree program.now)) build.image build.certificate) }
 {
     let flat = lower(alloc, program)?;
     let planned = plan_of(alloc, &flat, options.max_path)?;
     let (image, certificate) = generate(alloc, &flat, &planned.plan, options)?;
-    Ok(Built {
-        flat,
-        image,
-        certificate,
-    })
+    Ok(Built { image, certificate })
 }
 
 /// The accepted program: its image and its certificate are laid out for the placement, and the checker accepts
@@ -58,11 +54,17 @@ pub fn lay_out(alloc: Global, program: &Program, options: Options) -> Result<Bui
 pub fn build(alloc: Global, program: Program, options: Options) -> Result<Accepted, BuildError>
     requires { AreInRange options }
     ensures refused { IfErr result (λ error. (error ≡ Memory)
-        ⊎ ((frame_refusal (lowered (program_tree program)) options.max_path ≡ Some error) ⊎ IsTooLarge (lowered (program_tree program)) options error)) }
-    ensures frames { MatchResult result (λ _. frame_refusal (lowered (program_tree program)) options.max_path ≡ None)
-        (λ error. IsTooLarge (lowered (program_tree program)) options error → frame_refusal (lowered (program_tree program)) options.max_path ≡ None) }
+        ⊎ ((frame_refusal (lowered (program_tree program)) options.max_path ≡ Some error)
+        ⊎ IsTooLarge (lowered (program_tree program)) options error)) }
+    ensures frames { MatchResult result (λ _.
+        frame_refusal (lowered (program_tree program)) options.max_path ≡ None)
+        (λ error. IsTooLarge (lowered (program_tree program)) options error →
+        frame_refusal (lowered (program_tree program)) options.max_path ≡ None) }
     ensures program { IfOk result (λ accepted. accepted_tree accepted ≡ program_tree program) }
-    ensures laid_out { IfOk result (λ accepted. IsLaidOut (lowered (program_tree program)) options accepted.image accepted.certificate) }
+    ensures laid_out { IfOk result (λ accepted.
+        IsLaidOut (lowered (program_tree program)) options accepted.image accepted.certificate) }
+    ensures valid { IfOk result (λ accepted.
+        IsValid (lowered (program_tree program)) accepted.image accepted.certificate) }
 {
     let built = lay_out(alloc, &program, options)?;
     match check(alloc, program, built.image, built.certificate) {

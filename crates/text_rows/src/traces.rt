@@ -38,7 +38,8 @@ fn refusal_of(error: TraceError) -> (u64, u64, u64) {
     }
 }
 
-// Whether a reader gives in ten calls these events and this last refusal. An event behind a refusal would be among them.
+// Whether a reader gives in ten calls these events and then, where there is one, this refusal at each call. An event behind it would
+// be among them.
 fn gives<S: Source>(
     alloc: Global,
     source: &mut S,
@@ -60,8 +61,12 @@ fn gives<S: Source>(
                 }
                 None => same = false,
             },
-            Ok(None) => {}
-            Err(error) => last = refusal_of(error),
+            Ok(None) => same = same && last == NONE,
+            Err(error) => {
+                let refused = refusal_of(error);
+                same = same && (last == NONE || last == refused);
+                last = refused;
+            }
         }
     }
     drop(reader);

@@ -26,7 +26,8 @@ struct Parts {
 
 impl World {
     /// The world in which a run starts: thread 0 is at the start of `main`, and the pool, the queues and a thread's record
-    /// are reserved. The run retires at most `fuel` instructions. A want of memory hands the program back.
+    /// are reserved. The run retires at most `fuel` instructions, which are at most 1,000,000,000. A want of memory hands the
+    /// program back. The policy is in the ranges of `WorldPolicy`, and both sizes of chunk take 67,108,864 bytes at most together.
     pub fn make(
         alloc: Global,
         accepted: Accepted,

@@ -14,7 +14,8 @@ pub enum Delivered {
 }
 
 impl World {
-    /// An event joins its queue, or is dropped: exactly where that queue holds as many items as may wait there.
+    /// An event joins its queue, or is dropped: exactly where that queue holds as many items as may wait there. No segment is
+    /// under way, and the channel of a message is below 64.
     pub fn deliver(&mut self, event: Event) -> Delivered
         requires between { self.old.machine.running ≡ None }
         requires in_range { IsEventInRange event.kind }
@@ -32,7 +33,7 @@ impl World {
         }
     }
 
-    /// The clock goes on to a time.
+    /// The clock goes on to a time, which isn't past and is 2^63 at most. No segment is under way.
     pub fn advance(&mut self, to: u64)
         requires between { self.old.machine.running ≡ None }
         requires later { self.old.machine.clock ≤ to }

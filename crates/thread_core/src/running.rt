@@ -56,6 +56,7 @@ impl State {
         requires { MayRun accepted.now most self.old thread }
         ensures { Ran accepted.now most thread self.old result self.new }
     {
+        // A number of 64 bits, as the clause needs.
         let _most = most;
         let left = self.fuel.left;
         let mut context = self.context(thread);

@@ -87,7 +87,7 @@ impl World {
         self.state.areas.pool().free()
     }
 
-    /// The use of a resource; of resource 0 it is the number of held chunks.
+    /// The use of a resource below 8; of resource 0 it is the number of held chunks.
     pub fn used(&self, resource: u32) -> u32
         requires { resource < 8 }
         ensures use_is { result ≡ used_in self.now.machine resource }
@@ -100,7 +100,7 @@ impl World {
         }
     }
 
-    /// The cap of a resource, 0 where it isn't given; of resource 0 it is the number of chunks of both sizes.
+    /// The cap of a resource below 8, 0 where it isn't given; of resource 0 it is the number of chunks of both sizes.
     pub fn cap(&self, resource: u32) -> u32
         requires { resource < 8 }
         ensures { result ≡ cap_in self.now resource }
@@ -141,7 +141,7 @@ impl World {
         self.state.areas.pool().bytes_of(chunk) / 4
     }
 
-    /// A word of a chunk.
+    /// A word of a chunk of the pool, which has as many as `chunk_words` says.
     pub fn word_at(&self, chunk: u32, word: u32) -> u32
         requires chunk { chunk < self.now.machine.areas.pool.count }
         requires word { word < words_of self.now.machine.areas.pool chunk }

@@ -15,6 +15,7 @@ pub(crate) fn channel_queues(
     for made in 0..64u32 {
         let queue = HeapCircularBuffer::with_capacity(alloc, backlog as usize)?;
         queues.push(queue)?;
+        // The invariant counts by it.
         let _count = made;
     }
     Ok(queues)

@@ -41,49 +41,10 @@ edge 4 2 3 7680 0 -256
 stop idle
 ";
 
-pub(crate) const YIELDING_LOG: &[u8] = b"run 0 0 0
-end 0 31 1022
-run 31 1 0
-block 1 2 0 16 1022
-run 47 2 0
-block 2 2 0 16 1022
-event 100 arrive 5
-run 100 1 2
-block 1 3 1 11 1022
-run 111 1 3
-block 1 4 2 18 1022
-event 129 arrive 6
-run 129 1 4
-block 1 4 2 25 1022
-run 154 1 4
-out 1 5
-block 1 2 0 47 1022
-run 201 2 2
-block 2 3 1 11 1022
-run 212 2 3
-block 2 4 2 18 1022
-run 230 2 4
-block 2 4 2 25 1022
-run 255 2 4
-out 2 6
-block 2 2 0 47 1022
-edge 0 1 1 7936 256 0
-edge 0 2 2 4096 0 0
-edge 2 3 2 2816 0 0
-edge 3 4 2 4608 0 256
-edge 4 2 2 12032 0 -256
-edge 4 4 2 6400 0 0
-stop idle
-";
-
 pub(crate) const ENDLESS_LOG: &[u8] = b"run 0 0 0
 out 0 0
 out 0 1
 stop nochunk 0 64 0
-";
-
-pub(crate) const NO_FUEL_LOG: &[u8] = b"run 0 0 0
-stop fuel 0 0 1023
 ";
 
 pub(crate) const LITTLE_FUEL_LOG: &[u8] = b"run 0 0 0
@@ -106,30 +67,4 @@ event 31 data 0 7
 drop 31 data 0 8
 edge 0 1 1 7936 256
 stop trace 5
-";
-
-pub(crate) const BAD_LOG: &[u8] = b"stop trace 1
-";
-
-pub(crate) const DEEP_LOG: &[u8] = b"run 0 0 0
-block 0 2 0<1<1<1<1<1<1<1 344 6
-run 344 0 2
-end 0 97 16
-edge 0 2 1 88064 2304
-edge 2 1 1 24832 -2560
-stop done
-";
-
-pub(crate) const SLEEPING_LOG: &[u8] = b"run 0 0 0
-block 0 2 0 8 1023
-run 58 0 2
-out 0 1
-end 0 15 1024
-edge 0 2 1 2048 0
-edge 2 1 1 3840 -256
-stop done
-";
-
-pub(crate) const SPAWNING_LOG: &[u8] = b"run 0 0 0
-stop threads 0 1048560 1
 ";

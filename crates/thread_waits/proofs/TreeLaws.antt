@@ -1,10 +1,10 @@
--- The root of a tree of minima is the least leaf, and a changed node concerns the one above it alone.
-use Rattle.std.proofs.Common.{◌≡◌, ◌≢◌, ℕ, zero, suc, ◌+◌, ◌-◌, ◌*◌, ◌/◌, ◌<◌, ◌≤◌, ◌⊎◌, inl, inr, List, length, min, Contains, refl, ◌∙◌, subst, ap, arith, slice_index, slice_set}
+-- The root of a tree of minima is the least leaf.
+use Rattle.std.proofs.Common.{◌≡◌, ℕ, zero, suc, ◌+◌, ◌-◌, ◌*◌, ◌/◌, ◌<◌, ◌≤◌, ◌⊎◌, inl, inr, List, length, Contains, refl, ◌∙◌, subst, ap, arith, slice_index}
 use Rattle.std.proofs.Math.Arith.{bin_ind}
-use Rattle.std.proofs.lemmas.List.{get_or-set_same, get_or-set_other, get_or-drop, length-drop, length-set}
+use Rattle.std.proofs.lemmas.List.{get_or-drop, length-drop}
 use Rattle.std.proofs.lemmas.List.Elements.{All-from_get_or, Contains-get_or}
 use Rattle.thread_waits.specs.Least.{IsLeast}
-use Rattle.thread_waits.specs.Minima.{IsNode, AreMinima, AreMinimaBut, leaves_in}
+use Rattle.thread_waits.specs.Minima.{IsNode, AreMinima, leaves_in}
 
 -- ---- the root
 
@@ -87,38 +87,3 @@ root_least nodes a =
           let k : i < length nodes - length nodes / 2 = rw (length-drop (length nodes / 2) nodes) at h in
           rw (get_or-drop (length nodes / 2) nodes i 0) (root_below nodes a (length nodes / 2 + i) (omega arith) (omega arith)));
     }
-
--- ---- a change
-
--- nothing is excepted where the exception is no inner node
-pub no_exception : (nodes : List ℕ) → AreMinimaBut nodes 0 → AreMinima nodes
-no_exception nodes a = record { double = a.double; node = λ i some below. a.node i some below (λ e. absurd (omega arith)) }
-
-set_node : (nodes : List ℕ) (n value : ℕ) → AreMinimaBut nodes n → value ≡ min (slice_index nodes (2 * n)) (slice_index nodes (2 * n + 1)) →
-    1 ≤ n → n < length nodes / 2 → (i : ℕ) → 1 ≤ i → i < length nodes / 2 → i ≢ n / 2 → (i ≡ n) ⊎ (i ≢ n) → IsNode (slice_set nodes n value) i
-set_node nodes n value a v some below i some_i below_i other (inl e) =
-    rw e (rw (get_or-set_same nodes n value 0 (omega arith), get_or-set_other nodes n (2 * n) value 0 (λ e. absurd (omega arith)), get_or-set_other nodes n (2 * n + 1) value 0 (λ e. absurd (omega arith))) v)
-set_node nodes n value a v some below i some_i below_i other (inr d) =
-    rw (get_or-set_other nodes n i value 0 d, get_or-set_other nodes n (2 * i) value 0 (λ e. other (omega arith)), get_or-set_other nodes n (2 * i + 1) value 0 (λ e. other (omega arith)))
-    (a.node i some_i below_i d)
-
-same_or_not : (i n : ℕ) → (i ≡ n) ⊎ (i ≢ n)
-same_or_not i n = grind arith
-
--- where the excepted node is set to the lesser of its children, the one above it is excepted
-pub step_up : (nodes : List ℕ) (n value : ℕ) → AreMinimaBut nodes n → value ≡ min (slice_index nodes (2 * n)) (slice_index nodes (2 * n + 1)) →
-    1 ≤ n → n < length nodes / 2 → AreMinimaBut (slice_set nodes n value) (n / 2)
-step_up nodes n value a v some below = record {
-  double = record { some = rw (length-set nodes n value) a.double.some; even = rw (length-set nodes n value) a.double.even };
-  node = λ i some_i below_i other. set_node nodes n value a v some below i some_i (rw (length-set nodes n value) at below_i) other (same_or_not i n);
-}
-
--- a leaf that is set excepts the node above it
-pub leaf_set : (nodes : List ℕ) (leaf value : ℕ) → AreMinima nodes → length nodes / 2 ≤ leaf → leaf < length nodes → AreMinimaBut (slice_set nodes leaf value) (leaf / 2)
-leaf_set nodes leaf value a behind there = record {
-  double = record { some = rw (length-set nodes leaf value) a.double.some; even = rw (length-set nodes leaf value) a.double.even };
-  node = λ i some below other.
-      let below_half : i < length nodes / 2 = rw (length-set nodes leaf value) at below in
-      rw (get_or-set_other nodes leaf i value 0 (λ e. absurd (omega arith)), get_or-set_other nodes leaf (2 * i) value 0 (λ e. other (omega arith)), get_or-set_other nodes leaf (2 * i + 1) value 0 (λ e. other (omega arith)))
-      (a.node i some below_half);
-}

@@ -46,6 +46,7 @@ pub(crate) fn one_block_each(alloc: Global) -> Result<Vec<MinTree>, AllocError>
     for made in 0..8u32 {
         let tree = MinTree::new(alloc, 1)?;
         trees.push(tree)?;
+        // The invariant counts by it.
         let _made = made;
     }
     Ok(trees)
@@ -94,6 +95,7 @@ pub(crate) fn grow_places(places: &mut Vec<Option<Wait>>, count: usize) -> Resul
     places.reserve_exact(count - places.len())?;
     for made in places.len()..count {
         places.push(None)?;
+        // The invariant counts by it.
         let _made = made;
     }
     Ok(())

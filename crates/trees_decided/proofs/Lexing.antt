@@ -15,10 +15,11 @@ use Rattle.c_lex.specs.Lexemes.{BeginsComment}
 use Rattle.c_lex.specs.Tokens.{LeadsTo, AreTokensOf, BeginsNone, IsLexErrorOf}
 use Rattle.decisions.specs.Decided.{Decided}
 use Rattle.decisions.proofs.Decisions.{both_decided, denied, implied_decided, first_without, IsFirstWithout, lt_decided, number_same, bool_same, begins_decided}
-use Rattle.trees_decided.proofs.Tables.{some_mark, mark_text-some, mark_text-few}
-use Rattle.trees_decided.proofs.CommentLemmas.{line_comment, block_comment, open_comment}
-use Rattle.trees_decided.proofs.PieceLemmas.{mark_token, bad_byte, space_gap, comment_gap}
-use Rattle.trees_decided.proofs.Leads.{gap_step, token_step, LeadsTo-here}
+use Rattle.trees_decided.proofs.Tables.{some_mark, mark_text-few}
+use Rattle.c_lex.proofs.MarkTable.{mark_text-some}
+use Rattle.c_lex.proofs.CommentLemmas.{line_comment, block_comment, open_comment}
+use Rattle.c_lex.proofs.PieceLemmas.{mark_token, bad_byte, space_gap, comment_gap}
+use Rattle.c_lex.proofs.Leads.{gap_step, token_step, LeadsTo-here}
 use Rattle.trees_decided.proofs.Words.{First, Gap, Token as Kind, Neither, word_first}
 
 -- ---- comments

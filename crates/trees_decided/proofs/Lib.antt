@@ -4,10 +4,6 @@ pub mod Alternatives
 pub mod Trees
 pub mod Parsing
 pub mod Tables
-pub mod TakenLemmas
-pub mod CommentLemmas
-pub mod PieceLemmas
-pub mod Leads
 pub mod Words
 pub mod Lexing
 pub mod Scoping

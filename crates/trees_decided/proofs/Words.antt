@@ -17,8 +17,8 @@ use Rattle.c_lex.specs.Pieces.{IsFirstGap, IsFirstToken}
 use Rattle.decisions.specs.Decided.{Decided}
 use Rattle.decisions.proofs.Decisions.{Below, decided_by, both_decided, either_decided, denied, below_decided, first_without, IsFirstWithout, lt_decided, number_same, bool_same, text_same}
 use Rattle.trees_decided.proofs.Tables.{some_keyword}
-use Rattle.trees_decided.proofs.TakenLemmas.{IsIdentifier-from}
-use Rattle.trees_decided.proofs.PieceLemmas.{IsWordFront, IsWordFront-word, word_token, bad_number}
+use Rattle.c_lex.proofs.TakenLemmas.{IsIdentifier-from}
+use Rattle.c_lex.proofs.PieceLemmas.{IsWordFront, IsWordFront-word, word_token, bad_number}
 
 -- what a text begins with: part of a gap, a token, or what is none
 pub data First (at : ℕ) (text : List ℕ) : Type 0 where

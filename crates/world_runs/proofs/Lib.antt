@@ -1,2 +1,1 @@
 pub mod Stretching
-pub mod Starting

@@ -5,7 +5,5 @@
 #![tactic(auto)]
 
 mod runs;
-mod started;
 
 pub use runs::running_laws;
-pub use started::fresh_law;

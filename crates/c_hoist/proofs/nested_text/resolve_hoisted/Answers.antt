@@ -1,7 +1,7 @@
 use Rattle.std.proofs.Common.{ap, ◌∙◌, length}
 use Rattle.c_tree.specs.RawProgramView.{raw_program_tree}
 use Rattle.c_tree.specs.ProgramView.{program_tree}
-use Rattle.c_hoist.proofs.CallCounts.{each_call}
+use Rattle.hoist_meaning.proofs.TreeCounts.{each_call}
 use Rattle.c_hoist.proofs.Hoisted.{hoisted_by, refused_by}
 use Rattle.c_hoist.proofs.nested_text.resolve_hoisted.Goals as goal
 

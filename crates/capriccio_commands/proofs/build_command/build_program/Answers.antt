@@ -1,6 +1,6 @@
-use Rattle.std.proofs.Common.{inl, subst}
+use Rattle.std.proofs.Common.{inl}
 use Rattle.c_tree.specs.ProgramView.{program_tree}
-use Rattle.flat_code.specs.WellFormed.{IsWellFormed}
+use Rattle.lowered_facts.proofs.Formed.{formed}
 use Rattle.capriccio_commands.specs.BuildsFiles.{BuildsProgram, IsUnbuilt}
 use Rattle.capriccio_commands.proofs.Built.{pair-built}
 use Rattle.command_outcomes.proofs.Follows.{stop-follows}
@@ -19,7 +19,7 @@ products_of-requires-clause-certificate c =
 pub returns-in-Ok-products_of : goal.returns-in-Ok-products_of
 returns-in-Ok-products_of c = λ image certificate.
     pair-built (program_tree c.args.program.now) c.args.options image certificate c.in-Ok.built.image c.in-Ok.built.certificate c.in-Ok-products_of.products
-    c.args.program.now.well_scoped (subst IsWellFormed c.in-Ok.ensures.flat c.in-Ok.built.flat.well_formed) c.in-Ok.ensures.frames c.in-Ok.ensures.valid c.in-Ok.ensures.laid_out c.in-Ok-products_of.ensures
+    c.args.program.now.well_scoped (formed (program_tree c.args.program.now) c.in-Ok.built.image c.in-Ok.built.certificate c.args.program.now.well_scoped c.in-Ok.ensures.valid) c.in-Ok.ensures.frames c.in-Ok.ensures.valid c.in-Ok.ensures.laid_out c.in-Ok-products_of.ensures
 
 pub returns-in-Err : goal.returns-in-Err
 returns-in-Err c = λ image certificate.

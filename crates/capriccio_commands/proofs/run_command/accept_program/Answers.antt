@@ -1,6 +1,6 @@
-use Rattle.std.proofs.Common.{inl, refl, subst}
+use Rattle.std.proofs.Common.{inl, refl}
 use Rattle.c_tree.specs.ProgramView.{program_tree}
-use Rattle.flat_code.specs.WellFormed.{IsWellFormed}
+use Rattle.lowered_facts.proofs.Formed.{formed}
 use Rattle.capriccio_commands.specs.BuildsFiles.{IsUnbuilt}
 use Rattle.capriccio_commands.specs.Runs.{ServesProgram}
 use Rattle.command_outcomes.proofs.Follows.{stop-follows}
@@ -20,7 +20,7 @@ returns-in-Ok-check c = λ trace policy.
     let built = c.in-Ok.built in
     let laid = c.in-Ok.ensures.laid_out in
     let words = ((c.in-Ok.ensures.valid.holds 1 0 2).v1 refl).words refl in
-    let code = code-fits tree program.well_scoped c.args.sizes built.image built.certificate (subst IsWellFormed c.in-Ok.ensures.flat built.flat.well_formed) laid words.1 in
+    let code = code-fits tree program.well_scoped c.args.sizes built.image built.certificate (formed tree built.image built.certificate program.well_scoped c.in-Ok.ensures.valid) laid words.1 in
     let accepts = c.in-Ok-check.ensures.accepted in (
       laid-out-leads trace c.args.sizes policy c.in-Ok-check.accepted tree built.image built.certificate accepts.program_is accepts.image_is accepts.certificate_is c.in-Ok.ensures.frames code laid,
       laid-out-chunk c.args.sizes c.in-Ok-check.accepted tree built.image built.certificate accepts.certificate_is laid,

@@ -11,7 +11,7 @@ make-requires g c = rw c.world_policy.ensures (policy-ranges c.args.policy c.arg
 
 pub run_world-requires-clause-made : goal.run_world-requires-clause-made
 run_world-requires-clause-made g c =
-    made-world c.args.policy c.args.accepted c.in-Ok.world c.requires.range c.requires.pool c.image-image.ensures.valid (rw c.world_policy.ensures at c.in-Ok.ensures.made)
+    made-world c.args.policy c.args.accepted c.in-Ok.world c.requires.range c.requires.pool c.is_valid.ensures (rw c.world_policy.ensures at c.in-Ok.ensures.made)
 
 pub returns-in-Ok-clause-ends : goal.returns-in-Ok-clause-ends
 returns-in-Ok-clause-ends g c =

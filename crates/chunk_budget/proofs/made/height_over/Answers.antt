@@ -1,9 +1,13 @@
 use Rattle.std.proofs.Common.{ap, sym, ◌∙◌, max, arith}
+use Rattle.std.proofs.lemmas.Grind.{common_steps}
 use Rattle.flat_code.specs.ProgramView.{program_code}
 use Rattle.call_graph.specs.Callees.{greatest}
 use Rattle.chunk_budget.specs.Made.{height_asked}
 use Rattle.chunk_budget.proofs.LeastBudgetLemmas.{max-is, greatest-more, greatest-over}
 use Rattle.chunk_budget.proofs.made.height_over.Goals as goal
+
+pub loop-op-init : goal.loop-op-init
+loop-op-init c = record { known = c.nothing_known-known.ensures (program_code c.args.flat.now) c.args.heights.now; most = grind (arith, common_steps) }
 
 pub loop-op-preserved : goal.loop-op-preserved
 loop-op-preserved c =

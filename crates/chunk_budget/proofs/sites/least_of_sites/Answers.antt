@@ -1,10 +1,13 @@
-use Rattle.std.proofs.Common.{ap, sym, ◌∙◌, None}
+use Rattle.std.proofs.Common.{refl, ap, sym, ◌∙◌, None}
 use Rattle.flat_code.specs.Codes.{function_at}
 use Rattle.flat_code.specs.ProgramView.{program_code}
 use Rattle.chunk_budget.specs.Least.{least_in}
 use Rattle.chunk_budget.specs.Tests.{low_site}
 use Rattle.chunk_budget.proofs.LeastLemmas.{below_more}
 use Rattle.chunk_budget.proofs.sites.least_of_sites.Goals as goal
+
+pub loop-function-init : goal.loop-function-init
+loop-function-init c = record { known = c.nothing_known-known.ensures (program_code c.args.flat.now) c.args.heights.now; least = refl }
 
 pub loop-function-preserved : goal.loop-function-preserved
 loop-function-preserved c =

@@ -1,9 +1,9 @@
--- Jumps, branches and loads leave the memory.
-use Rattle.std.proofs.Common.{ℕ, Option, ap}
+-- Jumps and branches leave the memory.
+use Rattle.std.proofs.Common.{ℕ, Option, true, ap}
 use Rattle.rv_machine.specs.Bytes.{put_byte}
 use Rattle.rv_machine.specs.RowEffect.{row_effect}
 use Rattle.rv_machine.specs.Step.{machine}
-use Rattle.rv_machine.proofs.Quiet.{memory_after-jumps, memory_after-branches, memory_after-loads}
+use Rattle.rv_machine.proofs.Quiet.{memory_after-jumps, memory_after-branches}
 use Rattle.rv_machine.proofs.execution.execute.Goals as goal
 
 pub returns-in-Jumps-clause-bytes : goal.returns-in-Jumps-clause-bytes
@@ -22,22 +22,10 @@ pub returns-in-Branches-clause-bytes : goal.returns-in-Branches-clause-bytes
 unfolding row_effect
 returns-in-Branches-clause-bytes g c =
     let m = (machine c.args.regs.now (g.M.Memory.byte_at c.args.memory.now) (g.M.Memory.is_writable c.args.memory.now)) in
-    λ at. rw c.in-Branches.is (ap (λ (bytes : ℕ → Option ℕ). bytes at) (memory_after-branches put_byte m.bytes m c.in-Branches.imm c.in-Branches.taken))
+    λ at. rw c.in-Branches.is (ap (λ (bytes : ℕ → Option ℕ). bytes at) (memory_after-branches put_byte m.bytes m c.in-Branches.imm true))
 
 pub returns-in-Branches-clause-whole : goal.returns-in-Branches-clause-whole
 unfolding row_effect
 returns-in-Branches-clause-whole g c =
     let m = (machine c.args.regs.now (g.M.Memory.byte_at c.args.memory.now) (g.M.Memory.is_writable c.args.memory.now)) in
-    rw c.in-Branches.is (memory_after-branches g.M.Memory.with_byte c.args.memory.now m c.in-Branches.imm c.in-Branches.taken)
-
-pub returns-in-Loads-clause-bytes : goal.returns-in-Loads-clause-bytes
-unfolding row_effect
-returns-in-Loads-clause-bytes g c =
-    let m = (machine c.args.regs.now (g.M.Memory.byte_at c.args.memory.now) (g.M.Memory.is_writable c.args.memory.now)) in
-    λ at. rw c.in-Loads.is (ap (λ (bytes : ℕ → Option ℕ). bytes at) (memory_after-loads put_byte m.bytes m c.in-Loads.rd c.in-Loads.loaded))
-
-pub returns-in-Loads-clause-whole : goal.returns-in-Loads-clause-whole
-unfolding row_effect
-returns-in-Loads-clause-whole g c =
-    let m = (machine c.args.regs.now (g.M.Memory.byte_at c.args.memory.now) (g.M.Memory.is_writable c.args.memory.now)) in
-    rw c.in-Loads.is (memory_after-loads g.M.Memory.with_byte c.args.memory.now m c.in-Loads.rd c.in-Loads.loaded)
+    rw c.in-Branches.is (memory_after-branches g.M.Memory.with_byte c.args.memory.now m c.in-Branches.imm true)

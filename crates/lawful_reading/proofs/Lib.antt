@@ -1,0 +1,4 @@
+pub mod Refused
+pub mod Moves
+pub mod Once
+pub mod Verdicts

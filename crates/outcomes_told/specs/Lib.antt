@@ -1,0 +1,3 @@
+pub mod Looked
+pub mod Given
+pub mod Written

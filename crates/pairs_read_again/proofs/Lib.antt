@@ -1,0 +1,5 @@
+pub mod Fewer
+pub mod Valid
+pub mod Words
+pub mod Lengths
+pub mod Together

@@ -1,0 +1,1 @@
+int main() { put(7); return 0; }

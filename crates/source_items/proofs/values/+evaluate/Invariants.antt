@@ -1,0 +1,15 @@
+use Rattle.std.proofs.Common.{◌≡◌, map, drop}
+use Rattle.std.specs.Prelude.{Ok}
+use Rattle.c_tree.specs.Views.{expr_tree}
+use Rattle.source_items.specs.Rows.{rows_in}
+use Rattle.c_mean.specs.Values.{value}
+use Rattle.c_mean.specs.Chains.{chain_value}
+use Rattle.c_mean.proofs.ChainLemmas.{OperandsInRange}
+use Rattle.source_items.proofs.values.+evaluate.Given as goal
+
+abbrev pub invariant-loop-operator : goal.invariant-loop-operator
+invariant-loop-operator l = record {
+  left : chain_value (rows_in l.names) (rows_in l.globals) (Ok l.left) (map (λ p. (p.0, expr_tree p.1)) (drop l.operator-index l.operator-items))
+      ≡ value (rows_in l.names) (rows_in l.globals) (expr_tree l.expr);
+  in_range : OperandsInRange l.names.widths.now l.globals.widths.now (map (λ p. (p.0, expr_tree p.1)) (drop l.operator-index l.operator-items));
+}

@@ -1,0 +1,21 @@
+-- Where the words of names stand, one name after another.
+use Rattle.std.specs.Prelude.{◌≡◌, ℕ, ◌<◌, List, length, sum, take, slice_index}
+use Rattle.c_mean.specs.Layout.{rows_of}
+use Rattle.source_items.specs.declared.rows.Rows.{Rows}
+
+-- each name's words start behind those of the names before it
+pub record AreStarts (widths starts : List ℕ) : Type 0 where
+  pub count : length starts ≡ length widths
+  pub each : (x : ℕ) → x < length widths → slice_index starts x ≡ sum (take x widths)
+
+-- and there are as many words as the names have
+pub record AreRows (widths starts words : List ℕ) : Type 0 where
+  pub placed : AreStarts widths starts
+  pub full : length words ≡ sum widths
+
+abbrev pub IsRows : Rows → Type 0
+IsRows rows = AreRows rows.widths.now rows.starts.now rows.words.now
+
+-- the rows of the names
+abbrev pub rows_in : Rows → List (List ℕ)
+rows_in rows = rows_of rows.widths.now rows.words.now

@@ -1,0 +1,87 @@
+// The value of an expression.
+
+ghost use Rattle.std.specs.Prelude.{◌≡◌, Ok, MatchOption};
+ghost use Rattle.c_tree.specs.Views.{expr_tree};
+ghost use Rattle.c_mean.specs.Chains.{joined_value, IsDecided, IsOpen};
+ghost use Rattle.c_mean.specs.Layout.{IsInRange};
+ghost use Rattle.c_mean.specs.Values.{value};
+ghost use Rattle.source_items.specs.Rows.{IsRows, rows_in};
+
+use crate::operators::{binary, unary};
+use crate::rows::{Rows, element_of, word_of};
+use c_tree::{Expr, Infix};
+use cap_word::TrapKind;
+
+/// What the left operand decides alone: `&&` where it is 0, and `||` where it isn't.
+fn decided(operator: Infix, left: u32) -> Option<u32>
+    ensures { MatchOption result (IsOpen operator left) (IsDecided operator left) }
+{
+    match operator {
+        Infix::LogicalAnd if left == 0 => Some(0),
+        Infix::LogicalOr if left != 0 => Some(1),
+        Infix::Binary(_) | Infix::LogicalAnd | Infix::LogicalOr => None,
+    }
+}
+
+/// The value of two operands.
+fn joined(operator: Infix, left: u32, right: u32) -> u32
+    ensures { joined_value operator (Ok left) (Ok right) ≡ Ok result }
+{
+    match operator {
+        Infix::Binary(binary_operator) => binary(binary_operator, left, right),
+        Infix::LogicalAnd if left == 0 => 0,
+        Infix::LogicalOr if left != 0 => 1,
+        Infix::LogicalAnd | Infix::LogicalOr => if right == 0 { 0 } else { 1 },
+    }
+}
+
+/// The value of an expression over these names and globals, or its first trap. It recurses as deep as the expression nests.
+pub fn evaluate(names: &Rows, globals: &Rows, expr: &Expr) -> Result<u32, TrapKind>
+    requires names { IsRows names.now }
+    requires globals { IsRows globals.now }
+    requires in_range { IsInRange names.now.widths.now globals.now.widths.now (expr_tree expr.now) }
+    ensures { result ≡ value (rows_in names.now) (rows_in globals.now) (expr_tree expr.now) }
+{
+    match expr {
+        Expr::Number(number) => Ok(*number),
+        Expr::Local(x) => Ok(word_of(names, *x)),
+        Expr::Global(g) => Ok(word_of(globals, *g)),
+        Expr::LocalElement { array, index } => {
+            let index = evaluate(names, globals, index)?;
+            element_of(names, *array, index)
+        }
+        Expr::GlobalElement { array, index } => {
+            let index = evaluate(names, globals, index)?;
+            element_of(globals, *array, index)
+        }
+        Expr::Unary { operator, operand } => {
+            let operand = evaluate(names, globals, operand)?;
+            Ok(unary(*operator, operand))
+        }
+        Expr::Parenthesized(inner) => evaluate(names, globals, inner),
+        Expr::Chain { first, rest } => {
+            let mut left = evaluate(names, globals, first)?;
+            for (operator, operand) in rest {
+                if let Some(word) = decided(*operator, left) {
+                    left = word;
+                } else {
+                    let right = evaluate(names, globals, operand)?;
+                    left = joined(*operator, left, right);
+                }
+            }
+            Ok(left)
+        }
+        Expr::Conditional {
+            condition,
+            then,
+            otherwise,
+        } => {
+            let condition = evaluate(names, globals, condition)?;
+            if condition != 0 {
+                evaluate(names, globals, then)
+            } else {
+                evaluate(names, globals, otherwise)
+            }
+        }
+    }
+}

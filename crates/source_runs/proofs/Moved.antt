@@ -1,0 +1,245 @@
+-- What steps lead to: values that are used, items that are taken, and silent steps one after another.
+use Rattle.std.proofs.Common.{◌≡◌, ◌≢◌, ℕ, zero, suc, ◌+◌, ◌-◌, ◌<◌, ◌≤◌, List, [], ◌∷◌, ◌++◌, length, map, sym, ap, ◌∙◌, arith, refl, subst}
+use Rattle.std.specs.Prelude.{Bool, true, false, Result, Ok, Err, MatchResult, Option, Some, None, Vec, if◌then◌else◌, nat_eq, reverse, slice_index}
+use Rattle.std.specs.List.{AllByRecursion}
+use Rattle.std.specs.declared.alloc.Global.{Global}
+use Rattle.std.proofs.lemmas.Bool.{lt-ltb, le-ltb}
+use Rattle.std.proofs.lemmas.List.{reverse-append, map_push}
+use Rattle.cap_word.specs.Calls.{Call, Immediate, Blocking, call_of, call_of_none, call_of_one, call_of_two}
+use Rattle.cap_word.specs.Runs.{Goes, Asks, Stops, and_then, moves}
+use Rattle.cap_word.proofs.RunLemmas.{goes_on}
+use Rattle.cap_word.specs.declared.calls.Ask.{Ask}
+use Rattle.cap_word.specs.declared.calls.Block.{Block}
+use Rattle.cap_word.specs.declared.traps.TrapKind.{TrapKind}
+use Rattle.c_tree.specs.Trees.{ProgramTree}
+use Rattle.c_mean.specs.Frames as source
+use Rattle.c_mean.specs.Frames.{Running, pushed}
+use Rattle.c_mean.specs.Steps as steps
+use Rattle.c_mean.specs.Steps.{SourceMove, asks_if, branched, delivered_or, entered_by, entered_where, on_value, performs, performs_first, returned, source_machine, source_step, waits_at}
+use Rattle.c_mean.specs.ToDo as todo
+use Rattle.source_items.specs.Items.{AreItems, entered, to_do}
+use Rattle.source_items.specs.declared.items.Item.{Item}
+use Rattle.source_runs.specs.Layouts.{context_at}
+use Rattle.source_runs.specs.Steps.{HasHalted, HasStepped, IsAskThere, IsCalling, LeadsTo}
+use Rattle.source_runs.specs.Threads.{IsThread, IsWaitingFrame, below_of, globals_of, running_of, to_do_by, waiting_frame_of, waiting_of}
+use Rattle.source_runs.specs.declared.frames.Next.{Next}
+use Rattle.source_runs.specs.declared.frames.Next.TheVariants as next
+use Rattle.source_runs.specs.declared.frames.Thread.{Thread}
+use Rattle.source_runs.specs.declared.frames.WaitingFrame.{WaitingFrame}
+use Rattle.source_runs.specs.declared.halts.Halt.{Halt}
+use Rattle.source_runs.specs.declared.halts.Halt.TheVariants as halt
+use Rattle.source_runs.specs.declared.interpreter.Move.{Move}
+use Rattle.source_runs.specs.declared.interpreter.Move.TheVariants as move
+
+module _ (tree : ProgramTree) where
+  -- ---- values
+
+  -- a value's trap stops the thread
+  pub trap-stops : {A : Type 0} (running : Running) (words : List ℕ) (thread : Thread) (v : Result A TrapKind) (k : A → SourceMove) (trap : TrapKind) (h : Halt) → v ≡ Err trap → h ≡ halt.Trap trap → running.globals ≡ globals_of tree words → HasStepped tree (on_value running v k) thread words (Err h)
+  trap-stops running words thread v k trap h e is same =
+      subst (λ (x : Halt). HasStepped tree (on_value running v k) thread words (Err x)) (sym is)
+      (ap (λ x. on_value running x k) e ∙ ap (λ (g : List (List ℕ)). Stops (record { trap = Some trap; globals = g })) same)
+
+  pub halt-stops : {A : Type 0} (running : Running) (words : List ℕ) (thread : Thread) (v : Result A TrapKind) (k : A → SourceMove) (h : Halt) → HasHalted v h → running.globals ≡ globals_of tree words → HasStepped tree (on_value running v k) thread words (Err h)
+  halt-stops running words thread v k (halt.Trap trap) e same = trap-stops running words thread v k trap (halt.Trap trap) e refl same
+  halt-stops running words thread v k halt.Memory e same = tt {0}
+
+  pub memory-stops : (made : SourceMove) (words : List ℕ) (thread : Thread) (h : Halt) → h ≡ halt.Memory → HasStepped tree made thread words (Err h)
+  memory-stops made words thread h e = rw e (tt {0})
+
+  -- the same of an error that was turned into a halt
+  pub trap-from : {A : Type 0} (running : Running) (words : List ℕ) (thread : Thread) (v : Result A TrapKind) (k : A → SourceMove) (trap : TrapKind) (r : Result Move Halt) (h : Halt) → r ≡ Err h → h ≡ halt.Trap trap → v ≡ Err trap → running.globals ≡ globals_of tree words → HasStepped tree (on_value running v k) thread words r
+  trap-from running words thread v k trap r h e is was same = subst (λ (x : Result Move Halt). HasStepped tree (on_value running v k) thread words x) (sym e) (trap-stops running words thread v k trap h was is same)
+
+  pub halt-from : {A : Type 0} (running : Running) (words : List ℕ) (thread : Thread) (v : Result A TrapKind) (k : A → SourceMove) (r : Result Move Halt) (h g : Halt) → r ≡ Err h → h ≡ g → HasHalted v g → running.globals ≡ globals_of tree words → HasStepped tree (on_value running v k) thread words r
+  halt-from running words thread v k r h g e is was same = subst (λ (x : Result Move Halt). HasStepped tree (on_value running v k) thread words x) (sym e) (halt-stops running words thread v k h (subst (HasHalted v) (sym is) was) same)
+
+  pub memory-from : (made : SourceMove) (words : List ℕ) (thread : Thread) (r : Result Move Halt) (h : Halt) → r ≡ Err h → h ≡ halt.Memory → HasStepped tree made thread words r
+  memory-from made words thread r h e is = subst (λ (x : Result Move Halt). HasStepped tree made thread words x) (sym e) (memory-stops made words thread h is)
+
+  -- arguments have led to this, where an error was turned into a halt
+  pub halted-from : (made : Result (List ℕ) TrapKind) (r : Result (Vec ℕ Global) Halt) (h g : Halt) → r ≡ Err h → h ≡ g → HasHalted made g → MatchResult r (λ (v : Vec ℕ Global). made ≡ Ok v.items) (λ (x : Halt). HasHalted made x)
+  halted-from made r h g e is was = subst (λ (x : Result (Vec ℕ Global) Halt). MatchResult x (λ (v : Vec ℕ Global). made ≡ Ok v.items) (λ (y : Halt). HasHalted made y)) (sym e) (subst (HasHalted made) (sym is) was)
+
+  -- a value is used
+  pub value-used : {A : Type 0} (running : Running) (words : List ℕ) (thread : Thread) (v : Result A TrapKind) (k : A → SourceMove) (a : A) (r : Result Move Halt) → v ≡ Ok a → HasStepped tree (k a) thread words r → HasStepped tree (on_value running v k) thread words r
+  value-used running words thread v k a r e h = subst (λ x. HasStepped tree (on_value running x k) thread words r) (sym e) h
+
+  pub made-so : (made other : SourceMove) (words : List ℕ) (thread : Thread) (r : Result Move Halt) → other ≡ made → HasStepped tree made thread words r → HasStepped tree other thread words r
+  made-so made other words thread r e h = subst (λ x. HasStepped tree x thread words r) (sym e) h
+
+  -- ---- branches
+
+  pub first-side : (running : Running) (first second : List todo.Item) (word : ℕ) → word ≢ 0 → branched running first second word ≡ Goes (steps.to_do running first)
+  first-side running first second zero h = absurd (h refl)
+  first-side running first second (suc n) h = refl
+
+  pub second-side : (running : Running) (first second : List todo.Item) (word : ℕ) → word ≡ 0 → branched running first second word ≡ Goes (steps.to_do running second)
+  second-side running first second word h = ap (branched running first second) h
+
+  -- a thread whose frame has other items to do
+  pub moved-items : (thread : Thread) (words : List ℕ) (n : Next) (stack : List Item) (items : List todo.Item) → n ≡ next.Items → to_do stack ≡ items → steps.to_do (running_of tree thread words) items ≡ steps.to_do (running_of tree thread words) (to_do_by n (to_do stack))
+  moved-items thread words n stack items is e = ap (λ (m : Next). steps.to_do (running_of tree thread words) (to_do_by m items)) (sym is) ∙ ap (λ (xs : List todo.Item). steps.to_do (running_of tree thread words) (to_do_by n xs)) (sym e)
+
+  pub goes-with : (thread : Thread) (words : List ℕ) (vec : Vec Item Global) (made : SourceMove) (items : List todo.Item) → made ≡ Goes (steps.to_do (running_of tree thread words) items) → thread.front.next ≡ next.Items → to_do vec.items ≡ items → IsThread tree thread words → AreItems (context_at tree thread.front.function) vec.items → HasStepped tree made (record thread { front = record thread.front { items = vec } }) words (Ok move.Goes)
+  goes-with thread words vec made items e is list h fits = (
+    e ∙ ap (λ (r : Running). Goes r) (moved-items thread words thread.front.next vec.items items is list),
+    record { front = record { function = h.front.function; full = h.front.full; items = fits }; place = h.place; below = h.below; globals = h.globals },
+  )
+
+  -- ---- the first item
+
+  abbrev pub performs_head : Running → List todo.Item → SourceMove
+  performs_head running [] = returned running running.below 0
+  performs_head running (item ∷ rest) = performs tree (steps.to_do running rest) item rest
+
+  pub first-is : (running : Running) (items : List todo.Item) → performs_first tree running items ≡ performs_head running (entered items)
+  first-is running [] = refl
+  first-is running (todo.Enter ∷ rest) = first-is running rest
+  first-is running (todo.Simply s ∷ rest) = refl
+  first-is running (todo.Choose c s r ∷ rest) = refl
+  first-is running (todo.Test c loop ∷ rest) = refl
+  first-is running (todo.Back loop ∷ rest) = refl
+  first-is running (todo.Leave ∷ rest) = refl
+  first-is running (todo.Skip ∷ rest) = refl
+  first-is running (todo.GiveBack v ∷ rest) = refl
+  first-is running (todo.GiveBackWord word ∷ rest) = refl
+  first-is running (todo.Fail trap ∷ rest) = refl
+
+  -- only the globals count at a return
+  pub returned-same : (one other : Running) (below : List source.WaitingFrame) (word : ℕ) → one.globals ≡ other.globals → returned one below word ≡ returned other below word
+  returned-same one other [] word e = ap (λ (g : List (List ℕ)). Stops (record { trap = None; globals = g })) e
+  returned-same one other (w ∷ below) word e = ap (λ (g : List (List ℕ)). Goes (steps.delivered w below g word)) e
+
+  -- ---- steps by what the front does next
+
+  pub step-none : (thread : Thread) (words : List ℕ) (other : Running) → thread.front.next ≡ next.Items → entered (to_do thread.front.items.items) ≡ [] → globals_of tree words ≡ other.globals → source_step tree (running_of tree thread words) ≡ returned other (below_of tree thread) 0
+  step-none thread words other is none same =
+      let running = running_of tree thread words in
+      let items = to_do thread.front.items.items in
+      ap (λ (n : Next). performs_first tree running (to_do_by n items)) is
+      ∙ (first-is running items ∙ (ap (performs_head running) none ∙ returned-same running other (below_of tree thread) 0 same))
+
+  pub step-item : (thread : Thread) (words : List ℕ) (vec : Vec Item Global) (item : todo.Item) → thread.front.next ≡ next.Items → entered (to_do thread.front.items.items) ≡ item ∷ to_do vec.items →
+      source_step tree (running_of tree thread words) ≡ performs tree (running_of tree (record thread { front = record thread.front { items = vec } }) words) item (to_do vec.items)
+  step-item thread words vec item is found =
+      let running = running_of tree thread words in
+      let items = to_do thread.front.items.items in
+      ap (λ (n : Next). performs_first tree running (to_do_by n items)) is
+      ∙ (first-is running items ∙ (ap (performs_head running) found
+      ∙ ap (λ (n : Next). performs tree (steps.to_do running (to_do_by n (to_do vec.items))) item (to_do vec.items)) (sym is)))
+
+  pub step-gives : (thread : Thread) (words : List ℕ) (word : ℕ) → thread.front.next ≡ next.GiveBack word → source_step tree (running_of tree thread words) ≡ returned (running_of tree thread words) (below_of tree thread) word
+  step-gives thread words word is =
+      let running = running_of tree thread words in
+      ap (λ (n : Next). performs_first tree running (to_do_by n (to_do thread.front.items.items))) is
+      ∙ returned-same (steps.to_do running []) running (below_of tree thread) word refl
+
+  pub step-fails : (thread : Thread) (words : List ℕ) (trap : TrapKind) → thread.front.next ≡ next.Fail trap → source_step tree (running_of tree thread words) ≡ Stops (record { trap = Some trap; globals = globals_of tree words })
+  step-fails thread words trap is = ap (λ (n : Next). performs_first tree (running_of tree thread words) (to_do_by n (to_do thread.front.items.items))) is
+
+  split-last : (rest : List WaitingFrame) (w : WaitingFrame) → AllByRecursion (IsWaitingFrame tree) (rest ++ w ∷ []) → AllByRecursion (IsWaitingFrame tree) rest × IsWaitingFrame tree w
+  split-last [] w all = (tt {0}, all.0)
+  split-last (x ∷ rest) w all = let both = split-last rest w all.1 in ((all.0, both.0), both.1)
+
+  pub all-push : (xs : List WaitingFrame) (w : WaitingFrame) → AllByRecursion (IsWaitingFrame tree) xs → IsWaitingFrame tree w → AllByRecursion (IsWaitingFrame tree) (xs ++ w ∷ [])
+  all-push [] w all one = (one, tt {0})
+  all-push (x ∷ xs) w all one = (all.0, all-push xs w all.1 one)
+
+  -- the innermost of the frames below
+  pub below-pop : (xs rest : List WaitingFrame) (w : WaitingFrame) → xs ≡ rest ++ w ∷ [] → reverse (map (waiting_frame_of tree) xs) ≡ waiting_frame_of tree w ∷ reverse (map (waiting_frame_of tree) rest)
+  below-pop xs rest w e =
+      ap (λ (ys : List WaitingFrame). reverse (map (waiting_frame_of tree) ys)) e
+      ∙ (ap reverse (map_push (waiting_frame_of tree) rest w) ∙ reverse-append (map (waiting_frame_of tree) rest) (waiting_frame_of tree w ∷ []))
+
+  pub all-pop : (xs rest : List WaitingFrame) (w : WaitingFrame) → xs ≡ rest ++ w ∷ [] → AllByRecursion (IsWaitingFrame tree) xs → AllByRecursion (IsWaitingFrame tree) rest × IsWaitingFrame tree w
+  all-pop xs rest w e all = split-last rest w (subst (AllByRecursion (IsWaitingFrame tree)) e all)
+
+  -- ---- calls that are asked
+
+  -- a modelled call that isn't blocked starts no thread
+  abbrev StartsNone : Option Call → Type 0
+  StartsNone None = Unit {0}
+  StartsNone (Some (Blocking block)) = Unit {0}
+  StartsNone (Some (Immediate ask)) = IsAskThere tree ask
+
+  either-none : (b : Bool) (one other : Option Call) → StartsNone one → StartsNone other → StartsNone (if b then one else other)
+  either-none true one other p q = p
+  either-none false one other p q = q
+
+  none-of-none : (number : ℕ) → StartsNone (call_of_none number)
+  none-of-none number =
+      let last : Option Call = if nat_eq number 19 then Some (Blocking Block.Yield) else None in
+      let next : Option Call = if nat_eq number 16 then Some (Blocking Block.Accept) else last in
+      either-none (nat_eq number 6) (Some (Immediate Ask.SelfNumber)) next (tt {0})
+      (either-none (nat_eq number 16) (Some (Blocking Block.Accept)) last (tt {0})
+      (either-none (nat_eq number 19) (Some (Blocking Block.Yield)) None (tt {0}) (tt {0})))
+
+  none-of-one : (number a : ℕ) → StartsNone (call_of_one number a)
+  none-of-one number a =
+      let last : Option Call = if nat_eq number 18 then Some (Blocking (Block.Sleep a)) else None in
+      let next : Option Call = if nat_eq number 17 then Some (Blocking (Block.Wait a)) else last in
+      either-none (nat_eq number 3) (Some (Immediate (Ask.Put a))) next (tt {0})
+      (either-none (nat_eq number 17) (Some (Blocking (Block.Wait a))) last (tt {0})
+      (either-none (nat_eq number 18) (Some (Blocking (Block.Sleep a))) None (tt {0}) (tt {0})))
+
+  none-of-two : (number a b : ℕ) → StartsNone (call_of_two number a b)
+  none-of-two number a b =
+      let last : Option Call = if nat_eq number 21 then Some (Blocking (Block.WaitFor a b)) else None in
+      let next : Option Call = if nat_eq number 20 then Some (Blocking (Block.Take a b)) else last in
+      either-none (nat_eq number 5) (Some (Immediate (Ask.Give a b))) next (tt {0})
+      (either-none (nat_eq number 20) (Some (Blocking (Block.Take a b))) last (tt {0})
+      (either-none (nat_eq number 21) (Some (Blocking (Block.WaitFor a b))) None (tt {0}) (tt {0})))
+
+  starts-none : (number : ℕ) (words : List ℕ) → StartsNone (call_of number words)
+  starts-none number [] = none-of-none number
+  starts-none number (a ∷ []) = none-of-one number a
+  starts-none number (a ∷ b ∷ []) = none-of-two number a b
+  starts-none number (a ∷ b ∷ c ∷ rest) = tt {0}
+
+  pub asked-so : (running : Running) (words : List ℕ) (thread : Thread) (site : ℕ) (place : source.Place) (made : Move) (number : ℕ) (arguments : List ℕ) → IsCalling made (call_of number arguments) → record { front = waits_at running site place; below = running.below } ≡ waiting_of tree thread → running.globals ≡ globals_of tree words → IsThread tree thread words → HasStepped tree (asks_if running site place (call_of number arguments)) thread words (Ok made)
+  asked-so running words thread site place move.Goes number arguments h waits same fits = elim h [ ]
+  asked-so running words thread site place (move.Asks ask) number arguments h waits same fits = (
+    ap (asks_if running site place) h
+        ∙ (ap (λ (w : source.Waiting). Asks (record { call = Immediate ask; globals = running.globals }) w) waits ∙ ap (λ (g : List (List ℕ)). Asks (record { call = Immediate ask; globals = g }) (waiting_of tree thread)) same),
+    fits,
+    subst StartsNone h (starts-none number arguments),
+  )
+  asked-so running words thread site place (move.Blocks block) number arguments h waits same fits =
+      (ap (asks_if running site place) h ∙ (ap (λ (w : source.Waiting). Asks (record { call = Blocking block; globals = running.globals }) w) waits ∙ ap (λ (g : List (List ℕ)). Asks (record { call = Blocking block; globals = g }) (waiting_of tree thread)) same), fits)
+  asked-so running words thread site place move.Ends number arguments h waits same fits = elim h [ ]
+
+  -- a function is called
+  pub entered-so : (running : Running) (words : List ℕ) (thread : Thread) (site : ℕ) (place : source.Place) (f : ℕ) (arguments : List ℕ) →
+      running_of tree thread words ≡ record { frame = pushed tree f arguments; below = waits_at running site place ∷ running.below; globals = running.globals } → IsThread tree thread words → HasStepped tree (steps.entered tree running site place f arguments) thread words (Ok move.Goes)
+  entered-so running words thread site place f arguments e fits = (ap (λ (r : Running). Goes r) (sym e), fits)
+
+  -- a member of a table is called
+  pub member-entered : (running : Running) (words : List ℕ) (thread : Thread) (site : ℕ) (place : source.Place) (members : List ℕ) (index argument f : ℕ) (r : Result Move Halt) → index < length members → f ≡ slice_index members index →
+      HasStepped tree (steps.entered tree running site place f (argument ∷ [])) thread words r → HasStepped tree (entered_by members tree running site place index argument) thread words r
+  member-entered running words thread site place members index argument f r h e stepped =
+      made-so (steps.entered tree running site place f (argument ∷ [])) (entered_by members tree running site place index argument) words thread r
+      (ap (λ (b : Bool). entered_where b tree running site place (slice_index members index) argument) (lt-ltb index (length members) h)
+      ∙ ap (λ (g : ℕ). steps.entered tree running site place g (argument ∷ [])) (sym e))
+      stepped
+
+  -- there is no such member
+  pub no-member : (running : Running) (words : List ℕ) (thread : Thread) (site : ℕ) (place : source.Place) (members : List ℕ) (index argument : ℕ) → length members ≤ index → running.globals ≡ globals_of tree words →
+      HasStepped tree (entered_by members tree running site place index argument) thread words (Err (halt.Trap TrapKind.Table))
+  no-member running words thread site place members index argument h same =
+      ap (λ (b : Bool). entered_where b tree running site place (slice_index members index) argument) (le-ltb index (length members) h)
+      ∙ ap (λ (g : List (List ℕ)). Stops (record { trap = Some TrapKind.Table; globals = g })) same
+
+  -- ---- steps one after another
+
+  one-move : (made : SourceMove) → and_then made (moves (source_machine tree) 0) ≡ made
+  one-move (Goes after) = refl
+  one-move (Asks question waiting) = refl
+  one-move (Stops end) = refl
+
+  pub step-after : (n m : ℕ) (start now : Running) → m ≡ n + 1 → moves (source_machine tree) n start ≡ Goes now → moves (source_machine tree) m start ≡ source_step tree now
+  step-after n m start now e silent = ap (λ k. moves (source_machine tree) k start) e ∙ (goes_on (source_machine tree) n 1 start now silent ∙ one-move (source_step tree now))
+
+  -- a run of silent steps, and one step more, which isn't counted among those that are left
+  pub leads : (most left : ℕ) (start now : Running) (made : SourceMove) → 0 < left → left ≤ most → moves (source_machine tree) (most - left) start ≡ Goes now → source_step tree now ≡ made → LeadsTo tree start (most - (left - 1)) made
+  leads most left start now made some within silent e = record { before = most - left; here = now; silent = silent; last = e; steps_is = omega (arith, some, within) }

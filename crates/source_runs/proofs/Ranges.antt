@@ -1,0 +1,107 @@
+-- What is well scoped is in range, and its values one after another.
+use Rattle.std.proofs.Common.{◌≡◌, ℕ, zero, suc, ◌+◌, ◌<◌, ◌≤◌, List, [], ◌∷◌, ◌++◌, length, map, drop, sym, ap, ◌∙◌, arith, refl, subst, get_or, append_assoc}
+use Rattle.std.specs.Prelude.{Result, Ok, Err, Some}
+use Rattle.std.specs.List.{AllByRecursion}
+use Rattle.std.proofs.lemmas.List.{drop_all}
+use Rattle.cap_word.specs.Calls.{call_of, Immediate}
+use Rattle.cap_word.specs.declared.calls.Ask.{Ask}
+use Rattle.cap_word.specs.declared.traps.TrapKind.{TrapKind}
+use Rattle.c_tree.proofs.Cuts.{drop_at}
+use Rattle.c_tree.specs.Modelled.{number_of, parameters_of}
+use Rattle.c_tree.specs.Trees.{ExprTree}
+use Rattle.c_tree.specs.Views.{expr_tree}
+use Rattle.c_tree.specs.WellScoped.{Context, AreExprsScoped}
+use Rattle.c_tree.specs.declared.expressions.Expr.{Expr}
+use Rattle.c_tree.specs.declared.operators.ModelledCall.{ModelledCall}
+use Rattle.c_mean.specs.Layout.{IsInRange}
+use Rattle.c_mean.specs.Values.{Value, value, values, with_first}
+use Rattle.c_mean.proofs.WorldLemmas.{scoped_in_range}
+
+pub all-in-range : (c : Context) (scope : List ℕ) (es : List ExprTree) → AreExprsScoped c scope es → AllByRecursion (IsInRange c.sizes c.globals) es
+all-in-range c scope [] h = tt {0}
+all-in-range c scope (e ∷ es) h = (scoped_in_range c scope e h.0, all-in-range c scope es h.1)
+
+pub range-at : (ns ms : List ℕ) (es : List Expr) (i : ℕ) (e : Expr) → AllByRecursion (IsInRange ns ms) (map expr_tree es) → i < length es → e ≡ get_or es i e → IsInRange ns ms (expr_tree e)
+range-at ns ms [] i e h lt is = absurd (omega arith)
+range-at ns ms (x ∷ es) zero e h lt is = subst (λ (y : Expr). IsInRange ns ms (expr_tree y)) (sym is) h.0
+range-at ns ms (x ∷ es) (suc i) e h lt is = range-at ns ms es i e h.1 (omega arith) is
+
+-- ---- the values of arguments, one after another
+
+-- words that are known, and then those of the rest
+abbrev pub after_words : List ℕ → Result (List ℕ) TrapKind → Result (List ℕ) TrapKind
+after_words words (Ok rest) = Ok (words ++ rest)
+after_words words (Err trap) = Err trap
+
+pub after-none : (made : Result (List ℕ) TrapKind) → after_words [] made ≡ made
+after-none (Ok rest) = refl
+after-none (Err trap) = refl
+
+after-first : (words : List ℕ) (a : ℕ) (rest : Result (List ℕ) TrapKind) → after_words words (with_first (Ok a) rest) ≡ after_words (words ++ a ∷ []) rest
+after-first words a (Ok rest) = ap Ok (sym (append_assoc words (a ∷ []) rest))
+after-first words a (Err trap) = refl
+
+append-none : (xs : List ℕ) → xs ++ [] ≡ xs
+append-none [] = refl
+append-none (x ∷ xs) = ap (λ (ys : List ℕ). x ∷ ys) (append-none xs)
+
+module _ (names globals : List (List ℕ)) where
+  abbrev pub of : List Expr → Result (List ℕ) TrapKind
+  of es = values names globals (map expr_tree es)
+
+  pub values-more : (es : List Expr) (i : ℕ) (e : Expr) (words more : List ℕ) (a : ℕ) → i < length es → e ≡ get_or es i e → Ok a ≡ value names globals (expr_tree e) → more ≡ words ++ a ∷ [] → after_words words (of (drop i es)) ≡ of es → after_words more (of (drop (i + 1) es)) ≡ of es
+  values-more es i e words more a lt is v push h =
+      let cut : of (drop i es) ≡ with_first (value names globals (expr_tree e)) (of (drop (i + 1) es)) = ap of (drop_at es i e lt is) in
+      let first : of (drop i es) ≡ with_first (Ok a) (of (drop (i + 1) es)) = cut ∙ ap (λ (x : Value). with_first x (of (drop (i + 1) es))) (sym v) in
+      ap (λ (xs : List ℕ). after_words xs (of (drop (i + 1) es))) push ∙ (sym (after-first words a (of (drop (i + 1) es))) ∙ (ap (after_words words) (sym first) ∙ h))
+
+  pub values-trap : (es : List Expr) (i : ℕ) (e : Expr) (words : List ℕ) (trap : TrapKind) → i < length es → e ≡ get_or es i e → Err trap ≡ value names globals (expr_tree e) → after_words words (of (drop i es)) ≡ of es → of es ≡ Err trap
+  values-trap es i e words trap lt is v h =
+      let cut : of (drop i es) ≡ with_first (Err trap) (of (drop (i + 1) es)) = ap of (drop_at es i e lt is) ∙ ap (λ (x : Value). with_first x (of (drop (i + 1) es))) (sym v) in
+      sym h ∙ ap (after_words words) cut
+
+  pub values-all : (es : List Expr) (i : ℕ) (words : List ℕ) → length es ≤ i → after_words words (of (drop i es)) ≡ of es → of es ≡ Ok words
+  values-all es i words past h = sym h ∙ (ap (λ (xs : List Expr). after_words words (of xs)) (drop_all i es past) ∙ ap Ok (append-none words))
+
+  -- ---- a few arguments
+
+  pub values-none : (es : List Expr) → length es ≡ 0 → of es ≡ Ok []
+  values-none [] h = refl
+  values-none (e ∷ es) h = absurd (omega arith)
+
+  pub values-one : (es : List Expr) (e : Expr) → length es ≡ 1 → e ≡ get_or es 0 e → of es ≡ with_first (value names globals (expr_tree e)) (Ok [])
+  values-one [] e h is = absurd (omega arith)
+  values-one (x ∷ []) e h is = ap (λ (y : Expr). with_first (value names globals (expr_tree y)) (Ok [])) (sym is)
+  values-one (x ∷ y ∷ es) e h is = absurd (omega arith)
+
+  pub values-two : (es : List Expr) (e f : Expr) → length es ≡ 2 → e ≡ get_or es 0 e → f ≡ get_or es 1 f → of es ≡ with_first (value names globals (expr_tree e)) (with_first (value names globals (expr_tree f)) (Ok []))
+  values-two [] e f h is also = absurd (omega arith)
+  values-two (x ∷ []) e f h is also = absurd (omega arith)
+  values-two (x ∷ y ∷ []) e f h is also =
+      ap (λ (z : Expr). with_first (value names globals (expr_tree z)) (with_first (value names globals (expr_tree y)) (Ok []))) (sym is)
+      ∙ ap (λ (z : Expr). with_first (value names globals (expr_tree e)) (with_first (value names globals (expr_tree z)) (Ok []))) (sym also)
+  values-two (x ∷ y ∷ z ∷ es) e f h is also = absurd (omega arith)
+
+-- ---- modelled calls by their arguments
+
+pub only-put : (call : ModelledCall) (a : ℕ) → parameters_of call ≡ 1 → (call ≡ ModelledCall.Wait → ⊥) → (call ≡ ModelledCall.Sleep → ⊥) → call_of (number_of call) (a ∷ []) ≡ Some (Immediate (Ask.Put a))
+only-put ModelledCall.Accept a h w s = absurd (omega arith)
+only-put ModelledCall.Wait a h w s = absurd (w refl)
+only-put ModelledCall.Sleep a h w s = absurd (s refl)
+only-put ModelledCall.Yield a h w s = absurd (omega arith)
+only-put ModelledCall.Take a h w s = absurd (omega arith)
+only-put ModelledCall.WaitFor a h w s = absurd (omega arith)
+only-put ModelledCall.Put a h w s = refl
+only-put ModelledCall.Give a h w s = absurd (omega arith)
+only-put ModelledCall.SelfNumber a h w s = absurd (omega arith)
+
+pub only-give : (call : ModelledCall) (a b : ℕ) → parameters_of call ≡ 2 → (call ≡ ModelledCall.Take → ⊥) → (call ≡ ModelledCall.WaitFor → ⊥) → call_of (number_of call) (a ∷ b ∷ []) ≡ Some (Immediate (Ask.Give a b))
+only-give ModelledCall.Accept a b h t w = absurd (omega arith)
+only-give ModelledCall.Wait a b h t w = absurd (omega arith)
+only-give ModelledCall.Sleep a b h t w = absurd (omega arith)
+only-give ModelledCall.Yield a b h t w = absurd (omega arith)
+only-give ModelledCall.Take a b h t w = absurd (t refl)
+only-give ModelledCall.WaitFor a b h t w = absurd (w refl)
+only-give ModelledCall.Put a b h t w = absurd (omega arith)
+only-give ModelledCall.Give a b h t w = refl
+only-give ModelledCall.SelfNumber a b h t w = absurd (omega arith)

@@ -1,0 +1,16 @@
+use Rattle.std.proofs.Common.{◌∷◌, [], ap, sym, ◌∙◌}
+use Rattle.c_mean.specs.Frames.{Running}
+use Rattle.c_mean.specs.Steps as steps
+use Rattle.c_mean.specs.Steps.{delivered_or}
+use Rattle.c_mean.specs.ToDo as todo
+use Rattle.source_runs.specs.Layouts.{tree_of}
+use Rattle.source_runs.specs.Threads.{running_of}
+use Rattle.source_runs.proofs.interpreter.Interpreter.deliver.Goals as goal
+
+pub returns-in-Ok-clause-came : goal.returns-in-Ok-clause-came
+returns-in-Ok-clause-came c = sym (ap (delivered_or (running_of (tree_of c.args.self.now) c.args.thread.now c.args.globals.now.items)) c.in-Ok.ensures.stored)
+
+pub returns-in-Err-clause-came : goal.returns-in-Err-clause-came
+returns-in-Err-clause-came c =
+    let running = running_of (tree_of c.args.self.now) c.args.thread.now c.args.globals.now.items in
+    ap (λ (r : Running). steps.to_do r (todo.Fail c.in-Err.kind ∷ [])) c.in-Err.ensures.kept ∙ sym (ap (delivered_or running) c.in-Err.ensures.stored)

@@ -1,0 +1,63 @@
+use Rattle.std.proofs.Common.{◌-◌, ap, ◌∙◌, arith}
+use Rattle.cap_word.specs.Runs.{moves}
+use Rattle.c_mean.specs.Steps.{source_machine}
+use Rattle.source_runs.specs.Layouts.{tree_of}
+use Rattle.source_runs.specs.Threads.{running_of}
+use Rattle.source_runs.proofs.Moved.{leads, step-after}
+use Rattle.source_runs.proofs.interpreter.Interpreter.run.Goals as goal
+
+pub returns-in-Ok-Asks-clause-came : goal.returns-in-Ok-Asks-clause-came
+returns-in-Ok-Asks-clause-came c =
+    let tree = tree_of c.args.self.now in
+    let l = c.loop-left in
+    let start = running_of tree c.args.thread.now c.args.globals.now.items in
+    let now = running_of tree l.thread l.globals.items in
+    let stepped = rw c.in-Ok-Asks.field-0-is at c.in-Ok-Asks.ensures in
+    (leads tree c.args.left.now l.left start now _ c.loop-left-test.true l.invariant.within l.invariant.silent stepped.0, stepped.1, stepped.2)
+
+pub returns-in-Ok-Blocks-clause-came : goal.returns-in-Ok-Blocks-clause-came
+returns-in-Ok-Blocks-clause-came c =
+    let tree = tree_of c.args.self.now in
+    let l = c.loop-left in
+    let start = running_of tree c.args.thread.now c.args.globals.now.items in
+    let now = running_of tree l.thread l.globals.items in
+    let stepped = rw c.in-Ok-Blocks.field-0-is at c.in-Ok-Blocks.ensures in
+    (leads tree c.args.left.now l.left start now _ c.loop-left-test.true l.invariant.within l.invariant.silent stepped.0, stepped.1)
+
+pub returns-in-Ok-Ends-clause-came : goal.returns-in-Ok-Ends-clause-came
+returns-in-Ok-Ends-clause-came c =
+    let tree = tree_of c.args.self.now in
+    let l = c.loop-left in
+    let start = running_of tree c.args.thread.now c.args.globals.now.items in
+    let now = running_of tree l.thread l.globals.items in
+    let stepped = rw c.in-Ok-Ends.field-0-is at c.in-Ok-Ends.ensures in
+    (leads tree c.args.left.now l.left start now _ c.loop-left-test.true l.invariant.within l.invariant.silent stepped.0, stepped.1)
+
+pub returns-in-Err-Trap-clause-came : goal.returns-in-Err-Trap-clause-came
+returns-in-Err-Trap-clause-came c =
+    let tree = tree_of c.args.self.now in
+    let l = c.loop-left in
+    let start = running_of tree c.args.thread.now c.args.globals.now.items in
+    let now = running_of tree l.thread l.globals.items in
+    let stepped = rw c.in-Err-Trap.field-0-is at c.in-Err-Trap.ensures in
+    leads tree c.args.left.now l.left start now _ c.loop-left-test.true l.invariant.within l.invariant.silent stepped
+
+pub loop-left-preserved : goal.loop-left-preserved
+loop-left-preserved c =
+    let tree = tree_of c.args.self.now in
+    let l = c.loop-left in
+    let start = running_of tree c.args.thread.now c.args.globals.now.items in
+    let now = running_of tree l.thread l.globals.items in
+    let stepped = rw c.in-Ok-Goes.field-0-is at c.in-Ok-Goes.ensures in
+    record {
+      within = omega (arith, l.invariant.within);
+      silent = step-after tree (c.args.left.now - l.left) (c.args.left.now - (l.left - 1)) start now (omega (arith, l.invariant.within, c.loop-left-test.true)) l.invariant.silent ∙ stepped.0;
+      fits = stepped.1;
+    }
+
+pub returns-clause-came : goal.returns-clause-came
+returns-clause-came c =
+    let tree = tree_of c.args.self.now in
+    let l = c.loop-left in
+    let start = running_of tree c.args.thread.now c.args.globals.now.items in
+    (omega arith, ap (λ n. moves (source_machine tree) n start) (omega arith) ∙ l.invariant.silent, l.invariant.fits)

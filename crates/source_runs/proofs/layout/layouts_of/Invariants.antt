@@ -1,0 +1,7 @@
+use Rattle.std.proofs.Common.{map, take}
+use Rattle.c_tree.specs.Views.{function_tree}
+use Rattle.source_runs.specs.Layouts.{AreLayouts}
+use Rattle.source_runs.proofs.layout.layouts_of.Given as goal
+
+abbrev pub invariant-loop-function : goal.invariant-loop-function
+invariant-loop-function l = AreLayouts (map function_tree (take l.function-index l.functions)) l.layouts.items

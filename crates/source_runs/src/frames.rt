@@ -1,0 +1,76 @@
+// The frames of a thread.
+
+use cap_word::{SiteKey, TrapKind};
+use source_items::Item;
+
+/// Where a result goes: nowhere, to a name, to an element whose index is already a number, or back to the caller.
+#[derive(Clone, Copy)]
+pub(crate) enum Place {
+    Nowhere,
+    Local(u32),
+    Global(u32),
+    LocalElement { array: u32, index: u32 },
+    GlobalElement { array: u32, index: u32 },
+    Returned,
+}
+
+/// What a frame does next.
+#[derive(Clone, Copy)]
+pub(crate) enum Next {
+    /// Its items, one after another.
+    Items,
+    /// It gives back a word, and nothing else: the result of the call that it returns.
+    GiveBack(u32),
+    /// It traps: a result that came can't be stored.
+    Fail(TrapKind),
+}
+
+/// A function, the words of its names, and what it has still to do.
+#[derive(Drop)]
+pub(crate) struct Frame<'a> {
+    pub(crate) function: u32,
+    pub(crate) names: Vec<u32>,
+    pub(crate) next: Next,
+    pub(crate) items: Vec<Item<'a>>,
+}
+
+/// A frame that waits for the result of its call at a site.
+#[derive(Drop)]
+pub(crate) struct WaitingFrame<'a> {
+    pub(crate) frame: Frame<'a>,
+    pub(crate) site: u32,
+    pub(crate) place: Place,
+}
+
+/// A thread of a source: the frame that runs, or waits at a modelled call, and the frames below it, the innermost last. A
+/// frame at a modelled call waits at `site` for a result that goes to `place`.
+#[derive(Drop)]
+pub struct Thread<'a> {
+    pub(crate) front: Frame<'a>,
+    pub(crate) below: Vec<WaitingFrame<'a>>,
+    pub(crate) site: u32,
+    pub(crate) place: Place,
+}
+
+impl<'a> Thread<'a> {
+    ghost use Rattle.std.specs.Prelude.{◌≡◌};
+    ghost use Rattle.c_mean.specs.Frames.{key_of};
+    ghost use Rattle.c_tree.specs.Trees.{ProgramTree};
+    ghost use Rattle.source_runs.specs.Threads.{waiting_of};
+
+    /// The key of a thread at a modelled call: its site, and then those of the up to seven innermost calls, innermost first.
+    pub fn key(&self) -> SiteKey
+        ensures { (tree : ProgramTree) → result ≡ key_of (waiting_of tree self.now) }
+    {
+        let mut sites = [0; SiteKey::MOST];
+        sites[0] = self.site;
+        let mut count: usize = 1;
+        let mut left = self.below.len();
+        while left > 0 && count < SiteKey::MOST {
+            left -= 1;
+            sites[count] = self.below[left].site;
+            count += 1;
+        }
+        SiteKey::new(&sites[..count])
+    }
+}

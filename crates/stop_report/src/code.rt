@@ -1,0 +1,61 @@
+// Which function and which operation stand at an address.
+
+use certificate_check::Accepted;
+use flat_code::Op;
+use stack_certificate::FunctionFact;
+
+/// The number of the function among whose words an address stands, and what is claimed of it; none where there is none.
+pub(crate) fn function_at(accepted: &Accepted, address: u32) -> Option<(u32, &FunctionFact)> {
+    let mut number: u32 = 0;
+    for fact in accepted.certificate().functions.as_slice() {
+        if fact.entry <= address {
+            let words = u64::from(address - fact.entry) / 4;
+            if words < u64::from(fact.words) {
+                return Some((number, fact));
+            }
+        }
+        number = number.saturating_add(1);
+    }
+    None
+}
+
+/// The operation among whose words an address stands, of the function of that number; none in the prologue.
+pub(crate) fn operation_at<'a>(
+    accepted: &'a Accepted,
+    function: u32,
+    fact: &FunctionFact,
+    address: u32,
+) -> Option<&'a Op> {
+    let functions = accepted.flat().functions();
+    let number = function as usize;
+    if number >= functions.len() {
+        return None;
+    }
+    let word = u64::from(address.checked_sub(fact.entry)?) / 4;
+    let place = place_among(accepted.words_before(function), word)?;
+    functions[number].ops.as_slice().get(place)
+}
+
+/// The place of the last of these rising numbers that isn't above a number; none where all are.
+fn place_among(numbers: &[u64], most: u64) -> Option<usize> {
+    let mut found = None;
+    let mut place: usize = 0;
+    for number in numbers {
+        if *number <= most {
+            found = Some(place);
+        }
+        place = place.saturating_add(1);
+    }
+    found
+}
+
+/// The site of an operation that has one.
+pub(crate) fn site_of(op: &Op) -> Option<u32> {
+    match op {
+        Op::Call { site, .. }
+        | Op::CallTable { site, .. }
+        | Op::Model { site, .. }
+        | Op::Spawn { site, .. } => Some(*site),
+        _ => None,
+    }
+}

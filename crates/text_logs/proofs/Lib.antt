@@ -1,0 +1,4 @@
+pub mod Meaning
+pub mod Rests
+pub mod Values
+pub mod Lines
