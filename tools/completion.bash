@@ -3,7 +3,7 @@ _capriccio() {
     local word=${COMP_WORDS[COMP_CWORD]} before=${COMP_WORDS[COMP_CWORD - 1]} command=${COMP_WORDS[1]}
     local placement="--chunk --max-path" policy="--chunks --extra --extra-size --fuel --backlog --caps --high --low --rule --tickets --knee" options=""
     if [ "$COMP_CWORD" -eq 1 ]; then
-        mapfile -t COMPREPLY < <(compgen -W "serve run build check graph demo budget" -- "$word")
+        mapfile -t COMPREPLY < <(compgen -W "serve run build check graph demo audit budget" -- "$word")
         return
     fi
     case $before in
@@ -16,6 +16,7 @@ _capriccio() {
         *:[0-9]* | *:graph | *:stride) ;;
         serve:-*) options="$placement $policy" ;;
         run:-*) options="$policy" ;;
+        audit:-*) options="--chunks --extra --fuel --backlog --caps --high --low --knee --steps" ;;
         build:-* | graph:-*) options="$placement" ;;
     esac
     if [ -n "$options" ]; then

@@ -9,9 +9,10 @@ COMMANDS = {
     "check": ("SRC", "IMG", "CRT"),
     "graph": ("SRC",),
     "demo": ("N",),
+    "audit": ("SRC", "LOG"),
     "budget": ("SRC", "IMG", "CRT"),
 }
-PLACEMENT, POLICY = ("serve", "build", "graph"), ("serve", "run")
+PLACEMENT, POLICY, READING = ("serve", "build", "graph"), ("serve", "run"), ("serve", "run", "audit")
 
 
 class Option:
@@ -24,17 +25,18 @@ class Option:
 OPTIONS = {
     "--chunk": Option(PLACEMENT, 4096, 64, 65_536, 16),
     "--max-path": Option(PLACEMENT, None, 16, None),
-    "--chunks": Option(POLICY, 1024, 1, 65_536),
-    "--extra": Option(POLICY, 0, 0, 65_536),
+    "--chunks": Option(READING, 1024, 1, 65_536),
+    "--extra": Option(READING, 0, 0, 65_536),
     "--extra-size": Option(POLICY, 64, 32, 65_536, 16),
-    "--fuel": Option(POLICY, 10_000_000, 0, 1_000_000_000),
-    "--backlog": Option(POLICY, 64, 1, 4096),
-    "--caps": Option(POLICY, None, None, None),
-    "--high": Option(POLICY, 900, 1, 1000),
-    "--low": Option(POLICY, 700, 0, None),
+    "--fuel": Option(READING, 10_000_000, 0, 1_000_000_000),
+    "--backlog": Option(READING, 64, 1, 4096),
+    "--caps": Option(READING, None, None, None),
+    "--high": Option(READING, 900, 1, 1000),
+    "--low": Option(READING, 700, 0, None),
     "--rule": Option(POLICY, None, None, None),
     "--tickets": Option(POLICY, None, None, None),
-    "--knee": Option(POLICY, 0, 0, 999),
+    "--knee": Option(READING, 0, 0, 999),
+    "--steps": Option(("audit",), 1_000_000_000, 0, 1_000_000_000),
 }
 TICKETS_FORM = "`--tickets` takes T=N,.. as in 1=3,2=1: at most 64 threads from 0 to 1,000,000, rising, and from 1 to 1,024 tickets of each"
 CAPS_FORM = "`--caps` takes R=N,.. as in 1=4,3=10: resources from 1 to 7, rising, and from 1 to 1,000,000 units of each"
@@ -135,7 +137,7 @@ def wrong_values(command, options):
         fault = wrong_value(name, text, options, chunk, high)
         if fault:
             return fault
-    if command in POLICY and "--low" not in options and high <= 700:
+    if command in READING and "--low" not in options and high <= 700:
         return f"`--low` is 700 where it isn't given, and must be below `--high`, {high}: give it too"
     return wrong_pool(chunk, options) if command == "serve" else None
 

@@ -9,7 +9,8 @@ use Rattle.c_tree.specs.Trees.{ProgramTree}
 use Rattle.c_tree.specs.ProgramView.{program_tree}
 use Rattle.c_tree.specs.declared.programs.Program.{Program}
 use Rattle.c_grammar.specs.declared.errors.ParseError.{ParseError}
-use Rattle.c_parse.specs.ForParts.{AreForPartsWhole, nested_in_fors}
+use Rattle.whole_calls.specs.WholeForParts.{AreForPartsWhole}
+use Rattle.c_parse.specs.ForParts.{nested_in_fors}
 use Rattle.c_parse.specs.Parsed.{IsParsedNested, IsNestedErrorOf}
 use Rattle.c_parse.proofs.ForWhole.{for_parts_whole, for_parts_none}
 use Rattle.scope_rules.specs.declared.errors.ScopeError.{ScopeError}
@@ -21,7 +22,7 @@ use Rattle.c_scope.specs.declared.source_errors.SourceError.TheVariants as refus
 use Rattle.c_scope.specs.SourceText.{by_lex, by_parse, by_scope}
 use Rattle.c_scope.proofs.SourceTexts as texts
 use Rattle.grammar_places.specs.Ranks.{site_numbers}
-use Rattle.hoist_rules.specs.Statements.{items_hoisted}
+use Rattle.hoist_parts.specs.Statements.{items_hoisted}
 use Rattle.c_hoist.specs.NestedText.{IsHoistedTo, IsRefusedHoisted, ReadsNested, IsNestedSourceErrorOf}
 
 one_hoisted : (t : List RawItemTree) (p q : ProgramTree) → IsHoistedTo t p → IsHoistedTo t q → p ≡ q

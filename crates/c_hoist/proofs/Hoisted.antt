@@ -6,7 +6,7 @@ use Rattle.grammar_places.specs.Ranks.{site_numbers}
 use Rattle.scope_rules.specs.declared.errors.ScopeError.{ScopeError}
 use Rattle.scope_rules.specs.Numbered.{IsResolvedBy}
 use Rattle.scope_rules.specs.Outcomes.{IsRefused}
-use Rattle.hoist_rules.specs.Statements.{items_hoisted}
+use Rattle.hoist_parts.specs.Statements.{items_hoisted}
 use Rattle.c_hoist.specs.NestedText.{IsHoistedTo, IsRefusedHoisted}
 
 pub hoisted_by : (tree hoisted : List RawItemTree) (ns : List ℕ) (p : ProgramTree) → hoisted ≡ items_hoisted tree → ns ≡ site_numbers hoisted → IsResolvedBy ns hoisted p → IsHoistedTo tree p

@@ -3,11 +3,10 @@ use Rattle.std.proofs.Common.{ℕ, ◌+◌, ◌≡◌, refl, ap, ◌∙◌, List
 use Rattle.c_tree.specs.RawTrees.{RawExprTree, RawStmtTree, RawStmtTrees, RawDo, RawEmpty, RawBlock, RawIf, RawIfElse, RawWhile, RawFor, RawBreak, RawContinue, RawReturn, NoRawStmts, RawThen, RawItemTree, RawGlobal, RawGlobalArray, RawTableItem, RawPrototypeItem, RawFunctionItem}
 use Rattle.c_tree.specs.RawViews.{raw_in_order}
 use Rattle.c_tree.specs.WholeCalls.{IsReturnWhole, IsStmtWhole, AreStmtsWhole, IsItemWhole, AreCallsWhole}
-use Rattle.c_parse.specs.ForParts.{IsForWhole, AreForsWhole, IsItemForWhole, AreForPartsWhole}
-use Rattle.hoist_rules.specs.Expressions.{names_in}
-use Rattle.hoist_rules.specs.Statements.{stmt_names, returned_before, returned_left, hoisted, all_hoisted, item_hoisted, items_hoisted}
-use Rattle.hoist_rules.proofs.NoCalls.{no_left, no_before}
-use Rattle.hoist_rules.proofs.Kept.{held_not, value_kept, no_value_before, simple_kept, no_simple_before}
+use Rattle.hoist_parts.specs.Expressions.{names_in}
+use Rattle.hoist_parts.specs.Statements.{stmt_names, returned_before, returned_left, hoisted, all_hoisted, item_hoisted, items_hoisted}
+use Rattle.hoist_parts.proofs.NoCalls.{no_left, no_before}
+use Rattle.hoist_parts.proofs.Kept.{held_not, value_kept, no_value_before, simple_kept, no_simple_before}
 
 returned_kept : (k : ℕ) (v : Option RawExprTree) → IsReturnWhole v → returned_left k v ≡ v
 returned_kept k None h = refl
@@ -45,33 +44,3 @@ item_kept (RawFunctionItem gives n params body) h = ap (RawFunctionItem gives n 
 pub items_kept : (is : List RawItemTree) → AreCallsWhole is → items_hoisted is ≡ is
 items_kept [] h = refl
 items_kept (i ∷ is) h = ap (λ x. x ∷ items_hoisted is) (item_kept i h.0) ∙ ap (λ x. i ∷ x) (items_kept is h.1)
-
--- ---- each call in the parentheses of a `for` is whole too
-
-mutual
-  stmt_for : (s : RawStmtTree) → IsStmtWhole s → IsForWhole s
-  stmt_for (RawDo s) h = tt
-  stmt_for RawEmpty h = tt
-  stmt_for (RawBlock ss) h = stmts_for ss h
-  stmt_for (RawIf c s) h = stmt_for s h.1
-  stmt_for (RawIfElse c s r) h = (stmt_for s h.1, stmt_for r h.2)
-  stmt_for (RawWhile c s) h = stmt_for s h.1
-  stmt_for (RawFor init c step s) h = (h.0, h.1, h.2, stmt_for s h.3)
-  stmt_for (RawBreak at) h = tt
-  stmt_for (RawContinue at) h = tt
-  stmt_for (RawReturn at v) h = tt
-
-  stmts_for : (ss : RawStmtTrees) → AreStmtsWhole ss → AreForsWhole ss
-  stmts_for NoRawStmts h = tt
-  stmts_for (RawThen s ss) h = (stmt_for s h.0, stmts_for ss h.1)
-
-item_for : (i : RawItemTree) → IsItemWhole i → IsItemForWhole i
-item_for (RawGlobal n start) h = tt
-item_for (RawGlobalArray n size) h = tt
-item_for (RawTableItem n size members) h = tt
-item_for (RawPrototypeItem gives n params) h = tt
-item_for (RawFunctionItem gives n params body) h = stmts_for body h
-
-pub parts_whole : (is : List RawItemTree) → AreCallsWhole is → AreForPartsWhole is
-parts_whole [] h = tt
-parts_whole (i ∷ is) h = (item_for i h.0, parts_whole is h.1)

@@ -8,6 +8,7 @@ use Rattle.c_tree.specs.Trees.{ProgramTree}
 use Rattle.c_tree.specs.TextOrder.{counting}
 use Rattle.c_tree.specs.WholeCalls.{AreCallsWhole}
 use Rattle.c_grammar.specs.Grammar.{IsProgram}
+use Rattle.whole_calls.proofs.WholeInFors.{parts_whole}
 use Rattle.grammar_places.specs.Nested.{is_call}
 use Rattle.grammar_places.specs.Places.{items_places}
 use Rattle.grammar_places.specs.Ranks.{site_numbers}
@@ -19,7 +20,7 @@ use Rattle.scope_rules.specs.Outcomes.{IsResolved}
 use Rattle.c_scope.specs.SourceText.{ReadsAs}
 use Rattle.c_hoist.specs.NestedText.{IsHoistedTo, ReadsNested}
 use Rattle.c_hoist.proofs.SameNumbers.{same_numbers}
-use Rattle.c_hoist.proofs.WholeKept.{items_kept, parts_whole}
+use Rattle.c_hoist.proofs.WholeKept.{items_kept}
 
 -- in a tree of the grammar calls are numbered in the order of the tree
 numbered_in_order : (source : List ℕ) (tokens : List Token) (tree : List RawItemTree) → AreTokensOf source tokens → IsProgram source tokens tree → counting 0 (site_numbers tree)

@@ -3,7 +3,7 @@ ghost use Rattle.std.specs.Prelude.{◌≡◌, ◌≢◌, ◌≤◌, ◌⊎◌, 
 ghost use Rattle.c_tree.specs.Trees.{ProgramTree};
 ghost use Rattle.c_tree.specs.ProgramView.{program_tree};
 ghost use Rattle.c_tree.specs.RawProgramView.{raw_program_tree};
-ghost use Rattle.c_parse.specs.ForParts.{AreForPartsWhole};
+ghost use Rattle.whole_calls.specs.WholeForParts.{AreForPartsWhole};
 ghost use Rattle.c_hoist.specs.NestedText.{IsHoistedTo, IsRefusedHoisted, ReadsNested, IsNestedSourceErrorOf, MeansText};
 
 use c_lex::lex;

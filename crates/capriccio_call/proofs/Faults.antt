@@ -4,7 +4,7 @@ use Rattle.std.proofs.lemmas.List.{take_all}
 use Rattle.std.specs.Io.KnownBytes.{Appends}
 use Rattle.cap_io.specs.Files.{Files, KeepsFiles, KeepsOthers}
 use Rattle.cap_io.specs.Shelves.{HoldsPrefix}
-use Rattle.command_words.specs.WordList.{IsWordList, Request, Serve, Run, Build, Check, Graph, Demo, Budget}
+use Rattle.command_words.specs.WordList.{IsWordList, Request, Serve, Run, Build, Check, Graph, Demo, Audit, Budget}
 use Rattle.command_words.specs.declared.options.Placement.{Placement}
 use Rattle.command_outcomes.specs.declared.faults.Fault.{Fault}
 use Rattle.command_outcomes.specs.declared.faults.Fault.TheVariants.{Read, Write, Memory}
@@ -47,6 +47,7 @@ of-pair words (Run source image certificate policy) o asked h = absurd h
 of-pair words (Check source image certificate) o asked h = absurd h
 of-pair words (Graph source placement) o asked h = absurd h
 of-pair words (Budget source image certificate) o asked h = absurd h
+of-pair words (Audit source log options) o asked h = absurd h
 of-pair words (Demo number) o asked h = absurd h
 
 of-run : (words : List (List ℕ)) (o : Outcome) → IsFree o.status × (o.stores ≡ []) → IsOrdinary words o
@@ -106,11 +107,11 @@ took-part due before after given old new faults faults' status done told =
 took-due : (due : Outcome → Type 0) (before after : Outside) (given : Result Outcome Fault) → IsDone due before after given → TookDue due before.taken after.taken
 took-due due before after (Ok o) done = let whole = done.1 in inr (o, done.0, whole-prefix before.taken after.taken o.out whole.out)
 took-due due before after (Err Read) done =
-    ⊎_elim (λ x. let nothing = x.0 in inl nothing.out) (λ x. let cut = x.3 in inr (x.0, x.2, cut.out)) done
+    ⊎_elim (λ x. ⊎_elim (λ y. let nothing = y.0 in inl nothing.out) (λ y. let only = y.0 in inl only.out) x) (λ x. let cut = x.3 in inr (x.0, x.2, cut.out)) done
 took-due due before after (Err Write) done =
     ⊎_elim (λ x. let cut = x.0 in inl cut.out) (λ x. let cut = x.0 in inr (done.0, done.1, cut.out)) done.2
 took-due due before after (Err Memory) done =
-    ⊎_elim (λ x. inl x.out) (λ x. ⊎_elim (λ y. inl y.out) (λ y. inr (x.0, x.1, y.out)) x.2) done.0
+    ⊎_elim (λ z. ⊎_elim (λ x. inl x.out) (λ x. ⊎_elim (λ y. inl y.out) (λ y. inr (x.0, x.1, y.out)) x.2) z.0) (λ z. let only = z.0 in inl only.out) done
 
 -- ---- The files.
 
@@ -214,7 +215,7 @@ cut-left words before after o due some h =
 read-keeps : (words : List (List ℕ)) (before after : Outside) → IsDone (IsDue words before) before after (Err Read) → KeepsFiles before.files after.files
 read-keeps words before after done =
     ⊎_elim
-    (λ x. let nothing = x.0 in nothing.files)
+    (λ x. ⊎_elim (λ y. let nothing = y.0 in nothing.files) (λ y. let only = y.0 in only.files) x)
     (λ x. let is = ordinary words before x.0 x.2 in let cut = x.3 in
     ⊎_elim
     (λ none. stored-none before.files after.files (subst (λ (files : List (List ℕ × List ℕ)). WhereTold (AreStored files) before.files after.files) none cut.files))
@@ -241,7 +242,9 @@ write-left words before after (Err Read) old new faults faults' status done told
 write-left words before after (Err Write) old new faults faults' status done told which =
     ⊎_elim (λ x. let cut = x.0 in cut-left words before after done.0 done.1 cut.some cut.files) (λ x. let cut = x.0 in stored-left words before after done.0 done.1 cut.files) done.2
 write-left words before after (Err Memory) old new faults faults' status done told which =
-    ⊎_elim (λ x. inl x.files) (λ x. ⊎_elim (λ y. cut-left words before after x.0 x.1 y.some y.files) (λ y. stored-left words before after x.0 x.1 y.files) x.2) done.0
+    ⊎_elim
+    (λ z. ⊎_elim (λ x. inl x.files) (λ x. ⊎_elim (λ y. cut-left words before after x.0 x.1 y.some y.files) (λ y. stored-left words before after x.0 x.1 y.files) x.2) z.0)
+    (λ z. let only = z.0 in inl only.files) done
 
 -- ---- The whole.
 

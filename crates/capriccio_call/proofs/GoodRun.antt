@@ -1,7 +1,7 @@
 -- The run was good whose world is handed out.
 use Rattle.std.proofs.Common.{◌≡◌, ◌⊎◌, ℕ, List, [], Option, IfSome, Some, None, Ok, Err, sym, ap, subst, ◌∙◌, ⊎_elim, inl, inr}
 use Rattle.std.specs.Io.KnownBytes.{Appends}
-use Rattle.command_words.specs.WordList.{IsWordList, Request, Serve, Run, Build, Check, Graph, Demo, Budget}
+use Rattle.command_words.specs.WordList.{IsWordList, Request, Serve, Run, Build, Check, Graph, Demo, Audit, Budget}
 use Rattle.lawful_log.specs.Setup.{Setup}
 use Rattle.thread_core.specs.Worlds.{Held}
 use Rattle.command_outcomes.specs.Outcome.{Outcome, Ran}
@@ -28,6 +28,7 @@ pair-quiet (Run source image certificate policy) o h = absurd h
 pair-quiet (Check source image certificate) o h = absurd h
 pair-quiet (Graph source placement) o h = absurd h
 pair-quiet (Budget source image certificate) o h = absurd h
+pair-quiet (Audit source log options) o h = absurd h
 pair-quiet (Demo number) o h = absurd h
 
 of-due : (words : List (List ℕ)) (before : Outside) (o : Outcome) → IsDue words before o → IsAskedFor words before.left o
@@ -42,7 +43,7 @@ of-due words before o h =
 no-world : {P : Type 0} (o : Outcome) (world : Held) → o.last ≡ None → IsLast o.last (Some world) → P
 no-world o world none h = absurd (subst (λ (ran : Option Ran). IsLast ran (Some world)) none h)
 
-status-told : (status : ℕ) (line : List ℕ) (old new : Option (List ℕ)) (faults faults' answer : ℕ) → line ≡ [] → IsTold status line old new faults faults' answer → answer ≡ status
+pub status-told : (status : ℕ) (line : List ℕ) (old new : Option (List ℕ)) (faults faults' answer : ℕ) → line ≡ [] → IsTold status line old new faults faults' answer → answer ≡ status
 status-told status line old new faults faults' answer none h = ⊎_elim (λ x. x.0) (λ x. absurd (x.0 none)) h
 
 ran-well : (words : List (List ℕ)) (request : Request) (asked : IsWordList words request) (before after : Outside) (o : Outcome) (world : Held) (status : ℕ) (setup : Setup) (h : RunsOn before.left setup o) → Appends before.taken after.taken o.out → IsLast o.last (Some world) → (o.line ≡ [] → status ≡ o.status) → (IfSome before.left (λ trace. IsRun setup trace h.1 h.2 h.3) × Appends before.taken after.taken (log_text h.1) × IsRunOfSome setup before.left h.1 h.2 h.3 → IsLogFor request setup before after h.1 h.2 h.3) → RanWell words before after world status
@@ -84,6 +85,7 @@ well words (Build source image certificate placement) asked before after o world
 well words (Check source image certificate) asked before after o world status setup h printed last told = ran-well words (Check source image certificate) asked before after o world status setup h printed last told (λ log. log)
 well words (Graph source placement) asked before after o world status setup h printed last told = ran-well words (Graph source placement) asked before after o world status setup h printed last told (λ log. log)
 well words (Budget source image certificate) asked before after o world status setup h printed last told = ran-well words (Budget source image certificate) asked before after o world status setup h printed last told (λ log. log)
+well words (Audit source log options) asked before after o world status setup h printed last told = ran-well words (Audit source log options) asked before after o world status setup h printed last told (λ log. log)
 well words (Demo number) asked before after o world status setup h printed last told = shown-well words number asked before after o world status setup h.0 h.1 printed last told
 
 pub was-good : (words : List (List ℕ)) (before after : Outside) (err err' : Option (List ℕ)) (faults faults' : ℕ) (last : Option Held) (status : ℕ) → IsAnswer words before after err err' faults faults' last status → WasGood words before after last status

@@ -1,4 +1,5 @@
 pub mod OneBudget
+pub mod OneJudgement
 pub mod Told
 pub mod OnePair
 pub mod OneRun
@@ -6,3 +7,4 @@ pub mod OneCase
 pub mod OutcomeKinds
 pub mod GoodRun
 pub mod Faults
+pub mod AuditedLog

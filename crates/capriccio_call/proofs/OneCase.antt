@@ -1,7 +1,7 @@
 -- One outcome is due at most: two that are due for the same words, files and trace are one.
 use Rattle.std.proofs.Common.{◌≡◌, ◌⊎◌, ℕ, ◌+◌, ◌<◌, ◌≤◌, ◌*◌, List, [], ◌∷◌, ◌++◌, Option, Some, None, Result, Ok, Err, refl, sym, ap, subst, ◌∙◌, arith, inl, inr, ⊎_elim}
 use Rattle.std.proofs.lemmas.Bool.{cases_order}
-use Rattle.cap_io.specs.Faults.{Stayed}
+use Rattle.cap_io.specs.Faults.{Rose, Stayed}
 use Rattle.cap_io.specs.Files.{Files}
 use Rattle.c_tree.specs.Trees.{ProgramTree}
 use Rattle.c_tree.specs.WellScoped.{IsWellScoped}
@@ -19,7 +19,7 @@ use Rattle.certificate_text.specs.FirstRefused.{IsFirstRefused}
 use Rattle.certificate_text.proofs.Spellings.{spelling_unique, first_refused_unique, spelling_unrefused}
 use Rattle.stack_build.specs.Builds.{frame_refusal, IsLaidOut, IsTooLarge}
 use Rattle.stack_build.specs.declared.refusals.BuildError.TheVariants.{FrameTooLarge, CodeTooLarge}
-use Rattle.command_words.specs.WordList.{IsWordList, Request, Serve, Run, Build, Check, Graph, Demo, Budget}
+use Rattle.command_words.specs.WordList.{IsWordList, Request, Serve, Run, Build, Check, Graph, Demo, Audit, Budget}
 use Rattle.command_words.proofs.OneRequest.{one_request}
 use Rattle.analysis_lines.specs.Lines.{name_at}
 use Rattle.command_outcomes.specs.declared.documents.Document.{Document}
@@ -38,11 +38,13 @@ use Rattle.call_cycles.specs.Cycles.{IsOnCycle}
 use Rattle.chunk_budget.specs.declared.budgets.Budget as budgets
 use Rattle.capriccio_commands.specs.Budgets.{Budgets, BudgetsBytes, BudgetsPair, IsCycleRefused, IsBudgetPrinted, budget_text}
 use Rattle.codegen_link.specs.declared.options.Options.{Options}
+use Rattle.command_words.specs.declared.options.Audit.{Audit as AuditOptions}
 use Rattle.command_words.specs.declared.options.Policy.{Policy as RunOptions}
 use Rattle.capriccio_commands.specs.BuildsFiles.{Builds, BuildsProgram, HasFittingCode, IsUnbuilt, built}
 use Rattle.capriccio_commands.specs.Runs.{RunsOn, Serves, ServesProgram, Runs, RunsBytes, RunsPair, pool_bytes, setup_of}
 use Rattle.capriccio_commands.specs.RunSteps.{IsRunPolicy}
 use Rattle.capriccio_commands.specs.Demos.{Demos, ShowsProgram, ShowsRun, demo_sizes, demo_policy}
+use Rattle.capriccio_commands.specs.Audits.{Audits, AuditsBytes, AuditsProgram, IsJudgement, judged_outcome, reading_of}
 use Rattle.capriccio_commands.specs.Due.{Does, IsDue, sizes_of}
 use Rattle.workload_source.specs.Programs.{program_text}
 use Rattle.workload.specs.Traces.{trace_text}
@@ -50,6 +52,7 @@ use Rattle.command_outcomes.specs.Done.{Outside, IsRisen, IsDone, IsTraceTold, I
 use Rattle.c_hoist.proofs.EveryNested.{one_program, one_source_error, never}
 use Rattle.capriccio_commands.proofs.OneBuild.{plans-are-one, words-are-one, texts-are-one}
 use Rattle.capriccio_call.proofs.OneBudget.{one-budget, one-least}
+use Rattle.capriccio_call.proofs.OneJudgement.{one-judgement}
 use Rattle.capriccio_call.proofs.OnePair.{pairs-are-one}
 use Rattle.capriccio_call.proofs.OneRun.{IsInRange, one-outcome, one-shown}
 use Rattle.capriccio_commands.proofs.Options.{serve-policy, serve-pool, run-policy}
@@ -322,6 +325,15 @@ demo-case number a b h k =
     let same : h.0 ≡ k.0 = one_program (program_text number) h.0 k.0 left.reads right.reads in
     shows-case (trace_text number) k.0 a b right.scoped (subst (λ (p : ProgramTree). ShowsProgram (trace_text number) p a) same h.2) k.2
 
+-- a log that is judged is judged on the trace, so its bytes are told where they have to be
+judged-case : (left : Option (List ℕ)) (options : AuditOptions) (log : List ℕ) (p : ProgramTree) (a b : Outcome) → IsTraceTold left b → AuditsProgram left options log p a → AuditsProgram left options log p b → a ≡ b
+judged-case left options log p a b reads h k =
+    let bytes = reads (ap (λ (o : Outcome). o.reads_trace) k.2) in
+    let g = reading_of p options in
+    alike a b (judged_outcome k.0)
+    (h.2 ∙ ap judged_outcome (one-judgement g bytes.0 log h.0 k.0
+    (subst (λ (l : Option (List ℕ)). IsJudgement g l log h.0) bytes.1 h.1) (subst (λ (l : Option (List ℕ)). IsJudgement g l log k.0) bytes.1 k.1))) k.2
+
 request-case : (request : Request) (words : List (List ℕ)) (f : Files) (before : Outside) (a b : Outcome) → IsWordList words request → before.files ≡ Some f → IsTraceTold before.left b → Does request before a → Does request before b → a ≡ b
 request-case (Graph source placement) words f before a b asked told reads h k =
     let P : Option Files → Outcome → Type 0 = λ files o. Graphs files source placement.max_path o in
@@ -349,6 +361,12 @@ request-case (Run source i c policy) words f before a b asked told reads h k =
     let P : Option Files → Outcome → Type 0 = λ files o. Runs files before.left source i c policy o in
     three-case f source i c (RunsBytes before.left policy) a b (λ s x y u v. run-bytes-case before.left policy s x y a b (run-policy words source i c policy asked) reads u v)
     (subst (λ files. P files a) told h) (subst (λ files. P files b) told k)
+request-case (Audit source log options) words f before a b asked told reads h k =
+    let P : Option Files → Outcome → Type 0 = λ files o. Audits files before.left source log options o in
+    load-case document.Source f source (λ bytes. AfterLoad document.Log (Some f) log (AuditsBytes before.left options bytes)) a b
+    (λ bytes x y. load-case document.Log f log (AuditsBytes before.left options bytes) a b
+    (λ text z w. source-case bytes (AuditsProgram before.left options text) a b (λ p scoped u v. judged-case before.left options text p a b reads u v) z w) x y)
+    (subst (λ files. P files a) told h) (subst (λ files. P files b) told k)
 request-case (Demo number) words f before a b asked told reads h k = demo-case number a b h k
 
 pub due-case : (words : List (List ℕ)) (f : Files) (before : Outside) (a b : Outcome) → before.files ≡ Some f → IsTraceTold before.left b → IsDue words before a → IsDue words before b → a ≡ b
@@ -365,10 +383,15 @@ due-case words f before a b told reads h k =
 not-risen : {P : Type 0} (old new : ℕ) → IsRisen old new → Stayed old new → P
 not-risen old new risen stayed = let less = risen.rose stayed.1 in let same = stayed.0 in absurd (omega arith)
 
+not-rose : {P : Type 0} (old new : ℕ) → Rose old new → Stayed old new → P
+not-rose old new rose stayed = let less = rose stayed.1 in let same = stayed.0 in absurd (omega arith)
+
 pub exact : (words : List (List ℕ)) (before after : Outside) (given : Result Outcome Fault) → IsDone (IsDue words before) before after given → IsExact (IsDue words) before after given
 exact words before after (Ok o) h = λ none files outcome told reads due. due-case words files before o outcome told reads h.0 due
 exact words before after (Err Read) h = λ none files outcome told reads due.
-    ⊎_elim (λ x. let counted = x.1 in not-risen before.loads after.loads counted.loads none.loads) (λ x. let counted = x.4 in not-risen before.reads after.reads counted.reads none.reads) h
+    ⊎_elim
+    (λ x. ⊎_elim (λ y. let counted = y.1 in not-risen before.loads after.loads counted.loads none.loads) (λ y. let counted = y.1 in not-rose before.reads after.reads counted.reads none.reads) x)
+    (λ x. let counted = x.4 in not-risen before.reads after.reads counted.reads none.reads) h
 exact words before after (Err Write) h = λ none files outcome told reads due.
     ⊎_elim (λ x. let counted = x.1 in not-risen before.stores after.stores counted.stores none.stores) (λ x. let counted = x.1 in not-risen before.writes after.writes counted.writes none.writes) h.2
 exact words before after (Err Memory) h = λ none files outcome told reads due. tt

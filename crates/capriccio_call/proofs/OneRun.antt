@@ -28,15 +28,19 @@ pub record IsInRange (g : Setup) : Type 0 where
   pub fuel : g.policy.fuel ≤ 1000000000
   pub pool : g.policy.chunks * g.certificate.chunk + g.policy.extra * g.policy.extra_bytes ≤ 67108864
 
--- the areas in which an accepted pair starts
+-- the areas in which an accepted pair starts, where its chunks make a pool
+pub pooled-areas : (g : Setup) → IsAccepted g → IsPool (start_areas g).pool → AreWellFormed (checked_of g) (start_areas g)
+pooled-areas g ok pool =
+    let sizes = ((ok.valid.holds 1 0 1).v1 refl).chunk refl in
+    areas_formed (lowered g.program) g.image g.certificate (start_areas g) ok.valid pool ok.globals
+    (first_bytes-start g.policy.chunks (g.certificate.chunk / 4) g.policy.extra (g.policy.extra_bytes / 4) ∙ fours g.certificate.chunk sizes.0) refl refl
+
 areas-formed : (g : Setup) → IsAccepted g → IsInRange g → AreWellFormed (checked_of g) (start_areas g)
 areas-formed g ok range =
     let sizes = ((ok.valid.holds 1 0 1).v1 refl).chunk refl in
-    let pool : IsPool (start_areas g).pool =
-    IsPool-start_bytes g.policy.chunks g.certificate.chunk g.policy.extra g.policy.extra_bytes range.some_chunks range.chunks sizes.1 sizes.2 sizes.0
-    range.extra range.extra_least range.extra_most range.extra_whole range.pool in
-    areas_formed (lowered g.program) g.image g.certificate (start_areas g) ok.valid pool ok.globals
-    (first_bytes-start g.policy.chunks (g.certificate.chunk / 4) g.policy.extra (g.policy.extra_bytes / 4) ∙ fours g.certificate.chunk sizes.0) refl refl
+    pooled-areas g ok
+    (IsPool-start_bytes g.policy.chunks g.certificate.chunk g.policy.extra g.policy.extra_bytes range.some_chunks range.chunks sizes.1 sizes.2 sizes.0
+    range.extra range.extra_least range.extra_most range.extra_whole range.pool)
 
 -- there is one lawful log of it
 one-run : (g : Setup) (trace : List ℕ) → IsAccepted g → IsInRange g → HasOneLog g trace

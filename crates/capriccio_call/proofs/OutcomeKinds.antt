@@ -5,7 +5,8 @@ use Rattle.cap_io.specs.Files.{Files}
 use Rattle.cap_word.specs.declared.stops.Stop.TheVariants as cut
 use Rattle.c_tree.specs.Trees.{ProgramTree}
 use Rattle.codegen_link.specs.declared.options.Options.{Options}
-use Rattle.command_words.specs.WordList.{Request, Serve, Run, Build, Check, Graph, Demo, Budget}
+use Rattle.command_words.specs.WordList.{Request, Serve, Run, Build, Check, Graph, Demo, Audit, Budget}
+use Rattle.command_words.specs.declared.options.Audit.{Audit as AuditOptions}
 use Rattle.command_words.specs.declared.options.Policy.{Policy as RunOptions}
 use Rattle.lawful_log.specs.Setup.{Setup}
 use Rattle.schedule_log.specs.declared.entries.StopLine.{StopLine}
@@ -25,8 +26,11 @@ use Rattle.command_outcomes.specs.FaultLines.{fault_status}
 use Rattle.command_outcomes.specs.Outcome.{Outcome}
 use Rattle.command_outcomes.specs.Loads.{IsSourceText, OfFile, AfterLoad, AfterThree, AfterSource, AfterImage, AfterCertificate}
 use Rattle.command_outcomes.specs.Done.{Outside}
+use Rattle.capriccio_commands.specs.declared.audit_command.Judgement.{Judgement}
+use Rattle.capriccio_commands.specs.declared.audit_command.Judgement.TheVariants as judgement
 use Rattle.capriccio_commands.specs.declared.check_command.Verdict.{Verdict}
 use Rattle.capriccio_commands.specs.declared.check_command.Verdict.TheVariants.{Accepted, Rejected}
+use Rattle.capriccio_commands.specs.Audits.{AuditsBytes, AuditsProgram, judged_outcome, judgement_status}
 use Rattle.capriccio_commands.specs.Graphs.{GraphsProgram}
 use Rattle.capriccio_commands.specs.Budgets.{BudgetsBytes, BudgetsPair}
 use Rattle.capriccio_commands.specs.Checks.{ChecksBytes, ChecksPair, verdict_status, verdict_outcome}
@@ -96,6 +100,7 @@ cause-free (cause.Absent document) = inr (omega arith)
 cause-free (cause.TooLong document.Source) = inl (omega arith)
 cause-free (cause.TooLong document.Image) = inl (omega arith)
 cause-free (cause.TooLong document.Certificate) = inl (omega arith)
+cause-free (cause.TooLong document.Log) = inl (omega arith)
 cause-free (cause.Source error) = inl (omega arith)
 cause-free (cause.Image error) = inl (omega arith)
 cause-free (cause.CertificateLine number) = inl (omega arith)
@@ -108,6 +113,11 @@ cause-free (cause.Cycle name) = inr (omega arith)
 verdict-free : (verdict : Verdict) → IsFree (verdict_status verdict)
 verdict-free Accepted = inl (omega arith)
 verdict-free (Rejected rule function index) = inl (omega arith)
+
+judgement-free : (is : Judgement) → IsFree (judgement_status is)
+judgement-free judgement.Lawful = inl (omega arith)
+judgement-free (judgement.Unlawful line) = inr (omega arith)
+judgement-free (judgement.Steps line) = inr (omega arith)
 
 pub stop-free : (line : StopLine) → IsFree (stop_status line)
 stop-free stop.Done = inl (omega arith)
@@ -198,6 +208,9 @@ budget-plain program i c o h =
     (λ x. ⊎_elim (λ y. plain-is o _ y.is (inr (omega arith)) refl refl) (λ y. plain-is o _ y.is (inl (omega arith)) refl refl) x.1)
     h
 
+judged-plain : (trace : Option (List ℕ)) (options : AuditOptions) (log : List ℕ) (program : ProgramTree) (o : Outcome) → AuditsProgram trace options log program o → IsPlain o
+judged-plain trace options log program o h = plain-is o (judged_outcome h.0) h.2 (judgement-free h.0) refl refl
+
 graph-plain : (path : ℕ) (program : ProgramTree) (o : Outcome) → GraphsProgram path program o → IsPlain o
 graph-plain path program o h =
     ⊎_elim (λ x. plain-is o _ x.is (inl (omega arith)) refl refl) (λ x. plain-is o _ x.1.2 (inl (omega arith)) refl refl) h
@@ -229,6 +242,10 @@ kind-of (Budget source image certificate) before o h =
 kind-of (Graph source placement) before o h =
     inl (of-load IsPlain (λ p x. x) document.Source before.files source (λ bytes. AfterSource bytes (GraphsProgram placement.max_path)) o
     (λ bytes x. of-source IsPlain (λ p y. y) bytes (GraphsProgram placement.max_path) o (λ program y. graph-plain placement.max_path program o y) x) h)
+kind-of (Audit source log options) before o h =
+    inl (of-load IsPlain (λ p x. x) document.Source before.files source (λ bytes. AfterLoad document.Log before.files log (AuditsBytes before.left options bytes)) o
+    (λ bytes x. of-load IsPlain (λ p y. y) document.Log before.files log (AuditsBytes before.left options bytes) o
+    (λ text y. of-source IsPlain (λ p z. z) bytes (AuditsProgram before.left options text) o (λ program z. judged-plain before.left options text program o z) y) x) h)
 kind-of (Demo number) before o h = let shows = h.2 in inr (inl (setup_of h.0 shows.0 shows.1 demo_policy, (h.1, shows.3)))
 
 -- ---- Runs.
@@ -244,5 +261,6 @@ run-for-free (Build source image certificate placement) trace setup o h = run-fr
 run-for-free (Check source image certificate) trace setup o h = run-free trace setup o h
 run-for-free (Graph source placement) trace setup o h = run-free trace setup o h
 run-for-free (Budget source image certificate) trace setup o h = run-free trace setup o h
+run-for-free (Audit source log options) trace setup o h = run-free trace setup o h
 run-for-free (Demo number) trace setup o h =
     (subst (λ (x : Outcome). IsFree x.status) (sym h.1.5) (stop-free h.1.2), ap (λ (x : Outcome). x.stores) h.1.5)

@@ -3,6 +3,7 @@ ghost use Rattle.std.specs.Prelude.{◌≡◌, map};
 ghost use Rattle.std.specs.String.{string_bytes};
 ghost use Rattle.command_outcomes.specs.Done.{outside_by};
 ghost use Rattle.capriccio_call.specs.AfterFault.{HoldsAfterFault};
+ghost use Rattle.capriccio_call.specs.Audited.{IsAudited};
 ghost use Rattle.capriccio_call.specs.Headline.{IsAnswer, WasGood};
 
 use cap_io::{Shelf, Sink, Source};
@@ -17,8 +18,8 @@ use thread_core::World;
 /// The status is 0 where the command did what it is for; 1 of words that are no list; 2 of a source that is refused; 3 of a pair
 /// that is; 4 of a file of it that is, or of a trace; 5 where a frame, the code or the pool is too large; 6, 7 and 8 after a
 /// failed read, a failed write and a want of memory; 9 where there is no file of a name. A run that doesn't end by itself answers
-/// 10 where it idles, 11 at a trap, 12 where no free chunk fits, 13 where the fuel is spent, 14 at too many threads. 17 is of a
-/// budget of a program with a cycle of calls.
+/// 10 where it idles, 11 at a trap, 12 where no free chunk fits, 13 where the fuel is spent, 14 at too many threads. An audit answers
+/// 15 of a log that isn't lawful, and 16 where a line of it needs too many steps. 17 is of a budget of a program with a cycle of calls.
 pub fn capriccio<F: Shelf, S: Source, K: Sink, E: Sink>(
     alloc: Global,
     words: &Vec<String>,
@@ -43,6 +44,10 @@ pub fn capriccio<F: Shelf, S: Source, K: Sink, E: Sink>(
         HoldsAfterFault (map (λ word. string_bytes word) words.now.items)
         (outside shelf.old trace.old out.old) (outside shelf.new trace.new out.new)
         (E.taken err.old) (E.taken err.new) (E.faults err.old) (E.faults err.new) result }
+    ensures audited { let outside = outside_by F.files F.load_faults F.store_faults S.left S.faults
+        K.taken K.faults in
+        IsAudited (map (λ word. string_bytes word) words.now.items)
+        (outside shelf.old trace.old out.old) (outside shelf.new trace.new out.new) result }
 {
     match do_words(alloc, words, shelf, trace, out) {
         Ok(

@@ -3,7 +3,8 @@
 // In: the words after the program's name, a shelf of files, a trace, an output and standard error. Out: what the words ask for,
 // done, the status, and the world that was run, if one was. The clauses of `capriccio` are the program's (specs/Headline.antt,
 // docs/HEADLINE.md): what is due for the words, the files and the trace is one outcome, of which all was done, or after a fault
-// a part. What each command does is the crate `capriccio_commands`; the crate above, `capriccio_cli`, makes the real objects.
+// a part; and an audit finds no lawful log unlawful (specs/Audited.antt). What each command does is the crate
+// `capriccio_commands`; the crate above, `capriccio_cli`, makes the real objects.
 #![tactic(auto)]
 
 mod command;

@@ -14,3 +14,4 @@ pub mod FitCounting
 pub mod Shown
 pub mod Workloads
 mod Budgeted
+mod Auditing

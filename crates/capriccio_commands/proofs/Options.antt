@@ -3,14 +3,16 @@ use Rattle.std.proofs.Common.{ℕ, zero, suc, ◌≡◌, ◌+◌, ◌-◌, ◌*�
 use Rattle.std.specs.Prelude.{◌==◌, codes}
 use Rattle.call_graph.proofs.ListLemmas.{by_test}
 use Rattle.codegen_link.specs.Plans.{AreInRange}
-use Rattle.command_words.specs.Values.{IsPlacement, IsPolicy, AreCaps, AreCapsAbove, cap_of, AreTickets, AreTicketsFrom, IsRule}
-use Rattle.command_words.specs.WordList.{IsWordList, Serve, Run, Build}
+use Rattle.command_words.specs.Values.{IsAudit, IsPlacement, IsPolicy, AreCaps, AreCapsAbove, cap_of, AreTickets, AreTicketsFrom, IsRule}
+use Rattle.command_words.specs.WordList.{IsWordList, Serve, Run, Build, Audit}
+use Rattle.command_words.specs.declared.options.Audit.{Audit as AuditOptions}
 use Rattle.command_words.specs.declared.options.Placement.{Placement}
 use Rattle.command_words.specs.declared.options.Policy.{Policy}
 use Rattle.command_words.specs.declared.options.Rule.{Rule}
 use Rattle.command_words.specs.declared.options.Rule.TheVariants.{Graph, Stride}
 use Rattle.command_words.specs.declared.options.Tickets.{Tickets}
 use Rattle.stride_rule.specs.Tickets as strides
+use Rattle.capriccio_commands.specs.Audits.{AreAuditOptions}
 use Rattle.capriccio_commands.specs.Due.{sizes_of}
 use Rattle.capriccio_commands.specs.RunSteps.{IsRunPolicy, IsRuleInRange}
 
@@ -108,3 +110,40 @@ serve-pool words source placement policy h =
 -- a list for `run`
 pub run-policy : (words : List (List ℕ)) (source image certificate : List ℕ) (policy : Policy) → IsWordList words (Run source image certificate policy) → IsRunPolicy policy
 run-policy words source image certificate policy h = run-policy-of _ policy h.2
+
+-- ---- a list for `audit`
+
+caps-count : (given : Option (List ℕ)) (caps : List ℕ) → AreCaps given caps → length caps ≡ 8
+caps-count None caps h = ap length h
+caps-count (Some text) caps h = ap length h.2
+
+audit-options-of : (given : List ℕ → Option (List ℕ)) (options : AuditOptions) → IsAudit given options → AreAuditOptions options
+audit-options-of given options h =
+    let chunks = h.chunks in
+    let fuel = h.fuel in
+    let backlog = h.backlog in
+    let high = h.high in
+    let low = h.low in
+    record {
+      run = record {
+        some_chunks = chunks.not_less;
+        chunks = chunks.not_more;
+        extra = h.extra.not_more;
+        extra_least = omega arith;
+        extra_most = omega arith;
+        extra_whole = refl;
+        fuel = fuel.not_more;
+        some_backlog = backlog.not_less;
+        backlog = backlog.not_more;
+        caps = λ r some lt. caps-in-range _ options.caps h.caps r;
+        high = high.not_more;
+        low = (let some = high.not_less in let most = low.not_more in omega arith);
+        rule = tt;
+        knee = h.knee.not_more;
+      };
+      cap_count = caps-count _ options.caps h.caps;
+      steps = h.steps.not_more;
+    }
+
+pub audit-options : (words : List (List ℕ)) (source log : List ℕ) (options : AuditOptions) → IsWordList words (Audit source log options) → AreAuditOptions options
+audit-options words source log options h = audit-options-of _ options h.2

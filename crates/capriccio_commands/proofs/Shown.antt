@@ -1,8 +1,9 @@
 -- How `demo` ends: what its run did, and what is shown of it.
-use Rattle.std.proofs.Common.{◌≡◌, ℕ, ◌≤◌, Bool, false, List, [], ◌++◌, Option, Some, None, Result, Ok, Err, refl, sym, ap, subst, ◌∙◌, inr, ⊎_elim, append_assoc, arith}
+use Rattle.std.proofs.Common.{◌≡◌, ℕ, ◌≤◌, Bool, false, List, [], ◌++◌, Option, Some, None, Result, Ok, Err, refl, sym, ap, subst, ◌∙◌, inl, inr, ⊎_elim, append_assoc, arith}
 use Rattle.std.specs.Prelude.{MatchResult, OnOk}
 use Rattle.std.specs.Io.KnownBytes.{Keeps, Appends}
 use Rattle.std.proofs.lemmas.Result.{on_ok_weaker}
+use Rattle.cap_io.specs.Faults.{Rose}
 use Rattle.cap_io.specs.Files.{KeepsFiles}
 use Rattle.c_tree.specs.Trees.{ProgramTree}
 use Rattle.certificate_check.specs.Accepting.{accepted_tree}
@@ -59,6 +60,9 @@ no-refusal trace g o h none =
 not-risen : {P : Type 0} → IsRisen 0 0 → P
 not-risen risen = let less = risen.rose (omega arith) in absurd (omega arith)
 
+not-rose : {P : Type 0} → Rose 0 0 → P
+not-rose rose = let less = rose (omega arith) in absurd (omega arith)
+
 -- a run over a clean source and sink stops for want of memory alone
 pub no-stop : {A : Type 0} (a : A) (trace trace' : List ℕ) (g : Setup) (log : List ℕ) (stop : Stop) → RunEnds (RunsOn (Some trace) g) (Some trace) (Some trace') 0 0 (Some []) (Some log) 0 0 (Err stop) → IsStop (NoMore a) stop
 no-stop a trace trace' g log (Refused cause) h =
@@ -66,7 +70,9 @@ no-stop a trace trace' g log (Refused cause) h =
     no-refusal (Some trace) g (refusal cause) e.0 refl
 no-stop a trace trace' g log (Failed Read) h =
     let e = h None None 0 0 0 0 tt refl refl in
-    ⊎_elim (λ x. let counted = x.1 in not-risen counted.loads) (λ x. let counted = x.4 in not-risen counted.reads) e
+    ⊎_elim
+    (λ x. ⊎_elim (λ y. let counted = y.1 in not-risen counted.loads) (λ y. let counted = y.1 in not-rose counted.reads) x)
+    (λ x. let counted = x.4 in not-risen counted.reads) e
 no-stop a trace trace' g log (Failed Write) h =
     let e = h None None 0 0 0 0 tt refl refl in
     ⊎_elim (λ x. let counted = x.1 in not-risen counted.stores) (λ x. let counted = x.1 in not-risen counted.writes) e.2
@@ -210,7 +216,7 @@ shown-cut due before after shown (Failed Memory) is files left loads stores read
     let trace = subst (λ (reads : Bool). IsTraceLeft reads before.left after.left) (sym is.unread) left in
     let taken = h.0 in
     let out = subst (λ (text : List ℕ). TakesPrefix before.taken after.taken text) (sym is.text) taken in
-    (inr (is.outcome, is.is_due, inr (record { files = kept; trace = trace; out = out })), record { loads = loads; stores = stores; reads = reads; writes = h.1 })
+    inl (inr (is.outcome, is.is_due, inr (record { files = kept; trace = trace; out = out })), record { loads = loads; stores = stores; reads = reads; writes = h.1 })
 
 -- nothing was shown
 pub shown-stopped : (due : Outcome → Type 0) (o : Outside) (stop : Stop) → IsStop due stop → EndsAs due o o (Err stop)

@@ -1,5 +1,5 @@
 -- How a command ends whose run came to its stop, or could not go on.
-use Rattle.std.proofs.Common.{◌≡◌, ℕ, List, Option, Some, None, Result, Ok, Err, refl, sym, ap, subst, inr}
+use Rattle.std.proofs.Common.{◌≡◌, ℕ, List, Option, Some, None, Result, Ok, Err, refl, sym, ap, subst, inl, inr}
 use Rattle.std.specs.Prelude.{IfSome}
 use Rattle.cap_io.specs.Files.{KeepsFiles}
 use Rattle.cap_word.specs.declared.stops.Stop.TheVariants as cut
@@ -102,5 +102,5 @@ closed g before after held end.Memory r ok files loads stores of h is =
     let outcome : Outcome = run_outcome g short.entries short.stop short.end in
     let cut-short : IsCutInOut outcome before after = record { files = kept-are-stored before.files after.files files; trace = tt; out = (short.count, short.part, short.writes) } in
     let ends : EndsAs (RunsOn before.left g) before after (Err (Failed Memory)) =
-    (inr (outcome, short-due g before.left before.taken after.taken held ok short, inr cut-short), record { loads = loads; stores = stores; reads = h.1; writes = h.2 }) in
+    inl (inr (outcome, short-due g before.left before.taken after.taken held ok short, inr cut-short), record { loads = loads; stores = stores; reads = h.1; writes = h.2 }) in
     subst (λ (a : Result Ended Stop). EndsAs (RunsOn before.left g) before after a) (sym is) ends

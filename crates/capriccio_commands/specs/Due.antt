@@ -1,7 +1,7 @@
 -- What is due for the words, the files and the trace: the command as a whole.
 use Rattle.std.specs.Prelude.{ℕ, ◌≡◌, ◌⊎◌, List}
 use Rattle.codegen_link.specs.declared.options.Options.{Options}
-use Rattle.command_words.specs.WordList.{IsWordList, Request, Serve, Run, Build, Check, Graph, Demo, Budget}
+use Rattle.command_words.specs.WordList.{IsWordList, Request, Serve, Run, Build, Check, Graph, Demo, Audit, Budget}
 use Rattle.command_words.specs.declared.options.Placement.{Placement}
 use Rattle.command_outcomes.specs.declared.stops.Cause.TheVariants as cause
 use Rattle.command_outcomes.specs.Outcome.{Outcome}
@@ -9,6 +9,7 @@ use Rattle.command_outcomes.specs.CauseLines.{refusal}
 use Rattle.capriccio_commands.specs.Graphs.{Graphs}
 use Rattle.capriccio_commands.specs.Checks.{Checks}
 use Rattle.capriccio_commands.specs.BuildsFiles.{Builds}
+use Rattle.capriccio_commands.specs.Audits.{Audits}
 use Rattle.capriccio_commands.specs.Budgets.{Budgets}
 use Rattle.command_outcomes.specs.Done.{Outside}
 use Rattle.capriccio_commands.specs.Runs.{Serves, Runs}
@@ -26,6 +27,7 @@ Does (Build source image certificate placement) before = Builds before.files sou
 Does (Check source image certificate) before = Checks before.files source image certificate
 Does (Graph source placement) before = Graphs before.files source placement.max_path
 Does (Demo number) before = Demos number
+Does (Audit source log options) before = Audits before.files before.left source log options
 Does (Budget source image certificate) before = Budgets before.files source image certificate
 
 -- what the words do: what they ask for, or a refusal where they are no word list

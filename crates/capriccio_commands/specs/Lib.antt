@@ -5,6 +5,7 @@ pub mod Checks
 pub mod Due
 pub mod Runs
 pub mod RunSteps
+pub mod Audits
 pub mod Closings
 pub mod Summary
 pub mod Demos

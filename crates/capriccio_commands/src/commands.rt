@@ -3,6 +3,7 @@ ghost use Rattle.std.specs.Prelude.{ℕ, List, Option, ◌≡◌, ◌+◌, ◌�
 ghost use Rattle.std.specs.String.{string_bytes};
 ghost use Rattle.command_words.specs.WordList.{IsWordList, request_of};
 ghost use Rattle.codegen_link.specs.Plans.{AreInRange};
+ghost use Rattle.capriccio_commands.specs.Audits.{AreAuditOptions, Audits};
 ghost use Rattle.capriccio_commands.specs.Budgets.{Budgets};
 ghost use Rattle.capriccio_commands.specs.BuildsFiles.{Builds};
 ghost use Rattle.capriccio_commands.specs.Checks.{Checks};
@@ -15,6 +16,7 @@ ghost use Rattle.capriccio_commands.specs.Runs.{Serves, Runs};
 ghost use Rattle.capriccio_commands.specs.RunSteps.{IsRunPolicy};
 ghost use Rattle.command_outcomes.specs.Steps.{EndsAs};
 
+use crate::audit_command::{load_log, tell_judgement};
 use crate::budget_command::budget_files;
 use crate::build_command::build_source;
 use crate::check_command::check_files;
@@ -25,7 +27,7 @@ use crate::running::run_accepted;
 use cap_io::{Shelf, Sink, Source};
 use codegen_link::Options;
 use command_outcomes::{Cause, Ended, Fault, Stop, print, store_both};
-use command_words::{Command, Placement, Policy, WordsError, read_words};
+use command_words::{Audit, Command, Placement, Policy, WordsError, read_words};
 use std::alloc::Global;
 
 /// Does what the words ask, and answers the status of what was printed.
@@ -108,6 +110,11 @@ fn do_command<F: Shelf, S: Source, K: Sink>(
             options_of(placement),
         ),
         Command::Demo { number } => demo(alloc, out, number),
+        Command::Audit {
+            source,
+            log,
+            options,
+        } => audit(alloc, shelf, trace, out, source, log, options),
         Command::Budget {
             source,
             image,
@@ -124,6 +131,36 @@ fn options_of(placement: Placement) -> Options
         chunk: placement.chunk,
         max_path: placement.max_path,
     }
+}
+
+/// The command `audit`.
+fn audit<F: Shelf, S: Source, K: Sink>(
+    alloc: Global,
+    shelf: &mut F,
+    trace: &mut S,
+    out: &mut K,
+    source: &str,
+    log: &str,
+    options: Audit,
+) -> Result<Ended, Stop>
+    requires { AreAuditOptions options }
+    ensures { let outside = outside_by F.files F.load_faults F.store_faults S.left S.faults K.taken
+        K.faults in
+        let before : Outside = outside shelf.old trace.old out.old in
+        let after : Outside = outside shelf.new trace.new out.new in
+        EndsAs (Audits before.files before.left source.now log.now options) before after result }
+{
+    let loaded = load_log(alloc, shelf, source, log)?;
+    let ended = tell_judgement(
+        alloc,
+        trace,
+        out,
+        &loaded.program,
+        loaded.log.as_slice(),
+        options,
+    );
+    drop(loaded);
+    ended
 }
 
 /// The command `graph`.

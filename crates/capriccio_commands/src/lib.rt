@@ -2,10 +2,11 @@
 //
 // In: the words after the program's name, a shelf of files, a trace and an output. Out: what the words ask for, done, with the
 // status (`do_words`), or why not, which `finish` of the crate `command_outcomes` tells standard error. commands.rt has what the
-// seven commands do, over what is due for the words, the files and the trace (specs/Due.antt). The crate above makes one call of
+// eight commands do, over what is due for the words, the files and the trace (specs/Due.antt). The crate above makes one call of
 // it, whose clauses are the program's.
 #![tactic(auto)]
 
+mod audit_command;
 mod budget_command;
 mod build_command;
 mod check_command;

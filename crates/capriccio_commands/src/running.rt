@@ -184,7 +184,7 @@ fn world_policy(policy: Policy) -> WorldPolicy
 }
 
 /// The monitor of a policy, with eight gauges of this way to measure.
-fn monitor_of<C: Measure + Copy>(
+pub(crate) fn monitor_of<C: Measure + Copy>(
     alloc: Global,
     policy: Policy,
     call: C,

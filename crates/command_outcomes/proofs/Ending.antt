@@ -1,5 +1,5 @@
 -- How a command ends, from what its last step did.
-use Rattle.std.proofs.Common.{◌≡◌, ◌≢◌, ℕ, Bool, false, List, [], ◌∷◌, Option, Some, None, Result, Ok, Err, refl, sym, ap, ◌∙◌, subst, inl, inr, ⊎_elim}
+use Rattle.std.proofs.Common.{◌≡◌, ◌≢◌, ℕ, true, List, [], ◌∷◌, Option, Some, None, Result, Ok, Err, refl, sym, ap, ◌∙◌, subst, inl, inr, ⊎_elim}
 use Rattle.std.proofs.lemmas.List.{append-nil}
 use Rattle.std.specs.Io.KnownBytes.{Keeps, Appends}
 use Rattle.cap_io.specs.Files.{Files, KeepsFiles, KeepsOthers}
@@ -12,8 +12,8 @@ use Rattle.thread_core.specs.Worlds.{Held}
 use Rattle.command_outcomes.specs.declared.ended.Ended.{Ended}
 use Rattle.command_outcomes.specs.Outcome.{Outcome, Ran, printed}
 use Rattle.command_outcomes.specs.CauseLines.{refusal}
-use Rattle.command_outcomes.specs.Done.{Outside, WhereTold, AreStored, AreCutShort, IsRisen, IsDone, IsTraceLeft, IsLast}
-use Rattle.command_outcomes.specs.Steps.{IsShelfStop, IsPrinted, AreStores, EndsAs, RunEnds}
+use Rattle.command_outcomes.specs.Done.{Outside, WhereTold, AreStored, AreCutShort, IsRisen, IsDone, IsOnlyRead, IsTraceLeft, IsLast}
+use Rattle.command_outcomes.specs.Steps.{IsReadStop, IsShelfStop, IsPrinted, AreStores, EndsAs, RunEnds}
 
 pub keeps-itself : (bytes : Option (List ℕ)) → Keeps bytes bytes
 keeps-itself None = tt
@@ -73,27 +73,33 @@ pub stopped : (due : Outcome → Type 0) (before after : Outside) (stop : Stop) 
 stopped due before after (Refused cause) files stores left reads taken writes h =
     (h.0, record { files = kept-are-stored before.files after.files files; trace = left; out = append-nothing before.taken after.taken taken }, record { loads = h.1; stores = stores; reads = reads; writes = writes })
 stopped due before after (Failed Read) files stores left reads taken writes h =
-    inl (record { files = files; trace = left; out = taken }, record { loads = h; stores = stores; reads = reads; writes = writes })
+    inl (inl (record { files = files; trace = left; out = taken }, record { loads = h; stores = stores; reads = reads; writes = writes }))
 stopped due before after (Failed Write) files stores left reads taken writes h = absurd h
 stopped due before after (Failed Memory) files stores left reads taken writes h =
-    (inl (record { files = files; trace = left; out = taken }), record { loads = h; stores = stores; reads = reads; writes = writes })
+    inl (inl (record { files = files; trace = left; out = taken }), record { loads = h; stores = stores; reads = reads; writes = writes })
+
+-- a step that stops after the trace was read, before anything is printed
+pub stopped-reading : (due : Outcome → Type 0) (before after : Outside) (fault : Fault) → (((outcome : Outcome) → due outcome → outcome.reads_trace ≡ true → outcome.last ≢ None) → ⊥) → KeepsFiles before.files after.files → Keeps before.taken after.taken →
+    after.loads ≡ before.loads → after.stores ≡ before.stores → after.writes ≡ before.writes → IsReadStop fault before.reads after.reads → EndsAs due before after (Err (Failed fault))
+stopped-reading due before after Read reads files taken loads stores writes h =
+    inl (inr (record { reads = reads; files = files; out = taken }, record { loads = loads; stores = stores; reads = h; writes = writes }))
+stopped-reading due before after Write reads files taken loads stores writes h = absurd h
+stopped-reading due before after Memory reads files taken loads stores writes h =
+    inr (record { reads = reads; files = files; out = taken }, record { loads = loads; stores = stores; writes = writes })
 
 -- the stores of an outcome are made, and its text is printed
-pub printed-ends : (due : Outcome → Type 0) (before after : Outside) (o : Outcome) (r : Result Ended Stop) → due o → o.line ≡ [] → o.last ≡ None → o.reads_trace ≡ false → WhereTold (AreStored o.stores) before.files after.files → Keeps before.left after.left → after.loads ≡ before.loads → after.stores ≡ before.stores → after.reads ≡ before.reads →
+pub printed-ends : (due : Outcome → Type 0) (before after : Outside) (o : Outcome) (r : Result Ended Stop) → due o → o.line ≡ [] → o.last ≡ None → IsTraceLeft o.reads_trace before.left after.left → WhereTold (AreStored o.stores) before.files after.files → after.loads ≡ before.loads → after.stores ≡ before.stores → after.reads ≡ before.reads →
     IsPrinted o.status o.out before.taken after.taken before.writes after.writes r → EndsAs due before after r
-printed-ends due before after o (Ok given) is line none unread files left loads stores reads h =
-    let trace = subst (λ (reads : Bool). IsTraceLeft reads before.left after.left) (sym unread) left in
+printed-ends due before after o (Ok given) is line none trace files loads stores reads h =
     let here = subst (λ (ran : Option Ran). IsLast ran None) (sym none) tt in
     let last = subst (λ (held : Option Held). IsLast o.last held) (sym (ap (λ (e : Ended). e.last) h.0)) here in
     (o, (is, record { files = files; trace = trace; out = h.1 }, record { loads = loads; stores = stores; reads = reads; writes = h.2 }), sym (ap (λ (e : Ended). e.status) h.0), line, last)
-printed-ends due before after o (Err (Refused cause)) is line none unread files left loads stores reads h = absurd h
-printed-ends due before after o (Err (Failed Read)) is line none unread files left loads stores reads h = absurd h
-printed-ends due before after o (Err (Failed Write)) is line none unread files left loads stores reads h =
-    let trace = subst (λ (reads : Bool). IsTraceLeft reads before.left after.left) (sym unread) left in
+printed-ends due before after o (Err (Refused cause)) is line none trace files loads stores reads h = absurd h
+printed-ends due before after o (Err (Failed Read)) is line none trace files loads stores reads h = absurd h
+printed-ends due before after o (Err (Failed Write)) is line none trace files loads stores reads h =
     (o, is, inr (record { files = files; trace = trace; out = h.0 }, record { loads = loads; stores = stores; reads = reads; writes = h.1 }))
-printed-ends due before after o (Err (Failed Memory)) is line none unread files left loads stores reads h =
-    let trace = subst (λ (reads : Bool). IsTraceLeft reads before.left after.left) (sym unread) left in
-    (inr (o, is, inr (record { files = files; trace = trace; out = h.0 })), record { loads = loads; stores = stores; reads = reads; writes = h.1 })
+printed-ends due before after o (Err (Failed Memory)) is line none trace files loads stores reads h =
+    inl (inr (o, is, inr (record { files = files; trace = trace; out = h.0 })), record { loads = loads; stores = stores; reads = reads; writes = h.1 })
 
 -- a store of an outcome was cut short
 pub stores-cut : (due : Outcome → Type 0) (before after : Outside) (o : Outcome) (stop : Stop) → due o → o.stores ≢ [] → Keeps before.left after.left → Keeps before.taken after.taken → after.loads ≡ before.loads → after.reads ≡ before.reads → after.writes ≡ before.writes →
@@ -103,12 +109,12 @@ stores-cut due before after o (Failed Read) is some left taken loads reads write
 stores-cut due before after o (Failed Write) is some left taken loads reads writes h =
     (o, is, inl (record { some = some; files = h.0; trace = left; out = taken }, record { loads = loads; stores = h.1; reads = reads; writes = writes }))
 stores-cut due before after o (Failed Memory) is some left taken loads reads writes h =
-    (inr (o, is, inl (record { some = some; files = h.0; trace = left; out = taken })), record { loads = loads; stores = h.1; reads = reads; writes = writes })
+    inl (inr (o, is, inl (record { some = some; files = h.0; trace = left; out = taken })), record { loads = loads; stores = h.1; reads = reads; writes = writes })
 
 pub printed-now : (due : Outcome → Type 0) (before after : Outside) (status : ℕ) (text : List ℕ) (r : Result Ended Stop) → due (printed status text) → KeepsFiles before.files after.files → Keeps before.left after.left → after.loads ≡ before.loads → after.stores ≡ before.stores → after.reads ≡ before.reads →
     IsPrinted status text before.taken after.taken before.writes after.writes r → EndsAs due before after r
 printed-now due before after status text r is files left loads stores reads h =
-    printed-ends due before after (printed status text) r is refl refl refl (kept-are-stored before.files after.files files) left loads stores reads h
+    printed-ends due before after (printed status text) r is refl refl left (kept-are-stored before.files after.files files) loads stores reads h
 
 -- Nothing is done at all.
 
@@ -130,11 +136,15 @@ memory-before due left reads taken writes = λ files files' loads loads' stores 
 
 -- What is due may be put in the place of what implies it.
 
+read-follows : (P Q : Outcome → Type 0) (before after : Outside) → ((o : Outcome) → P o → Q o) → IsOnlyRead P before after → IsOnlyRead Q before after
+read-follows P Q before after step h = record { reads = λ all. h.reads (λ o is. all o (step o is)); files = h.files; out = h.out }
+
 done-follows : (P Q : Outcome → Type 0) (before after : Outside) (given : Result Outcome Fault) → ((o : Outcome) → P o → Q o) → IsDone P before after given → IsDone Q before after given
 done-follows P Q before after (Ok o) step h = (step o h.0, h.1, h.2)
-done-follows P Q before after (Err Read) step h = ⊎_elim (λ x. inl x) (λ x. inr (x.0, x.1, step x.0 x.2, x.3, x.4)) h
+done-follows P Q before after (Err Read) step h = ⊎_elim (λ x. inl (⊎_elim (λ y. inl y) (λ y. inr (read-follows P Q before after step y.0, y.1)) x)) (λ x. inr (x.0, x.1, step x.0 x.2, x.3, x.4)) h
 done-follows P Q before after (Err Write) step h = (h.0, step h.0 h.1, h.2)
-done-follows P Q before after (Err Memory) step h = (⊎_elim (λ x. inl x) (λ x. inr (x.0, step x.0 x.1, x.2)) h.0, h.1)
+done-follows P Q before after (Err Memory) step h =
+    ⊎_elim (λ x. inl (⊎_elim (λ y. inl y) (λ y. inr (y.0, step y.0 y.1, y.2)) x.0, x.1)) (λ x. inr (read-follows P Q before after step x.0, x.1)) h
 
 pub ends-follow : (P Q : Outcome → Type 0) (before after : Outside) (r : Result Ended Stop) → ((o : Outcome) → P o → Q o) → EndsAs P before after r → EndsAs Q before after r
 ends-follow P Q before after (Ok given) step h = (h.0, done-follows P Q before after (Ok h.0) step h.1, h.2, h.3, h.4)

@@ -16,17 +16,20 @@ abbrev pub document_name : Document → List ℕ
 document_name document.Source = codes "source"
 document_name document.Image = codes "image"
 document_name document.Certificate = codes "certificate"
+document_name document.Log = codes "log"
 
 -- the most bytes of each
 abbrev pub most_bytes : Document → ℕ
 most_bytes document.Source = 1048576
 most_bytes document.Image = 2097152
 most_bytes document.Certificate = 8388608
+most_bytes document.Log = 67108864
 
 abbrev pub too_long_status : Document → ℕ
 too_long_status document.Source = 2
 too_long_status document.Image = 4
 too_long_status document.Certificate = 4
+too_long_status document.Log = 4
 
 -- `NAME at N`
 abbrev pub at_place : List ℕ → ℕ → List ℕ
@@ -71,7 +74,7 @@ cycle_words name = codes "budget: cycle at " ++ name
 
 -- a cause, without its line feed
 abbrev pub cause_words : Cause → List ℕ
-cause_words Usage = codes "usage: capriccio serve SRC, run SRC IMG CRT, build SRC IMG CRT, check SRC IMG CRT, graph SRC, demo N, budget SRC IMG CRT"
+cause_words Usage = codes "usage: capriccio serve SRC, run SRC IMG CRT, build SRC IMG CRT, check SRC IMG CRT, graph SRC, demo N, audit SRC LOG, budget SRC IMG CRT"
 cause_words (Absent document) = codes "absent: " ++ document_name document
 cause_words (TooLong document) = document_name document ++ codes ": TooLong"
 cause_words (Source error) = codes "source: " ++ source_words error

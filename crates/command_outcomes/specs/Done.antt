@@ -103,6 +103,19 @@ pub record TraceCounted (before after : Outside) : Type 0 where
   pub reads : IsRisen before.reads after.reads
   pub writes : after.writes ≡ before.writes
 
+-- a read of the trace failed before anything was printed: its count rose, or stands at its end
+pub record ReadCounted (before after : Outside) : Type 0 where
+  pub loads : after.loads ≡ before.loads
+  pub stores : after.stores ≡ before.stores
+  pub reads : Rose before.reads after.reads
+  pub writes : after.writes ≡ before.writes
+
+-- no count but that of the trace rose
+pub record NoneElseCounted (before after : Outside) : Type 0 where
+  pub loads : after.loads ≡ before.loads
+  pub stores : after.stores ≡ before.stores
+  pub writes : after.writes ≡ before.writes
+
 -- no count rose or stands at its end
 pub record NoFault (before after : Outside) : Type 0 where
   pub loads : Stayed before.loads after.loads
@@ -121,6 +134,13 @@ IsTraceLeft true left left' = Unit {0}
 pub record IsNothing (before after : Outside) : Type 0 where
   pub files : KeepsFiles before.files after.files
   pub trace : Keeps before.left after.left
+  pub out : Keeps before.taken after.taken
+
+-- the trace alone was read: no file has changed, and the output took nothing. It comes only where what is due may read the trace
+-- without a run: not of each outcome that reads it a world is handed out
+pub record IsOnlyRead (due : Outcome → Type 0) (before after : Outside) : Type 0 where
+  pub reads : ((outcome : Outcome) → due outcome → outcome.reads_trace ≡ true → outcome.last ≢ None) → ⊥
+  pub files : KeepsFiles before.files after.files
   pub out : Keeps before.taken after.taken
 
 -- all of an outcome
@@ -146,14 +166,15 @@ pub record IsCutInOut (outcome : Outcome) (before after : Outside) : Type 0 wher
 abbrev pub IsDone : (Outcome → Type 0) → (before after : Outside) → Result Outcome Fault → Type 0
 IsDone due before after (Ok outcome) = due outcome × IsWhole outcome before after × NoneCounted before after
 IsDone due before after (Err Read) =
-    (IsNothing before after × LoadCounted before after)
+    ((IsNothing before after × LoadCounted before after) ⊎ (IsOnlyRead due before after × ReadCounted before after))
     ⊎ ((outcome : Outcome) × (outcome.reads_trace ≡ true) × due outcome × IsCutInOut outcome before after × TraceCounted before after)
 IsDone due before after (Err Write) =
     (outcome : Outcome) × due outcome
     × ((IsCutInStores outcome before after × StoreCounted before after) ⊎ (IsCutInOut outcome before after × WriteCounted before after))
 IsDone due before after (Err Memory) =
-    (IsNothing before after ⊎ ((outcome : Outcome) × due outcome × (IsCutInStores outcome before after ⊎ IsCutInOut outcome before after)))
-    × NoneCounted before after
+    ((IsNothing before after ⊎ ((outcome : Outcome) × due outcome × (IsCutInStores outcome before after ⊎ IsCutInOut outcome before after)))
+    × NoneCounted before after)
+    ⊎ (IsOnlyRead due before after × NoneElseCounted before after)
 
 -- The status and standard error.
 

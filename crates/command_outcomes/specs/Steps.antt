@@ -2,6 +2,7 @@
 use Rattle.std.specs.Prelude.{ℕ, ◌≡◌, ◌≤◌, ◌⊎◌, List, [], length, Option, IfSome, Some, None, Result, Ok, Err}
 use Rattle.std.specs.Global.{Vec}
 use Rattle.std.specs.Io.KnownBytes.{Appends}
+use Rattle.cap_io.specs.Faults.{Rose}
 use Rattle.cap_io.specs.Files.{Files, KeepsFiles}
 use Rattle.command_outcomes.specs.declared.documents.Document.{Document}
 use Rattle.command_outcomes.specs.declared.documents.Document.TheVariants as document
@@ -9,6 +10,7 @@ use Rattle.command_outcomes.specs.declared.loading.LoadedFiles.{LoadedFiles}
 use Rattle.command_outcomes.specs.declared.stops.Stop.{Stop}
 use Rattle.command_outcomes.specs.declared.stops.Stop.TheVariants.{Refused, Failed}
 use Rattle.command_outcomes.specs.declared.ended.Ended.{Ended}
+use Rattle.command_outcomes.specs.declared.faults.Fault.{Fault}
 use Rattle.command_outcomes.specs.declared.faults.Fault.TheVariants.{Read, Write, Memory}
 use Rattle.command_outcomes.specs.Outcome.{Outcome, NoMore}
 use Rattle.command_outcomes.specs.CauseLines.{most_bytes, refusal}
@@ -30,6 +32,12 @@ IsShelfStop due loads loads' (Refused cause) = due (refusal cause) × (loads' �
 IsShelfStop due loads loads' (Failed Memory) = loads' ≡ loads
 IsShelfStop due loads loads' (Failed Read) = IsRisen loads loads'
 IsShelfStop due loads loads' (Failed Write) = ⊥
+
+-- a step over a trace stops by this fault, with its count of faults before and after
+abbrev pub IsReadStop : Fault → (reads reads' : ℕ) → Type 0
+IsReadStop Read reads reads' = Rose reads reads'
+IsReadStop Memory reads reads' = Unit {0}
+IsReadStop Write reads reads' = ⊥
 
 -- a loaded file of this name
 pub record IsLoaded (which : Document) (files : Option Files) (name bytes : List ℕ) : Type 0 where

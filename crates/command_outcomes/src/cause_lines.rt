@@ -14,7 +14,7 @@ use std::alloc::{AllocError, Global};
 
 /// What the words may be.
 const USAGE: &[u8] =
-    b"usage: capriccio serve SRC, run SRC IMG CRT, build SRC IMG CRT, check SRC IMG CRT, graph SRC, demo N, budget SRC IMG CRT";
+    b"usage: capriccio serve SRC, run SRC IMG CRT, build SRC IMG CRT, check SRC IMG CRT, graph SRC, demo N, audit SRC LOG, budget SRC IMG CRT";
 
 /// The line of a refusal, with its line feed.
 pub(crate) fn line_of(alloc: Global, cause: &Cause) -> Result<Vec<u8>, AllocError>

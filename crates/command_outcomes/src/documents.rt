@@ -11,6 +11,8 @@ pub enum Document {
     Image,
     /// What is claimed of an image.
     Certificate,
+    /// The log of a run.
+    Log,
 }
 
 impl Document {
@@ -22,6 +24,7 @@ impl Document {
             Document::Source => b"source",
             Document::Image => b"image",
             Document::Certificate => b"certificate",
+            Document::Log => b"log",
         }
     }
 
@@ -33,6 +36,7 @@ impl Document {
             Document::Source => 1_048_576,
             Document::Image => 2_097_152,
             Document::Certificate => 8_388_608,
+            Document::Log => 67_108_864,
         }
     }
 }

@@ -64,7 +64,7 @@ impl Cause {
             Cause::Usage => 1,
             Cause::Absent(_) => 9,
             Cause::TooLong(Document::Source) | Cause::Source(_) => 2,
-            Cause::TooLong(Document::Image | Document::Certificate)
+            Cause::TooLong(Document::Image | Document::Certificate | Document::Log)
             | Cause::Image(_)
             | Cause::CertificateLine(_) => 4,
             Cause::Rejected { .. } => 3,

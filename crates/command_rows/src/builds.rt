@@ -86,7 +86,7 @@ const BUILDS: [BuildRow<'static>; 7] = [
         &[("P", TWO), ("I", OLD), ("C", OLD)],
         1,
         NONE,
-        b"usage: capriccio serve SRC, run SRC IMG CRT, build SRC IMG CRT, check SRC IMG CRT, graph SRC, demo N, budget SRC IMG CRT\n",
+        b"usage: capriccio serve SRC, run SRC IMG CRT, build SRC IMG CRT, check SRC IMG CRT, graph SRC, demo N, audit SRC LOG, budget SRC IMG CRT\n",
         &[("I", OLD), ("C", OLD)],
     ),
 ];

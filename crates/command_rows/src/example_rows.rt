@@ -4,52 +4,52 @@ use crate::calls::{NONE, Row, hold};
 use std::test::Fail;
 
 /// Two workers that share the arrivals.
-const POOL: &[u8] =
+pub(crate) const POOL: &[u8] =
     b"// Two workers share the arrivals: a free one takes the oldest, and answers with its square.\nvoid worker(int n) {\n  int request;\n  while (1) {\n    request = accept();\n    put(request * request);\n  }\n}\n\nint main() {\n  spawn(worker, 1);\n  spawn(worker, 2);\n  return 0;\n}\n";
 
-const TRACE_OF_POOL: &[u8] = b"arrive 100 3\narrive 100 4\narrive 500 5\n";
+pub(crate) const TRACE_OF_POOL: &[u8] = b"arrive 100 3\narrive 100 4\narrive 500 5\n";
 
-const LOG_OF_POOL: &[u8] =
+pub(crate) const LOG_OF_POOL: &[u8] =
     b"run 0 0 0\nend 0 31 1022\nrun 31 1 0\nblock 1 2 0 13 1022\nrun 44 2 0\nblock 2 2 0 13 1022\nevent 100 arrive 3\nevent 100 arrive 4\nrun 100 1 2\nout 1 9\nblock 1 2 0 20 1022\nrun 120 2 2\nout 2 16\nblock 2 2 0 20 1022\nevent 500 arrive 5\nrun 500 1 2\nout 1 25\nblock 1 2 0 20 1022\nedge 0 1 1 7936 256\nedge 0 2 2 3328 0\nedge 2 2 3 5120 0\nstop idle\n";
 
 /// A request that comes in several messages.
-const PIECES: &[u8] =
+pub(crate) const PIECES: &[u8] =
     b"// An arrival is the number of a channel. On it come the length of a list and then its numbers; the answer is their sum.\nint sum_of_list(int channel) {\n  int left;\n  int part;\n  int sum;\n  sum = 0;\n  left = wait(channel);\n  while (left > 0) {\n    part = wait(channel);\n    sum = sum + part;\n    left = left - 1;\n  }\n  return sum;\n}\n\nvoid worker(int n) {\n  int channel;\n  int sum;\n  while (1) {\n    channel = accept();\n    sum = sum_of_list(channel);\n    put(sum);\n  }\n}\n\nint main() {\n  spawn(worker, 1);\n  spawn(worker, 2);\n  return 0;\n}\n";
 
-const TRACE_OF_PIECES: &[u8] =
+pub(crate) const TRACE_OF_PIECES: &[u8] =
     b"arrive 100 5\ndata 100 5 2\narrive 150 6\ndata 300 6 1\ndata 400 5 10\ndata 500 6 7\ndata 600 5 20\n";
 
-const LOG_OF_PIECES: &[u8] =
+pub(crate) const LOG_OF_PIECES: &[u8] =
     b"run 0 0 0\nend 0 31 1022\nrun 31 1 0\nblock 1 2 2 16 1022\nrun 47 2 0\nblock 2 2 2 16 1022\nevent 100 arrive 5\nevent 100 data 5 2\nrun 100 1 2\nblock 1 3 0<3 27 1022\nrun 127 1 3\nblock 1 4 1<3 17 1022\nevent 150 arrive 6\nrun 150 2 2\nblock 2 3 0<3 27 1022\nevent 300 data 6 1\nrun 300 2 3\nblock 2 4 1<3 17 1022\nevent 400 data 5 10\nrun 400 1 4\nblock 1 4 1<3 39 1022\nevent 500 data 6 7\nrun 500 2 4\nout 2 7\nblock 2 2 2 55 1022\nevent 600 data 5 20\nrun 600 1 4\nout 1 30\nblock 1 2 2 55 1022\nedge 0 1 1 7936 256\nedge 0 2 2 4096 0\nedge 2 3 2 6912 0\nedge 3 4 2 4352 0\nedge 4 2 2 14080 0\nedge 4 4 1 9984 0\nstop idle\n";
 
 /// A bounded resource, and the gate.
-const BOUNDED: &[u8] =
+pub(crate) const BOUNDED: &[u8] =
     b"// Requests share ten units of memory. A request says how many units it needs. Its worker takes them, works in three\n// pieces with the turns of others between, answers, and gives them back.\nvoid worker(int n) {\n  int units;\n  int piece;\n  while (1) {\n    units = accept();\n    take(1, units);\n    for (piece = 0; piece < 3; piece = piece + 1) yield();\n    put(units);\n    give(1, units);\n  }\n}\n\nint main() {\n  spawn(worker, 1);\n  spawn(worker, 2);\n  return 0;\n}\n";
 
-const TRACE_OF_BOUNDED: &[u8] = b"arrive 100 9\narrive 120 2\n";
+pub(crate) const TRACE_OF_BOUNDED: &[u8] = b"arrive 100 9\narrive 120 2\n";
 
-const LOG_OF_BOUNDED: &[u8] =
+pub(crate) const LOG_OF_BOUNDED: &[u8] =
     b"run 0 0 0\nend 0 31 1022\nrun 31 1 0\nblock 1 2 0 16 1022\nrun 47 2 0\nblock 2 2 0 16 1022\nevent 100 arrive 9\nrun 100 1 2\nblock 1 3 1 10 1022\nrun 110 1 3\nblock 1 4 2 18 1022\nevent 128 arrive 2\nrun 128 1 4\nblock 1 4 2 25 1022\nrun 153 1 4\nblock 1 4 2 25 1022\nrun 178 1 4\nout 1 9\nblock 1 2 0 46 1022\nrun 224 2 2\nblock 2 3 1 10 1022\nrun 234 2 3\nblock 2 4 2 18 1022\nrun 252 2 4\nblock 2 4 2 25 1022\nrun 277 2 4\nblock 2 4 2 25 1022\nrun 302 2 4\nout 2 2\nblock 2 2 0 46 1022\nedge 0 1 1 7936 256 0\nedge 0 2 2 4096 0 0\nedge 2 3 2 2560 0 0\nedge 3 4 2 4608 0 2080\nedge 4 2 2 11776 0 -2080\nedge 4 4 4 6400 0 0\nstop idle\n";
 
 /// A recursion over linked chunks.
-const RECURSION: &[u8] =
+pub(crate) const RECURSION: &[u8] =
     b"// The answer to a request n is 1 + 2 + .. + n, by a recursion n calls deep. At its end the thread yields once, so that\n// the log tells how many chunks it holds there.\nint sum_to(int n) {\n  int rest;\n  if (n < 1) {\n    yield();\n    return 0;\n  }\n  rest = sum_to(n - 1);\n  return n + rest;\n}\n\nint main() {\n  int request;\n  int answer;\n  while (1) {\n    request = accept();\n    answer = sum_to(request);\n    put(answer);\n  }\n}\n";
 
-const TRACE_OF_RECURSION: &[u8] = b"arrive 100 1\narrive 1000 10\narrive 10000 100\n";
+pub(crate) const TRACE_OF_RECURSION: &[u8] = b"arrive 100 1\narrive 1000 10\narrive 10000 100\n";
 
-const LOG_OF_RECURSION: &[u8] =
+pub(crate) const LOG_OF_RECURSION: &[u8] =
     b"run 0 0 0\nblock 0 2 2 15 255\nevent 100 arrive 1\nrun 100 0 2\nblock 0 3 0<1<3 59 254\nrun 159 0 3\nout 0 1\nblock 0 2 2 36 255\nevent 1000 arrive 10\nrun 1000 0 2\nblock 0 4 0<1<1<1<1<1<1<1 374 245\nrun 1374 0 4\nout 0 55\nblock 0 2 2 171 255\nevent 10000 arrive 100\nrun 10000 0 2\nblock 0 4 0<1<1<1<1<1<1<1 3524 155\nrun 13524 0 4\nout 0 5050\nblock 0 2 2 1521 255\nedge 0 2 1 3840 0\nedge 2 3 1 15104 256\nedge 2 4 2 196544 5440\nedge 3 2 1 9216 -256\nedge 4 2 2 86976 -5440\nstop idle\n";
 
 const LOG_OF_RECURSION_LARGE: &[u8] =
     b"run 0 0 0\nblock 0 2 2 15 1023\nevent 100 arrive 1\nrun 100 0 2\nblock 0 3 0<1<3 57 1023\nrun 157 0 3\nout 0 1\nblock 0 2 2 35 1023\nevent 1000 arrive 10\nrun 1000 0 2\nblock 0 4 0<1<1<1<1<1<1<1 354 1023\nrun 1354 0 4\nout 0 55\nblock 0 2 2 161 1023\nevent 10000 arrive 100\nrun 10000 0 2\nblock 0 4 0<1<1<1<1<1<1<1 3324 1023\nrun 13324 0 4\nout 0 5050\nblock 0 2 2 1421 1023\nedge 0 2 1 3840 0\nedge 2 3 1 14592 0\nedge 2 4 2 185664 0\nedge 3 2 1 8960 0\nedge 4 2 2 81536 0\nstop idle\n";
 
 /// Threads that sleep.
-const TIMERS: &[u8] =
+pub(crate) const TIMERS: &[u8] =
     b"// Each arrival starts a thread that sleeps as many ticks as the arrival says, and then puts the number.\nvoid remind(int ticks) {\n  sleep(ticks);\n  put(ticks);\n}\n\nint main() {\n  int ticks;\n  while (1) {\n    ticks = accept();\n    spawn(remind, ticks);\n  }\n}\n";
 
-const TRACE_OF_TIMERS: &[u8] = b"arrive 0 900\narrive 0 300\narrive 100 500\n";
+pub(crate) const TRACE_OF_TIMERS: &[u8] = b"arrive 0 900\narrive 0 300\narrive 100 500\n";
 
-const LOG_OF_TIMERS: &[u8] =
+pub(crate) const LOG_OF_TIMERS: &[u8] =
     b"event 0 arrive 900\nevent 0 arrive 300\nrun 0 0 0\nblock 0 2 2 12 1023\nrun 12 0 2\nblock 0 2 2 18 1022\nrun 30 1 0\nblock 1 3 0 8 1022\nrun 38 0 2\nblock 0 2 2 18 1021\nrun 56 2 0\nblock 2 3 0 8 1021\nevent 100 arrive 500\nrun 100 0 2\nblock 0 2 2 18 1020\nrun 118 3 0\nblock 3 3 0 8 1020\nrun 364 2 3\nout 2 300\nend 2 10 1021\nrun 626 3 3\nout 3 500\nend 3 10 1022\nrun 938 1 3\nout 1 900\nend 1 10 1023\nedge 0 2 1 3072 0\nedge 0 3 3 2048 0\nedge 2 2 3 4608 256\nedge 3 1 3 2560 -256\nstop idle\n";
 
 /// A peer that is given up.
@@ -99,23 +99,23 @@ const LOG_OF_SIZES_ONE: &[u8] =
 
 // Each of these servers idles at its end: the status is 10.
 /// A key-value store for two clients.
-const STORE: &[u8] =
+pub(crate) const STORE: &[u8] =
     b"// A key-value store. An arrival is the number of a channel, on which a client's operations come: 1, a key and a value to set it, 2 and a\n// key to get its value, 0 to leave. Keys are above 0. An answer is 1 or the value, and -1 where the store is full or has no such key.\nint keys[16];\nint values[16];\n\nint slot_of(int key) {\n  int slot;\n  int tries;\n  slot = key % 16;\n  for (tries = 0; tries < 16; tries = tries + 1) {\n    if (keys[slot] == key || keys[slot] == 0) return slot;\n    slot = (slot + 1) % 16;\n  }\n  return -1;\n}\n\nint set(int key, int value) {\n  int slot;\n  slot = slot_of(key);\n  if (slot < 0) return -1;\n  keys[slot] = key;\n  values[slot] = value;\n  return 1;\n}\n\nint get(int key) {\n  int slot;\n  slot = slot_of(key);\n  if (slot < 0) return -1;\n  return keys[slot] == key ? values[slot] : -1;\n}\n\nvoid serve(int channel) {\n  int operation;\n  int key;\n  while (1) {\n    operation = wait(channel);\n    if (operation == 0) return;\n    key = wait(channel);\n    if (operation == 1) put(set(key, wait(channel)));\n    else put(get(key));\n  }\n}\n\nvoid worker(int n) {\n  while (1) serve(accept());\n}\n\nint main() {\n  spawn(worker, 1);\n  spawn(worker, 2);\n  return 0;\n}\n";
 
-const TRACE_OF_STORE: &[u8] =
+pub(crate) const TRACE_OF_STORE: &[u8] =
     b"arrive 100 1\ndata 100 1 1\ndata 100 1 7\ndata 110 1 70\narrive 300 2\ndata 300 2 2\ndata 300 2 7\ndata 500 2 1\ndata 500 2 23\ndata 600 1 2\ndata 600 1 23\ndata 700 2 5\ndata 900 1 2\ndata 900 1 23\ndata 1000 1 0\ndata 1100 2 0\n";
 
-const LOG_OF_STORE: &[u8] =
+pub(crate) const LOG_OF_STORE: &[u8] =
     b"run 0 0 0\nend 0 31 1022\nrun 31 1 0\nblock 1 2 10 10 1022\nrun 41 2 0\nblock 2 2 10 10 1022\nevent 100 arrive 1\nevent 100 data 1 1\nevent 100 data 1 7\nrun 100 1 2\nblock 1 3 2<9 24 1022\nevent 124 data 1 70\nrun 124 1 3\nblock 1 4 3<9 19 1022\nrun 143 1 4\nblock 1 5 6<9 22 1022\nrun 165 1 5\nout 1 1\nblock 1 3 2<9 177 1022\nevent 342 arrive 2\nevent 342 data 2 2\nevent 342 data 2 7\nrun 342 2 2\nblock 2 3 2<9 24 1022\nrun 366 2 3\nblock 2 4 3<9 19 1022\nrun 385 2 4\nout 2 70\nblock 2 3 2<9 166 1022\nevent 551 data 2 1\nevent 551 data 2 23\nrun 551 2 3\nblock 2 4 3<9 19 1022\nrun 570 2 4\nblock 2 5 6<9 22 1022\nevent 600 data 1 2\nevent 600 data 1 23\nrun 600 1 3\nblock 1 4 3<9 19 1022\nrun 619 1 4\nout 1 -1\nblock 1 3 2<9 274 1022\nevent 893 data 2 5\nrun 893 2 5\nout 2 1\nblock 2 3 2<9 269 1022\nevent 1162 data 1 2\nevent 1162 data 1 23\nevent 1162 data 1 0\nevent 1162 data 2 0\nrun 1162 1 3\nblock 1 4 3<9 19 1022\nrun 1181 1 4\nout 1 5\nblock 1 3 2<9 258 1022\nrun 1439 2 3\nblock 2 2 10 24 1022\nrun 1463 1 3\nblock 1 2 10 24 1022\nedge 0 1 1 7936 256\nedge 0 2 2 2560 0\nedge 2 3 2 6144 0\nedge 3 2 2 6144 0\nedge 3 4 5 4864 0\nedge 4 3 3 48464 0\nedge 4 5 2 5632 0\nedge 5 3 2 48256 0\nstop idle\n";
 
 /// A rate limiter.
-const LIMITER: &[u8] =
+pub(crate) const LIMITER: &[u8] =
     b"// A rate limiter: no more than two requests are answered in any 1,000 ticks. A request takes a unit of resource 1, and a thread of its\n// own gives the unit back 1,000 ticks later.\nvoid give_back(int n) {\n  sleep(1000);\n  give(1, 1);\n}\n\nvoid worker(int n) {\n  int request;\n  while (1) {\n    request = accept();\n    take(1, 1);\n    spawn(give_back, 0);\n    put(request);\n  }\n}\n\nint main() {\n  spawn(worker, 0);\n  return 0;\n}\n";
 
-const TRACE_OF_LIMITER: &[u8] =
+pub(crate) const TRACE_OF_LIMITER: &[u8] =
     b"arrive 100 1\narrive 110 2\narrive 120 3\narrive 130 4\narrive 2500 5\n";
 
-const LOG_OF_LIMITER: &[u8] =
+pub(crate) const LOG_OF_LIMITER: &[u8] =
     b"run 0 0 0\nend 0 21 1023\nrun 21 1 0\nblock 1 2 2 13 1023\nevent 100 arrive 1\nrun 100 1 2\nblock 1 3 3 11 1023\nevent 111 arrive 2\nrun 111 1 3\nout 1 1\nblock 1 2 2 23 1022\nevent 134 arrive 3\nevent 134 arrive 4\nrun 134 2 0\nblock 2 4 0 9 1022\nrun 143 1 2\nblock 1 3 3 11 1022\nrun 154 1 3\nout 1 2\nblock 1 2 2 23 1021\nrun 177 3 0\nblock 3 4 0 9 1021\nrun 186 1 2\nblock 1 3 3 11 1021\nrun 1143 2 4\nend 2 15 1022\nrun 1158 1 3\nout 1 3\nblock 1 2 2 23 1021\nrun 1181 4 0\nblock 4 4 0 9 1021\nrun 1190 3 4\nend 3 15 1022\nrun 1205 1 2\nblock 1 3 3 11 1022\nrun 1216 1 3\nout 1 4\nblock 1 2 2 23 1021\nrun 1239 5 0\nblock 5 4 0 9 1021\nrun 2190 4 4\nend 4 15 1022\nrun 2248 5 4\nend 5 15 1023\nevent 2500 arrive 5\nrun 2500 1 2\nblock 1 3 3 11 1023\nrun 2511 1 3\nout 1 5\nblock 1 2 2 23 1022\nrun 2534 6 0\nblock 6 4 0 9 1022\nrun 3543 6 4\nend 6 15 1023\nedge 0 1 1 5376 0 0\nedge 0 2 1 3328 0 0\nedge 0 4 5 2304 0 0\nedge 2 3 5 2816 0 0\nedge 3 2 5 5888 256 256\nedge 4 1 5 3840 -256 -256\nstop idle\n";
 
 /// A calculator over a stream of characters.

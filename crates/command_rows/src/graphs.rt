@@ -64,7 +64,7 @@ const GRAPHS: [Row<'static>; 9] = [
         NONE,
         1,
         NONE,
-        b"usage: capriccio serve SRC, run SRC IMG CRT, build SRC IMG CRT, check SRC IMG CRT, graph SRC, demo N, budget SRC IMG CRT\n",
+        b"usage: capriccio serve SRC, run SRC IMG CRT, build SRC IMG CRT, check SRC IMG CRT, graph SRC, demo N, audit SRC LOG, budget SRC IMG CRT\n",
     ),
 ];
 

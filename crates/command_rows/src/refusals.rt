@@ -6,7 +6,7 @@ use std::alloc::{AllocError, Global};
 use std::test::Fail;
 
 const USAGE: &[u8] =
-    b"usage: capriccio serve SRC, run SRC IMG CRT, build SRC IMG CRT, check SRC IMG CRT, graph SRC, demo N, budget SRC IMG CRT\n";
+    b"usage: capriccio serve SRC, run SRC IMG CRT, build SRC IMG CRT, check SRC IMG CRT, graph SRC, demo N, audit SRC LOG, budget SRC IMG CRT\n";
 
 // Sources that are refused, words that are no word list, and a file that isn't there.
 const REFUSALS: [Row<'static>; 27] = [

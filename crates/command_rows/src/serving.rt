@@ -15,7 +15,7 @@ const DEEP: &[u8] =
 const SHALLOW: &[u8] =
     b"int f(int n) { int r; if (n < 1) return 0; r = f(n - 1); return r + 1; } int main() { int r; r = f(1); put(r); return 0; }";
 
-const ENDLESS: &[u8] =
+pub(crate) const ENDLESS: &[u8] =
     b"int f(int n) { int r; put(n); r = f(n + 1); return r; } int main() { int r; r = f(0); return r; }";
 
 /// A server of two workers: each takes an arrival, waits for its data, and answers.

@@ -3,14 +3,15 @@ use Rattle.std.proofs.Common.{◌≡◌, ◌∙◌, ℕ, ◌+◌, ◌-◌, ◌*�
 use Rattle.std.specs.Str.{bytes_eq}
 use Rattle.std.proofs.lemmas.Slice.Eq.{bytes_eq-Decides}
 use Rattle.cap_text.proofs.DecimalLaws.{decimal_unique}
+use Rattle.command_words.specs.declared.options.Audit.{Audit as AuditOptions}
 use Rattle.command_words.specs.declared.options.Placement.{Placement}
 use Rattle.command_words.specs.declared.options.Policy.{Policy}
 use Rattle.command_words.specs.declared.options.Rule.{Rule}
 use Rattle.command_words.specs.declared.options.Rule.TheVariants.{Graph, Stride}
 use Rattle.command_words.specs.declared.options.Tickets.{Tickets}
-use Rattle.command_words.specs.Values.{IsChosen, IsNumber, IsPlacement, IsPolicy, AreCaps, AreCapsAbove, cap_text, caps_of, default_max_path, AreTickets, IsRule, rule_name, ticket_text, tickets_of}
-use Rattle.command_words.specs.WordList.{Request, Serve, Run, Build, Check, Graph, Demo, Budget}
-use Rattle.command_words.specs.Asked.{Texts, IsAsked, HasThree}
+use Rattle.command_words.specs.Values.{IsAudit, IsChosen, IsNumber, IsPlacement, IsPolicy, AreCaps, AreCapsAbove, cap_text, caps_of, default_max_path, AreTickets, IsRule, rule_name, ticket_text, tickets_of}
+use Rattle.command_words.specs.WordList.{Request, Serve, Run, Build, Check, Graph, Demo, Audit, Budget}
+use Rattle.command_words.specs.Asked.{Texts, IsAsked, HasThree, HasTwo}
 use Rattle.command_words.proofs.CapsSoFar.{Caps, one_cap}
 use Rattle.command_words.proofs.TicketsSoFar.{ticket_parts}
 
@@ -105,6 +106,19 @@ one_policy given p q is same =
     let knee = one_chosen (given (codes "--knee")) 0 p.knee q.knee is.knee.chosen same.knee.chosen in
     λ i. record { chunks = chunks i; extra = extra i; extra_bytes = extra_bytes i; fuel = fuel i; backlog = backlog i; caps = caps i; high = high i; low = low i; rule = rule i; knee = knee i }
 
+pub one_audit : (given : Texts) (a b : AuditOptions) → IsAudit given a → IsAudit given b → a ≡ b
+one_audit given a b is same =
+    let chunks = one_chosen (given (codes "--chunks")) 1024 a.chunks b.chunks is.chunks.chosen same.chunks.chosen in
+    let extra = one_chosen (given (codes "--extra")) 0 a.extra b.extra is.extra.chosen same.extra.chosen in
+    let fuel = one_chosen (given (codes "--fuel")) 10000000 a.fuel b.fuel is.fuel.chosen same.fuel.chosen in
+    let backlog = one_chosen (given (codes "--backlog")) 64 a.backlog b.backlog is.backlog.chosen same.backlog.chosen in
+    let caps = one_caps (given (codes "--caps")) a.caps b.caps is.caps same.caps in
+    let high = one_chosen (given (codes "--high")) 900 a.high b.high is.high.chosen same.high.chosen in
+    let low = one_chosen (given (codes "--low")) 700 a.low b.low is.low.chosen same.low.chosen in
+    let knee = one_chosen (given (codes "--knee")) 0 a.knee b.knee is.knee.chosen same.knee.chosen in
+    let steps = one_chosen (given (codes "--steps")) 1000000000 a.steps b.steps is.steps.chosen same.steps.chosen in
+    λ i. record { chunks = chunks i; extra = extra i; fuel = fuel i; backlog = backlog i; caps = caps i; high = high i; low = low i; knee = knee i; steps = steps i }
+
 -- a chunk is chosen that is no multiple of 16
 pub no_whole : (given : Texts) (chunk : ℕ) → IsNumber (given (codes "--chunk")) 4096 64 65536 chunk → (chunk % 16 ≡ 0 → ⊥) → (p : Placement) → IsPlacement given p → ⊥
 no_whole given chunk chosen other p is =
@@ -125,6 +139,12 @@ no_low given high chosen none p is =
     let same = one_chosen (given (codes "--high")) 900 p.high high is.high.chosen chosen.chosen in
     none p.low (subst (λ (c : ℕ). IsNumber (given (codes "--low")) 700 0 (c - 1) p.low) same is.low)
 
+pub no_audit_low : (given : Texts) (high : ℕ) → IsNumber (given (codes "--high")) 900 1 1000 high
+    → ((n : ℕ) → IsNumber (given (codes "--low")) 700 0 (high - 1) n → ⊥) → (a : AuditOptions) → IsAudit given a → ⊥
+no_audit_low given high chosen none a is =
+    let same = one_chosen (given (codes "--high")) 900 a.high high is.high.chosen chosen.chosen in
+    none a.low (subst (λ (c : ℕ). IsNumber (given (codes "--low")) 700 0 (c - 1) a.low) same is.low)
+
 -- ---- the command's name
 
 pub other_name : (given : Texts) (a b : List ℕ) → given (codes "command") ≡ Some a → given (codes "command") ≡ Some b → bytes_eq a b ≡ false → ⊥
@@ -135,14 +155,28 @@ other_name given a b is also differ =
 
 -- a command of three names, where there aren't three
 pub no_three : (given : Texts) (name : List ℕ) → given (codes "command") ≡ Some name → bytes_eq name (codes "serve") ≡ false → bytes_eq name (codes "graph") ≡ false
-    → bytes_eq name (codes "demo") ≡ false → ((n first second third : List ℕ) → HasThree given n first second third → ⊥) → (request : Request) → IsAsked given request → ⊥
-no_three given name is serve graph demo none (Serve source placement policy) asked = other_name given name (codes "serve") is asked.0.0 serve
-no_three given name is serve graph demo none (Run source image certificate policy) asked = none (codes "run") source image certificate asked.0
-no_three given name is serve graph demo none (Build source image certificate placement) asked = none (codes "build") source image certificate asked.0
-no_three given name is serve graph demo none (Check source image certificate) asked = none (codes "check") source image certificate asked.0
-no_three given name is serve graph demo none (Graph source placement) asked = other_name given name (codes "graph") is asked.0.0 graph
-no_three given name is serve graph demo none (Budget source image certificate) asked = none (codes "budget") source image certificate asked.0
-no_three given name is serve graph demo none (Demo number) asked = other_name given name (codes "demo") is asked.0.0 demo
+    → bytes_eq name (codes "demo") ≡ false → bytes_eq name (codes "audit") ≡ false → ((n first second third : List ℕ) → HasThree given n first second third → ⊥)
+    → (request : Request) → IsAsked given request → ⊥
+no_three given name is serve graph demo audit none (Serve source placement policy) asked = other_name given name (codes "serve") is asked.0.0 serve
+no_three given name is serve graph demo audit none (Run source image certificate policy) asked = none (codes "run") source image certificate asked.0
+no_three given name is serve graph demo audit none (Build source image certificate placement) asked = none (codes "build") source image certificate asked.0
+no_three given name is serve graph demo audit none (Check source image certificate) asked = none (codes "check") source image certificate asked.0
+no_three given name is serve graph demo audit none (Graph source placement) asked = other_name given name (codes "graph") is asked.0.0 graph
+no_three given name is serve graph demo audit none (Budget source image certificate) asked = none (codes "budget") source image certificate asked.0
+no_three given name is serve graph demo audit none (Demo number) asked = other_name given name (codes "demo") is asked.0.0 demo
+no_three given name is serve graph demo audit none (Audit source log options) asked = other_name given name (codes "audit") is asked.0.0 audit
+
+-- an audit of two names, where there aren't two
+pub no_two : (given : Texts) → given (codes "command") ≡ Some (codes "audit") → ((n first second : List ℕ) → HasTwo given n first second → ⊥)
+    → (request : Request) → IsAsked given request → ⊥
+no_two given is none (Serve source placement policy) asked = other_name given (codes "audit") (codes "serve") is asked.0.0 refl
+no_two given is none (Run source image certificate policy) asked = other_name given (codes "audit") (codes "run") is asked.0.0 refl
+no_two given is none (Build source image certificate placement) asked = other_name given (codes "audit") (codes "build") is asked.0.0 refl
+no_two given is none (Check source image certificate) asked = other_name given (codes "audit") (codes "check") is asked.0.0 refl
+no_two given is none (Graph source placement) asked = other_name given (codes "audit") (codes "graph") is asked.0.0 refl
+no_two given is none (Demo number) asked = other_name given (codes "audit") (codes "demo") is asked.0.0 refl
+no_two given is none (Audit source log options) asked = none (codes "audit") source log asked.0
+no_two given is none (Budget source image certificate) asked = other_name given (codes "audit") (codes "budget") is asked.0.0 refl
 
 -- a size of the chunks that are added is chosen that is no multiple of 16
 pub no_extra : (given : Texts) (bytes : ℕ) → IsNumber (given (codes "--extra-size")) 64 32 65536 bytes → (bytes % 16 ≡ 0 → ⊥) → (p : Policy) → IsPolicy given p → ⊥
@@ -163,4 +197,5 @@ no_pool given placement policy is placed ruled large (Build source image certifi
 no_pool given placement policy is placed ruled large (Check source image certificate) asked = other_name given (codes "serve") (codes "check") is asked.0.0 refl
 no_pool given placement policy is placed ruled large (Graph source p) asked = other_name given (codes "serve") (codes "graph") is asked.0.0 refl
 no_pool given placement policy is placed ruled large (Budget source image certificate) asked = other_name given (codes "serve") (codes "budget") is asked.0.0 refl
+no_pool given placement policy is placed ruled large (Audit source log options) asked = other_name given (codes "serve") (codes "audit") is asked.0.0 refl
 no_pool given placement policy is placed ruled large (Demo number) asked = other_name given (codes "serve") (codes "demo") is asked.0.0 refl

@@ -1,3 +1,4 @@
+pub mod GivenOptions
 pub mod Lists
 pub mod OneRequest
 pub mod Chosen

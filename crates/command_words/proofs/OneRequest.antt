@@ -5,13 +5,14 @@ use Rattle.std.proofs.lemmas.Slice.Eq.{bytes_eq-Decides}
 use Rattle.std.proofs.Common.{true≢false}
 use Rattle.cap_text.specs.Decimals.{canonical_decimal}
 use Rattle.cap_text.proofs.DecimalLaws.{decimal_unique}
+use Rattle.command_words.specs.declared.options.Audit.{Audit as AuditOptions}
 use Rattle.command_words.specs.declared.options.Placement.{Placement}
 use Rattle.command_words.specs.declared.options.Policy.{Policy}
 use Rattle.command_words.specs.Said.{Said, Positional, positionals_of, value_of}
-use Rattle.command_words.specs.Values.{IsPlacement, IsPolicy}
-use Rattle.command_words.specs.WordList.{Request, Serve, Run, Build, Check, Graph, Demo, Budget, IsWordList}
+use Rattle.command_words.specs.Values.{IsAudit, IsPlacement, IsPolicy}
+use Rattle.command_words.specs.WordList.{Request, Serve, Run, Build, Check, Graph, Demo, Audit, Budget, IsWordList}
 use Rattle.command_words.proofs.Lists.{name_of, said_in, whole_list, one_said}
-use Rattle.command_words.proofs.Chosen.{one_placement, one_policy}
+use Rattle.command_words.proofs.Chosen.{one_audit, one_placement, one_policy}
 
 all_said : (words : List (List ℕ)) (a b : Request) (is : IsWordList words a) (also : IsWordList words b)
     → ◌≡◌ {A = List Said} (Positional (name_of a) ∷ said_in words a is) (Positional (name_of b) ∷ said_in words b also)
@@ -35,6 +36,9 @@ same_placement a b p q same is also = one_placement (value_of b) p q (subst (λ 
 
 same_policy : (a b : List Said) (p q : Policy) → a ≡ b → IsPolicy (value_of a) p → IsPolicy (value_of b) q → p ≡ q
 same_policy a b p q same is also = one_policy (value_of b) p q (subst (λ (s : List Said). IsPolicy (value_of s) p) same is) also
+
+same_audit : (x y : List Said) (a b : AuditOptions) → x ≡ y → IsAudit (value_of x) a → IsAudit (value_of y) b → a ≡ b
+same_audit x y a b same is also = one_audit (value_of y) a b (subst (λ (s : List Said). IsAudit (value_of s) a) same is) also
 
 pub one_request : (words : List (List ℕ)) (a b : Request) → IsWordList words a → IsWordList words b → a ≡ b
 one_request words (Serve source p q) (Serve other r s) is also =
@@ -66,6 +70,11 @@ one_request words (Demo number) (Demo other) is also =
     let same = same_said words (Demo number) (Demo other) is also in
     let names : canonical_decimal number ∷ [] ≡ canonical_decimal other ∷ [] = same_words is.0 also.0 (canonical_decimal number ∷ []) (canonical_decimal other ∷ []) same is.1.positional also.1.positional in
     ap Demo (decimal_unique number other (cc))
+one_request words (Audit source log options) (Audit a b others) is also =
+    let same = same_said words (Audit source log options) (Audit a b others) is also in
+    let names : source ∷ log ∷ [] ≡ a ∷ b ∷ [] = same_words is.0 also.0 (source ∷ log ∷ []) (a ∷ b ∷ []) same is.1.positional also.1.positional in
+    let policy : options ≡ others = same_audit is.0 also.0 options others same is.2 also.2 in
+    cc
 one_request words (Budget source image certificate) (Budget a b c) is also =
     let same = same_said words (Budget source image certificate) (Budget a b c) is also in
     let names : source ∷ image ∷ certificate ∷ [] ≡ a ∷ b ∷ c ∷ [] = same_words is.0 also.0 (source ∷ image ∷ certificate ∷ []) (a ∷ b ∷ c ∷ []) same is.1.positional also.1.positional in
@@ -76,4 +85,5 @@ one_request words (Build source image certificate p) b is also = absurd (other_c
 one_request words (Check source image certificate) b is also = absurd (other_command words (Check source image certificate) b is also refl)
 one_request words (Graph source p) b is also = absurd (other_command words (Graph source p) b is also refl)
 one_request words (Demo number) b is also = absurd (other_command words (Demo number) b is also refl)
+one_request words (Audit source log options) b is also = absurd (other_command words (Audit source log options) b is also refl)
 one_request words (Budget source image certificate) b is also = absurd (other_command words (Budget source image certificate) b is also refl)

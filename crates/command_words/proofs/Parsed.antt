@@ -8,6 +8,7 @@ use Rattle.clap.specs.Simple.{App, entered, matches_of, names_of}
 use Rattle.clap.specs.Walk.{Held, Row, Rule, Text, finished, has_row, first_of, nothing_held, rows_after, walk, walk_from, with_default, default_rows, reading_by}
 use Rattle.command_words.specs.Said.{Said, words_of, IsPlain, positionals_of, options_of, value_of, IsOneOf, AreOnce}
 use Rattle.command_words.specs.Parse.{words_app, all_options, IsWord, IsReadable, command_names, IsSaid, Tells, IsReadAs}
+use Rattle.command_words.proofs.GivenOptions.{all_among}
 use Rattle.command_words.proofs.Rules.{rules, top, top_is, are_places, places, is_option}
 use Rattle.command_words.proofs.Steps.{between}
 use Rattle.command_words.proofs.Rows.{first_none, then_none, both_none}
@@ -22,7 +23,7 @@ abbrev HaveNoDefaults : List Rule → Type 0
 HaveNoDefaults = AllByRecursion (λ a. a.defaults ≡ [])
 
 none_in_rules : HaveNoDefaults rules
-none_in_rules = (refl, (refl, (refl, (refl, (refl, (refl, (refl, (refl, (refl, (refl, (refl, (refl, (refl, (refl, (refl, (refl, (refl, tt)))))))))))))))))
+none_in_rules = (refl, (refl, (refl, (refl, (refl, (refl, (refl, (refl, (refl, (refl, (refl, (refl, (refl, (refl, (refl, (refl, (refl, (refl, tt))))))))))))))))))
 
 no_default : (rows : List Row) (a : Rule) → a.defaults ≡ [] → with_default rows a ≡ rows
 no_default rows a none = go (has_row a.id rows)
@@ -109,8 +110,9 @@ plain_command first (inr (inr (inl e))) = plain_as first 98 (codes "uild") e ref
 plain_command first (inr (inr (inr (inl e)))) = plain_as first 99 (codes "heck") e refl
 plain_command first (inr (inr (inr (inr (inl e))))) = plain_as first 103 (codes "raph") e refl
 plain_command first (inr (inr (inr (inr (inr (inl e)))))) = plain_as first 100 (codes "emo") e refl
-plain_command first (inr (inr (inr (inr (inr (inr (inl e))))))) = plain_as first 98 (codes "udget") e refl
-plain_command first (inr (inr (inr (inr (inr (inr (inr none))))))) = absurd none
+plain_command first (inr (inr (inr (inr (inr (inr (inl e))))))) = plain_as first 97 (codes "udit") e refl
+plain_command first (inr (inr (inr (inr (inr (inr (inr (inl e)))))))) = plain_as first 98 (codes "udget") e refl
+plain_command first (inr (inr (inr (inr (inr (inr (inr (inr none)))))))) = absurd none
 
 -- the words that reach the parser are values, positional words and options
 all_words : (words : List Text) → IsReadable words → AllByRecursion IsWord words
@@ -134,12 +136,9 @@ tells_options : (said : List Said) → length (positionals_of said) ≤ 4 → (o
 tells_options said few [] known = tt
 tells_options said few (option ∷ options) known = (option_told places said option bare_places (is_option option known.0) few, tells_options said few options known.1)
 
-all_known : AllByRecursion (IsOneOf all_options) all_options
-all_known = (inl refl, (inr (inl refl), (inr (inr (inl refl)), (inr (inr (inr (inl refl))), (inr (inr (inr (inr (inl refl)))), (inr (inr (inr (inr (inr (inl refl))))), (inr (inr (inr (inr (inr (inr (inl refl)))))), (inr (inr (inr (inr (inr (inr (inr (inl refl))))))), (inr (inr (inr (inr (inr (inr (inr (inr (inl refl)))))))), (inr (inr (inr (inr (inr (inr (inr (inr (inr (inl refl))))))))), (inr (inr (inr (inr (inr (inr (inr (inr (inr (inr (inl refl)))))))))), (inr (inr (inr (inr (inr (inr (inr (inr (inr (inr (inr (inl refl))))))))))), (inr (inr (inr (inr (inr (inr (inr (inr (inr (inr (inr (inr (inl refl)))))))))))), tt)))))))))))))
-
 tells : (said : List Said) → AllByRecursion (IsOneOf all_options) (options_of said) → length (positionals_of said) ≤ 4 → Tells (told said) said
 tells said known few = record {
-  options = tells_options said few all_options all_known;
+  options = tells_options said few all_options (all_among all_options all_options refl);
   command = place_told places said 0 (codes "command") refl bare_places places_once bare_places.0 known few;
   first = place_told places said 1 (codes "first") refl bare_places places_once bare_places.1.0 known few;
   second = place_told places said 2 (codes "second") refl bare_places places_once bare_places.1.1.0 known few;

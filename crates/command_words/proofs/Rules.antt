@@ -1,4 +1,4 @@
--- The rules that the parser goes by: seventeen arguments, each with one text as its value.
+-- The rules that the parser goes by: eighteen arguments, each with one text as its value.
 use Rattle.std.proofs.Common.{◌≡◌, ℕ, refl, sym, subst, inl, inr, codes, true, false, List, [], ◌∷◌, Option, Some, None}
 use Rattle.std.specs.Str.{bytes_eq}
 use Rattle.clap.specs.Walk.{Rule, Text, arg_by_id, arg_by_index, arg_by_long, next_position}
@@ -49,7 +49,8 @@ rules = place_rule (codes "command") 1 ∷ place_rule (codes "first") 2 ∷ plac
     ∷ option_rule (codes "--chunks") (codes "chunks") ∷ option_rule (codes "--extra") (codes "extra") ∷ option_rule (codes "--extra-size") (codes "extra-size")
     ∷ option_rule (codes "--fuel") (codes "fuel") ∷ option_rule (codes "--backlog") (codes "backlog")
     ∷ option_rule (codes "--caps") (codes "caps") ∷ option_rule (codes "--high") (codes "high") ∷ option_rule (codes "--low") (codes "low")
-    ∷ option_rule (codes "--rule") (codes "rule") ∷ option_rule (codes "--tickets") (codes "tickets") ∷ option_rule (codes "--knee") (codes "knee") ∷ []
+    ∷ option_rule (codes "--rule") (codes "rule") ∷ option_rule (codes "--tickets") (codes "tickets") ∷ option_rule (codes "--knee") (codes "knee")
+    ∷ option_rule (codes "--steps") (codes "steps") ∷ []
 
 -- the command as it is built
 abbrev pub top : Shape
@@ -111,7 +112,8 @@ is_option name (inr (inr (inr (inr (inr (inr (inr (inr (inr (inl e)))))))))) = s
 is_option name (inr (inr (inr (inr (inr (inr (inr (inr (inr (inr (inl e))))))))))) = subst IsOption (sym e) (option_of (codes "--rule") (codes "-rule") (codes "rule") refl refl refl refl refl)
 is_option name (inr (inr (inr (inr (inr (inr (inr (inr (inr (inr (inr (inl e)))))))))))) = subst IsOption (sym e) (option_of (codes "--tickets") (codes "-tickets") (codes "tickets") refl refl refl refl refl)
 is_option name (inr (inr (inr (inr (inr (inr (inr (inr (inr (inr (inr (inr (inl e))))))))))))) = subst IsOption (sym e) (option_of (codes "--knee") (codes "-knee") (codes "knee") refl refl refl refl refl)
-is_option name (inr (inr (inr (inr (inr (inr (inr (inr (inr (inr (inr (inr (inr none))))))))))))) = absurd none
+is_option name (inr (inr (inr (inr (inr (inr (inr (inr (inr (inr (inr (inr (inr (inl e)))))))))))))) = subst IsOption (sym e) (option_of (codes "--steps") (codes "-steps") (codes "steps") refl refl refl refl refl)
+is_option name (inr (inr (inr (inr (inr (inr (inr (inr (inr (inr (inr (inr (inr (inr none)))))))))))))) = absurd none
 
 -- what the rules know of the name of a positional word, which stands at this place and before the next
 pub record IsPlace (name : Text) (place next : ℕ) : Type 0 where

@@ -4,13 +4,13 @@ use Rattle.std.specs.Prelude.{ℕ, ◌≡◌, ◌⊎◌, ◌≤◌, true, List, 
 use Rattle.std.specs.List.{flat_map, AllByRecursion}
 use Rattle.clap.specs.Simple.{App, on_top, new_app, new_rule, with_rule}
 use Rattle.command_words.specs.Said.{Said, words_of, IsPlain, IsPlainSaid, positionals_of, options_of, value_of, IsOneOf, AreOnce}
-use Rattle.command_words.specs.WordList.{placement_options, policy_options}
+use Rattle.command_words.specs.WordList.{audit_options, placement_options, policy_options}
 
 abbrev pub command_names : List (List ℕ)
-command_names = codes "serve" ∷ codes "run" ∷ codes "build" ∷ codes "check" ∷ codes "graph" ∷ codes "demo" ∷ codes "budget" ∷ []
+command_names = codes "serve" ∷ codes "run" ∷ codes "build" ∷ codes "check" ∷ codes "graph" ∷ codes "demo" ∷ codes "audit" ∷ codes "budget" ∷ []
 
 abbrev pub all_options : List (List ℕ)
-all_options = placement_options ++ policy_options
+all_options = placement_options ++ (policy_options ++ audit_options)
 
 -- a value, a positional word or an option's name
 abbrev pub IsWord : List ℕ → Type 0
@@ -59,5 +59,8 @@ with_policy app = with_option (codes "--knee") (codes "knee") (with_option (code
     (with_option (codes "--backlog") (codes "backlog") (with_option (codes "--fuel") (codes "fuel")
     (with_option (codes "--extra-size") (codes "extra-size") (with_option (codes "--extra") (codes "extra") (with_option (codes "--chunks") (codes "chunks") app))))))))))
 
+abbrev pub with_audit : App → App
+with_audit app = with_option (codes "--steps") (codes "steps") app
+
 abbrev pub words_app : App
-words_app = with_policy (with_placement (with_positionals (on_top (λ top. record top { no_binary_name = true; disable_help_flag = true }) (new_app (codes "capriccio")))))
+words_app = with_audit (with_policy (with_placement (with_positionals (on_top (λ top. record top { no_binary_name = true; disable_help_flag = true }) (new_app (codes "capriccio"))))))

@@ -2,6 +2,7 @@
 use Rattle.std.specs.Prelude.{ℕ, suc, ◌≡◌, ⊤, length, take, ◌-◌, ◌*◌, ◌/◌, ◌%◌, ◌==◌, ◌<◌, ◌≤◌, List, [], ◌∷◌, ◌++◌, map, replicate, codes, Option, Some, None, if◌then◌else◌}
 use Rattle.cap_text.specs.Decimals.{canonical_decimal}
 use Rattle.cap_text.specs.Pieces.{pieces}
+use Rattle.command_words.specs.declared.options.Audit.{Audit}
 use Rattle.command_words.specs.declared.options.Placement.{Placement}
 use Rattle.command_words.specs.declared.options.Policy.{Policy}
 use Rattle.command_words.specs.declared.options.Rule.{Rule}
@@ -108,3 +109,14 @@ pub record IsPolicy (given : List ℕ → Option (List ℕ)) (policy : Policy) :
   pub low : IsNumber (given (codes "--low")) 700 0 (policy.high - 1) policy.low
   pub rule : IsRule (given (codes "--rule")) (given (codes "--tickets")) policy.rule
   pub knee : IsNumber (given (codes "--knee")) 0 0 999 policy.knee
+
+pub record IsAudit (given : List ℕ → Option (List ℕ)) (options : Audit) : Type 0 where
+  pub chunks : IsNumber (given (codes "--chunks")) 1024 1 65536 options.chunks
+  pub extra : IsNumber (given (codes "--extra")) 0 0 65536 options.extra
+  pub fuel : IsNumber (given (codes "--fuel")) 10000000 0 1000000000 options.fuel
+  pub backlog : IsNumber (given (codes "--backlog")) 64 1 4096 options.backlog
+  pub caps : AreCaps (given (codes "--caps")) options.caps
+  pub high : IsNumber (given (codes "--high")) 900 1 1000 options.high
+  pub low : IsNumber (given (codes "--low")) 700 0 (options.high - 1) options.low
+  pub knee : IsNumber (given (codes "--knee")) 0 0 999 options.knee
+  pub steps : IsNumber (given (codes "--steps")) 1000000000 0 1000000000 options.steps

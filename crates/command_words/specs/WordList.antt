@@ -3,9 +3,10 @@ use Rattle.std.specs.Prelude.{ℕ, ◌≡◌, ◌+◌, ◌*◌, ◌≤◌, List,
 use Rattle.std.specs.List.{flat_map, AllByRecursion}
 use Rattle.cap_text.specs.Decimals.{canonical_decimal}
 use Rattle.command_words.specs.Said.{Said, words_of, IsPlainSaid, positionals_of, options_of, value_of, IsOneOf, AreOnce}
-use Rattle.command_words.specs.Values.{IsPlacement, IsPolicy}
+use Rattle.command_words.specs.Values.{IsAudit, IsPlacement, IsPolicy}
 use Rattle.command_words.specs.declared.commands.Command.{Command}
 use Rattle.command_words.specs.declared.commands.Command.TheVariants as command
+use Rattle.command_words.specs.declared.options.Audit.{Audit as AuditOptions}
 use Rattle.command_words.specs.declared.options.Placement.{Placement}
 use Rattle.command_words.specs.declared.options.Policy.{Policy}
 
@@ -17,6 +18,7 @@ pub data Request : Type 0 where
   Check : (source image certificate : List ℕ) → Request
   Graph : (source : List ℕ) → Placement → Request
   Demo : ℕ → Request
+  Audit : (source log : List ℕ) → AuditOptions → Request
   Budget : (source image certificate : List ℕ) → Request
 
 -- the same, of the value that is handed out
@@ -27,6 +29,7 @@ request_of (command.Build source image certificate placement) = Build source.now
 request_of (command.Check source image certificate) = Check source.now image.now certificate.now
 request_of (command.Graph source placement) = Graph source.now placement
 request_of (command.Demo number) = Demo number
+request_of (command.Audit source log options) = Audit source.now log.now options
 request_of (command.Budget source image certificate) = Budget source.now image.now certificate.now
 
 abbrev pub placement_options : List (List ℕ)
@@ -35,6 +38,16 @@ placement_options = codes "--chunk" ∷ codes "--max-path" ∷ []
 abbrev pub policy_options : List (List ℕ)
 policy_options = codes "--chunks" ∷ codes "--extra" ∷ codes "--extra-size" ∷ codes "--fuel" ∷ codes "--backlog" ∷ codes "--caps" ∷ codes "--high" ∷ codes "--low"
     ∷ codes "--rule" ∷ codes "--tickets" ∷ codes "--knee" ∷ []
+
+-- the options of an audit that no run has, all that it may have, and those of a run that it hasn't
+abbrev pub audit_options : List (List ℕ)
+audit_options = codes "--steps" ∷ []
+
+abbrev pub audit_policy : List (List ℕ)
+audit_policy = codes "--chunks" ∷ codes "--extra" ∷ codes "--fuel" ∷ codes "--backlog" ∷ codes "--caps" ∷ codes "--high" ∷ codes "--low" ∷ codes "--knee" ∷ audit_options
+
+abbrev pub run_options : List (List ℕ)
+run_options = codes "--extra-size" ∷ codes "--rule" ∷ codes "--tickets" ∷ []
 
 -- the words are the command's name and, in any order, just these positional words and some of these options, each at
 -- most once and with its value behind it
@@ -58,4 +71,6 @@ IsWordList words (Graph source placement) = (said : List Said) × Says words (co
     × IsPlacement (value_of said) placement
 IsWordList words (Demo number) = (said : List Said) × Says words (codes "demo") (canonical_decimal number ∷ []) [] said
     × (1 ≤ number) × (number ≤ 1000)
+IsWordList words (Audit source log options) = (said : List Said) × Says words (codes "audit") (source ∷ log ∷ []) audit_policy said
+    × IsAudit (value_of said) options
 IsWordList words (Budget source image certificate) = (said : List Said) × Says words (codes "budget") (source ∷ image ∷ certificate ∷ []) [] said

@@ -1,5 +1,5 @@
 // The commands of the program.
-use crate::options::{Placement, Policy};
+use crate::options::{Audit, Placement, Policy};
 
 /// A command with its files by name and its options.
 #[derive(Clone, Copy, PartialEq, Eq)]
@@ -38,6 +38,12 @@ pub enum Command<'a> {
     /// Runs the workload of this number, from 1 to 1,000.
     Demo {
         number: u32,
+    },
+    /// Judges a log of a source on the trace.
+    Audit {
+        source: &'a str,
+        log: &'a str,
+        options: Audit,
     },
     /// Checks a source with its image and certificate and tells how many chunks are enough.
     Budget {

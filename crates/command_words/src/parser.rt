@@ -4,7 +4,7 @@ ghost use Rattle.std.specs.String.{string_bytes};
 ghost use Rattle.clap.specs.Words.{app_of, first_value, found_of, new_rule, rule_of};
 ghost use Rattle.clap.specs.Simple.{App};
 ghost use Rattle.command_words.specs.Said.{Said};
-ghost use Rattle.command_words.specs.Parse.{IsReadable, IsSaid, IsReadAs, words_app, with_positional, with_option, with_positionals, with_placement, with_policy};
+ghost use Rattle.command_words.specs.Parse.{IsReadable, IsSaid, IsReadAs, words_app, with_positional, with_option, with_positionals, with_placement, with_policy, with_audit};
 
 use crate::commands::WordsError;
 use clap::error::ErrorKind;
@@ -38,7 +38,8 @@ fn parser<'a>(alloc: Global) -> Built<'a>
         .disable_help_flag(true);
     let command = with_positionals(alloc, Ok(command));
     let command = with_placement(alloc, command);
-    with_policy(alloc, command)
+    let command = with_policy(alloc, command);
+    with_audit(alloc, command)
 }
 
 /// Adds the command's name and three names of files.
@@ -74,6 +75,13 @@ fn with_policy<'a>(alloc: Global, command: Built<'a>) -> Built<'a>
     let command = with_option(alloc, command, "--rule", "rule");
     let command = with_option(alloc, command, "--tickets", "tickets");
     with_option(alloc, command, "--knee", "knee")
+}
+
+/// Adds the option of an audit that no run has.
+fn with_audit<'a>(alloc: Global, command: Built<'a>) -> Built<'a>
+    ensures { (app : App) → IfOk command.entry (λ old. app_of old ≡ app) → IfOk result (λ new. app_of new ≡ with_audit app) }
+{
+    with_option(alloc, command, "--steps", "steps")
 }
 
 /// Adds a positional word.

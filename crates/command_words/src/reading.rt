@@ -1,15 +1,16 @@
 // A command out of the texts that were parsed.
 ghost use Rattle.std.specs.Prelude.{ℕ, List, ◌≡◌, ◌≤◌, ◌*◌, ◌↔◌, IsTrue, IfSome, IfNone, Some, None, is_none, codes, option_map};
 ghost use Rattle.clap.specs.Words.{first_value, found_of};
+ghost use Rattle.command_words.specs.declared.options.Audit.{Audit as AuditOptions};
 ghost use Rattle.command_words.specs.declared.options.Placement.{Placement};
 ghost use Rattle.command_words.specs.declared.options.Policy.{Policy};
-ghost use Rattle.command_words.specs.Values.{IsPlacement, IsPolicy};
-ghost use Rattle.command_words.specs.WordList.{Request, Serve, Run, Build, Check, Graph, Demo, Budget, request_of, placement_options, policy_options};
-ghost use Rattle.command_words.specs.Asked.{IsAsked, LacksAll, HasOne, HasThree};
+ghost use Rattle.command_words.specs.Values.{IsAudit, IsPlacement, IsPolicy};
+ghost use Rattle.command_words.specs.WordList.{Request, Serve, Run, Build, Check, Graph, Demo, Budget, request_of, audit_options, placement_options, policy_options, run_options};
+ghost use Rattle.command_words.specs.Asked.{IsAsked, LacksAll, HasOne, HasThree, HasTwo};
 
 use crate::commands::Command;
 use crate::numbers::{caps, number};
-use crate::options::{Placement, Policy};
+use crate::options::{Audit, Placement, Policy};
 use crate::ticket_lists::rule;
 use clap::ArgMatches;
 
@@ -28,6 +29,7 @@ pub(crate) fn command_of<'a>(matches: &ArgMatches<'a>) -> Option<Command<'a>>
         "check" => check(matches),
         "graph" => graph(matches),
         "demo" => demo(matches),
+        "audit" => audit(matches),
         "budget" => budget(matches),
         _ => None,
     }
@@ -46,7 +48,7 @@ fn serve<'a>(matches: &ArgMatches<'a>) -> Option<Command<'a>>
     if u64::from(placement.chunk) * u64::from(policy.chunks) + extra_bytes > MOST_BYTES {
         return None;
     }
-    Some(Command::Serve {
+    without_audit(matches).then_some(Command::Serve {
         source,
         placement,
         policy,
@@ -61,7 +63,7 @@ fn run<'a>(matches: &ArgMatches<'a>) -> Option<Command<'a>>
 {
     let (source, image, certificate) = three_names(matches)?;
     let policy = policy(matches)?;
-    without_placement(matches).then_some(Command::Run {
+    (without_placement(matches) && without_audit(matches)).then_some(Command::Run {
         source,
         image,
         certificate,
@@ -77,7 +79,7 @@ fn build<'a>(matches: &ArgMatches<'a>) -> Option<Command<'a>>
 {
     let (source, image, certificate) = three_names(matches)?;
     let placement = placement(matches)?;
-    without_policy(matches).then_some(Command::Build {
+    (without_policy(matches) && without_audit(matches)).then_some(Command::Build {
         source,
         image,
         certificate,
@@ -92,7 +94,8 @@ fn check<'a>(matches: &ArgMatches<'a>) -> Option<Command<'a>>
     ensures none { IfNone result ((request : Request) → IsAsked (λ name. first_value (found_of matches.now) name) request → ⊥) }
 {
     let (source, image, certificate) = three_names(matches)?;
-    (without_placement(matches) && without_policy(matches)).then_some(Command::Check {
+    let bare = without_placement(matches) && without_policy(matches) && without_audit(matches);
+    bare.then_some(Command::Check {
         source,
         image,
         certificate,
@@ -107,7 +110,10 @@ fn graph<'a>(matches: &ArgMatches<'a>) -> Option<Command<'a>>
 {
     let source = one_name(matches)?;
     let placement = placement(matches)?;
-    without_policy(matches).then_some(Command::Graph { source, placement })
+    (without_policy(matches) && without_audit(matches)).then_some(Command::Graph {
+        source,
+        placement,
+    })
 }
 
 /// The command `demo`, where the words are one of it.
@@ -118,7 +124,8 @@ fn demo<'a>(matches: &ArgMatches<'a>) -> Option<Command<'a>>
 {
     let text = one_name(matches)?;
     let number = number(Some(text), 1, 1, 1000)? as u32;
-    (without_placement(matches) && without_policy(matches)).then_some(Command::Demo { number })
+    let bare = without_placement(matches) && without_policy(matches) && without_audit(matches);
+    bare.then_some(Command::Demo { number })
 }
 
 /// The command `budget`, where the words are one of it.
@@ -128,10 +135,26 @@ fn budget<'a>(matches: &ArgMatches<'a>) -> Option<Command<'a>>
     ensures none { IfNone result ((request : Request) → IsAsked (λ name. first_value (found_of matches.now) name) request → ⊥) }
 {
     let (source, image, certificate) = three_names(matches)?;
-    (without_placement(matches) && without_policy(matches)).then_some(Command::Budget {
+    let bare = without_placement(matches) && without_policy(matches) && without_audit(matches);
+    bare.then_some(Command::Budget {
         source,
         image,
         certificate,
+    })
+}
+
+/// The command `audit`, where the words are one of it.
+fn audit<'a>(matches: &ArgMatches<'a>) -> Option<Command<'a>>
+    requires { first_value (found_of matches.now) (codes "command") ≡ Some (codes "audit") }
+    ensures found { IfSome result (λ command. IsAsked (λ name. first_value (found_of matches.now) name) (request_of command)) }
+    ensures none { IfNone result ((request : Request) → IsAsked (λ name. first_value (found_of matches.now) name) request → ⊥) }
+{
+    let (source, log) = two_names(matches)?;
+    let options = audit_given(matches)?;
+    (without_placement(matches) && without_run(matches)).then_some(Command::Audit {
+        source,
+        log,
+        options,
     })
 }
 
@@ -144,6 +167,17 @@ fn one_name<'a>(matches: &ArgMatches<'a>) -> Option<&'a str>
         (Some(source), None) => Some(source),
         _ => None,
     }
+}
+
+/// The two positional words behind the command.
+fn two_names<'a>(matches: &ArgMatches<'a>) -> Option<(&'a str, &'a str)>
+    ensures found { IfSome result (λ words. (first_value (found_of matches.now) (codes "first") ≡ Some words.0.now)
+        × (first_value (found_of matches.now) (codes "second") ≡ Some words.1.now) × (first_value (found_of matches.now) (codes "third") ≡ None)) }
+    ensures none { IfNone result ((name first second : List ℕ) → HasTwo (λ name. first_value (found_of matches.now) name) name first second → ⊥) }
+{
+    let first = matches.get_str("first")?;
+    let second = matches.get_str("second")?;
+    is_absent(matches, "third").then_some((first, second))
 }
 
 /// The three positional words behind the command.
@@ -180,6 +214,22 @@ fn without_policy(matches: &ArgMatches<'_>) -> bool
         && is_absent(matches, "--rule")
         && is_absent(matches, "--tickets")
         && is_absent(matches, "--knee")
+}
+
+/// Whether no option is given that only an audit has.
+fn without_audit(matches: &ArgMatches<'_>) -> bool
+    ensures { IsTrue result ↔ LacksAll (λ name. first_value (found_of matches.now) name) audit_options }
+{
+    is_absent(matches, "--steps")
+}
+
+/// Whether no option of a run is given that an audit hasn't.
+fn without_run(matches: &ArgMatches<'_>) -> bool
+    ensures { IsTrue result ↔ LacksAll (λ name. first_value (found_of matches.now) name) run_options }
+{
+    is_absent(matches, "--extra-size")
+        && is_absent(matches, "--rule")
+        && is_absent(matches, "--tickets")
 }
 
 /// Whether an option is not given.
@@ -240,5 +290,32 @@ fn policy(matches: &ArgMatches<'_>) -> Option<Policy>
         low: low as u32,
         rule,
         knee,
+    })
+}
+
+/// The options of an audit.
+fn audit_given(matches: &ArgMatches<'_>) -> Option<Audit>
+    ensures found { IfSome result (λ options. IsAudit (λ name. first_value (found_of matches.now) name) options) }
+    ensures none { IfNone result ((options : AuditOptions) → IsAudit (λ name. first_value (found_of matches.now) name) options → ⊥) }
+{
+    let chunks = number(matches.get_str("--chunks"), 1024, 1, 65_536)? as u32;
+    let extra = number(matches.get_str("--extra"), 0, 0, 65_536)? as u32;
+    let fuel = number(matches.get_str("--fuel"), 10_000_000, 0, 1_000_000_000)?;
+    let backlog = number(matches.get_str("--backlog"), 64, 1, 4096)? as u32;
+    let caps = caps(matches.get_str("--caps"))?;
+    let high = number(matches.get_str("--high"), 900, 1, 1000)?;
+    let low = number(matches.get_str("--low"), 700, 0, high - 1)?;
+    let knee = number(matches.get_str("--knee"), 0, 0, 999)? as u32;
+    let steps = number(matches.get_str("--steps"), 1_000_000_000, 0, 1_000_000_000)?;
+    Some(Audit {
+        chunks,
+        extra,
+        fuel,
+        backlog,
+        caps,
+        high: high as u32,
+        low: low as u32,
+        knee,
+        steps,
     })
 }

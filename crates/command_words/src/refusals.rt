@@ -40,7 +40,7 @@ fn is_command(word: &str) -> bool
 {
     matches!(
         word,
-        "serve" | "run" | "build" | "check" | "graph" | "demo" | "budget"
+        "serve" | "run" | "build" | "check" | "graph" | "demo" | "audit" | "budget"
     )
 }
 
@@ -63,6 +63,7 @@ fn is_option(word: &str) -> bool
             | "--rule"
             | "--tickets"
             | "--knee"
+            | "--steps"
     )
 }
 

@@ -1,5 +1,5 @@
 -- When the gate was closed in a run in which chunks are the only resource.
-use Rattle.std.specs.Prelude.{ℕ, ◌+◌, ◌-◌, Bool, true, false, not, List, [], ◌∷◌, Option, Some, None, is_some, max}
+use Rattle.std.specs.Prelude.{ℕ, ◌+◌, ◌-◌, Bool, true, false, not, [], ◌∷◌, Option, Some, None, is_some}
 use Rattle.resource_monitor.specs.Gate.{gate_after}
 use Rattle.resource_monitor.specs.Pressure.{pressure}
 use Rattle.resource_monitor.specs.declared.curves.Curve.TheVariants.{Knee}

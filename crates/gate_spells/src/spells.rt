@@ -69,8 +69,9 @@ impl Spells {
         self.since.is_none()
     }
 
-    /// The gate is open or closed from that clock on.
-    fn turn(self, is_open: bool, clock: u64) -> Option<Spells>
+    /// The gate is open or closed from that clock on. None only where that clock lies before the one since which it is closed, or a
+    /// count would be 2^64 or more.
+    pub fn turn(self, is_open: bool, clock: u64) -> Option<Spells>
         ensures { IfSome result (λ spells. spells ≡ turned self.since is_open clock self) }
     {
         match self.since {

@@ -1,6 +1,3 @@
-mod Walks
+pub mod Walks
 pub mod Trees
-mod Parts
-mod NestedCalls
-mod NestedFors
 pub mod RankLaws

@@ -1,5 +1,4 @@
 pub mod Places
 pub mod Rising
 pub mod Nested
-pub mod NestedFors
 pub mod Ranks

@@ -7,13 +7,13 @@ use Rattle.c_tree.specs.RawViews.{raw_in_order}
 use Rattle.c_tree.specs.WholeCalls.{HasNoCall, HaveNoCall}
 use Rattle.grammar_places.specs.Nested.{is_call}
 use Rattle.grammar_places.specs.Places.{expr_places, exprs_places, stmt_places, stmts_places}
-use Rattle.hoist_rules.specs.NewNames.{used, declared, declared_as, set_to}
-use Rattle.hoist_rules.specs.Calls.{holds_call, hold_call, is_named, is_spawn}
-use Rattle.hoist_rules.specs.Expressions.{names_in, arguments_names, part_after, part_or, part_named, left_of, arguments_left, call_left, table_call_left, is_true, is_false, in_block, decided, before, arguments_before}
-use Rattle.hoist_rules.specs.Statements.{as_body}
+use Rattle.hoist_parts.specs.NewNames.{used, declared, declared_as, set_to}
+use Rattle.hoist_parts.specs.Calls.{holds_call, hold_call, is_named, is_spawn}
+use Rattle.hoist_parts.specs.Expressions.{names_in, arguments_names, part_after, part_or, part_named, left_of, arguments_left, call_left, table_call_left, is_true, is_false, in_block, decided, before, arguments_before}
+use Rattle.hoist_parts.specs.Statements.{as_body}
 use Rattle.hoist_calls.specs.SpawnArguments.{IsPlain, ArePlain}
-use Rattle.hoist_rules.proofs.NoCalls.{or_left, or_right}
-use Rattle.hoist_rules.proofs.Whole.{not_held, left_whole, arguments_whole}
+use Rattle.hoist_parts.proofs.NoCalls.{or_left, or_right}
+use Rattle.hoist_parts.proofs.Whole.{not_held, left_whole, arguments_whole}
 
 -- ---- places
 

@@ -15,11 +15,11 @@ use Rattle.scope_rules.specs.Places.{Spot}
 use Rattle.scope_rules.specs.Simples.{declare_faults}
 use Rattle.scope_rules.specs.Statements.{inside, left, stmt_after, stmt_faults}
 use Rattle.scope_rules.proofs.NoFaults.{both_none}
-use Rattle.hoist_rules.specs.NewNames.{new_name, used, declared, declared_as, set_to}
-use Rattle.hoist_rules.specs.Calls.{holds_call, hold_call, is_named, is_spawn}
-use Rattle.hoist_rules.specs.Expressions.{names_in, arguments_names, part_after, part_named, spawned_left, left_of, arguments_left, call_left, table_call_left, is_true, is_false, in_block, decided, before, arguments_before}
-use Rattle.hoist_rules.proofs.NoCalls.{or_left, or_right}
-use Rattle.hoist_rules.proofs.Whole.{not_held}
+use Rattle.hoist_parts.specs.NewNames.{new_name, used, declared, declared_as, set_to}
+use Rattle.hoist_parts.specs.Calls.{holds_call, hold_call, is_named, is_spawn}
+use Rattle.hoist_parts.specs.Expressions.{names_in, arguments_names, part_after, part_named, spawned_left, left_of, arguments_left, call_left, table_call_left, is_true, is_false, in_block, decided, before, arguments_before}
+use Rattle.hoist_parts.proofs.NoCalls.{or_left, or_right}
+use Rattle.hoist_parts.proofs.Whole.{not_held}
 use Rattle.hoist_calls.specs.SpawnArguments.{IsPlain, ArePlain}
 use Rattle.hoist_calls.proofs.KnownSpawn.{KnowsSpawn, stmt_knows, stmts_know, AreFine, after_all, both_fine, one_fine, SomewhereFine}
 

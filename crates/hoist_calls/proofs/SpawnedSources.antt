@@ -14,10 +14,10 @@ use Rattle.scope_rules.specs.Simples.{declare_faults, simple_faults, simples_fau
 use Rattle.scope_rules.specs.Statements.{inside, left, condition_faults, step_faults, step_after, stmt_after, stmt_faults, stmts_faults}
 use Rattle.scope_rules.specs.Items.{Sofar, definitions, at_start, function_faults, main_faults, params_faults, params_spot, body_spot, item_faults, item_after, items_faults, faults_of}
 use Rattle.scope_rules.proofs.NoFaults.{both_none}
-use Rattle.hoist_rules.specs.Calls.{holds_call, holds_nested, is_named, is_spawn}
-use Rattle.hoist_rules.specs.Expressions.{names_in, part_after, part_or, part_named, left_of, is_false, in_block, before}
-use Rattle.hoist_rules.specs.Statements.{value_left, value_before, simple_left, simple_before, as_body, returned_left, returned_before, while_calling, stmt_names, hoisted, all_hoisted, item_hoisted, items_hoisted}
-use Rattle.hoist_rules.proofs.Whole.{not_held}
+use Rattle.hoist_parts.specs.Calls.{holds_call, holds_nested, is_named, is_spawn}
+use Rattle.hoist_parts.specs.Expressions.{names_in, part_after, part_or, part_named, left_of, is_false, in_block, before}
+use Rattle.hoist_parts.specs.Statements.{value_left, value_before, simple_left, simple_before, as_body, returned_left, returned_before, while_calling, stmt_names, hoisted, all_hoisted, item_hoisted, items_hoisted}
+use Rattle.hoist_parts.proofs.Whole.{not_held}
 use Rattle.hoist_calls.specs.SpawnArguments.{IsPlain, IsSimplePlain, IsOptionPlain, IsStmtPlain, AreStmtsPlain, IsItemPlain, AreItemsPlain}
 use Rattle.hoist_calls.proofs.KnownSpawn.{KnowsSpawn, bound_knows, simples_know, step_knows, stmt_knows, stmts_know, params_know, AreFine, after_all, both_fine, one_fine, SomewhereFine}
 use Rattle.hoist_calls.proofs.SpawnedNames.{first_plain, no_call_plain, part_fine, plain, arguments_plain}

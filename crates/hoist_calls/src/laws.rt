@@ -6,7 +6,7 @@ ghost use Rattle.grammar_places.specs.Ranks.{site_numbers};
 ghost use Rattle.grammar_places.specs.Rising.{RiseWithin};
 ghost use Rattle.hoist_calls.specs.CallPlaces.{StandsAt, times};
 ghost use Rattle.hoist_calls.specs.SpawnArguments.{AreItemsPlain};
-ghost use Rattle.hoist_rules.specs.Statements.{items_hoisted};
+ghost use Rattle.hoist_parts.specs.Statements.{items_hoisted};
 ghost use Rattle.scope_rules.specs.Items.{faults_of};
 
 /// Where no call stands in the first argument of a `spawn`, the calls of a rewritten source are those of the text: at each place

@@ -11,8 +11,8 @@ use Rattle.scope_rules.specs.declared.meanings.Found.{Found}
 use Rattle.scope_rules.specs.Names.{Binding, find}
 use Rattle.scope_rules.specs.Meanings.{is_modelled, table_in, table_of, callee_in, callee_of}
 use Rattle.scope_rules.specs.Simples.{is_fixed, bound}
-use Rattle.hoist_rules.specs.NewNames.{new_name}
-use Rattle.hoist_rules.proofs.Names.{BeginsWithDigit, new_begins}
+use Rattle.hoist_parts.specs.NewNames.{new_name}
+use Rattle.hoist_parts.proofs.Names.{BeginsWithDigit, new_begins}
 use Rattle.hoist_meaning.specs.SourceNames.{IsSourceName}
 
 -- what is in scope in both: names outside functions, a variable of the text, or a new name, which only the tree has

@@ -18,9 +18,9 @@ use Rattle.scope_rules.specs.Numbered.{stmt_numbered}
 use Rattle.scope_rules.proofs.NoFaults.{both_none}
 use Rattle.deep_mean.specs.Evaluation.{Around, Done, and_then, evaluate, filled}
 use Rattle.deep_mean.specs.Naming as deep
-use Rattle.hoist_rules.specs.NewNames.{new_name, used, set_to}
-use Rattle.hoist_rules.specs.Expressions.{names_in, left_of, in_block, before}
-use Rattle.hoist_rules.proofs.Whole.{left_whole}
+use Rattle.hoist_parts.specs.NewNames.{new_name, used, set_to}
+use Rattle.hoist_parts.specs.Expressions.{names_in, left_of, in_block, before}
+use Rattle.hoist_parts.proofs.Whole.{left_whole}
 use Rattle.hoist_calls.proofs.KnownSpawn.{AreFine, one_fine}
 use Rattle.hoist_meaning.proofs.Bindings.{Agreement, New, in_tree}
 use Rattle.hoist_meaning.proofs.Items.{items_of, after, items_both, taken_leads, passed_leads, choice_stops, at, stop_step}

@@ -6,7 +6,7 @@ use Rattle.scope_rules.specs.Expressions.{expr_faults}
 use Rattle.scope_rules.specs.Places.{Spot}
 use Rattle.deep_mean.specs.DeepTrees.{DeepProgram}
 use Rattle.deep_mean.specs.Naming.{calls_in, counted}
-use Rattle.hoist_rules.specs.Expressions.{names_in, left_of, before}
+use Rattle.hoist_parts.specs.Expressions.{names_in, left_of, before}
 use Rattle.hoist_meaning.proofs.Bindings.{Agreement}
 use Rattle.hoist_meaning.proofs.Items.{after}
 use Rattle.hoist_meaning.proofs.Spots.{with_names, before_stands}

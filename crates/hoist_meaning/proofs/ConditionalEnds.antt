@@ -15,10 +15,10 @@ use Rattle.deep_mean.specs.DeepTrees.{Conditional}
 use Rattle.deep_mean.specs.Evaluation.{ConditionOf, Chosen, Done, of_value, and_then, chosen, evaluate, filled}
 use Rattle.deep_mean.specs.Naming as deep
 use Rattle.deep_mean.specs.Naming.{calls_in}
-use Rattle.hoist_rules.specs.NewNames.{used, declared, set_to}
-use Rattle.hoist_rules.specs.Calls.{holds_call}
-use Rattle.hoist_rules.specs.Expressions.{one_if, names_in, left_of, in_block, before}
-use Rattle.hoist_rules.proofs.Whole.{left_whole}
+use Rattle.hoist_parts.specs.NewNames.{used, declared, set_to}
+use Rattle.hoist_parts.specs.Calls.{holds_call}
+use Rattle.hoist_parts.specs.Expressions.{one_if, names_in, left_of, in_block, before}
+use Rattle.hoist_parts.proofs.Whole.{left_whole}
 use Rattle.hoist_calls.proofs.KnownSpawn.{AreFine, both_fine, one_fine}
 use Rattle.hoist_meaning.specs.SourceNames.{AreSourceNames}
 use Rattle.hoist_meaning.proofs.Bindings.{Agreement, New, in_tree}

@@ -9,7 +9,7 @@ use Rattle.scope_rules.specs.Meanings.{is_modelled}
 use Rattle.scope_rules.specs.Places.{Spot}
 use Rattle.scope_rules.specs.Simples.{is_fixed, bound, with_variable, simple_after}
 use Rattle.deep_mean.specs.Naming as deep
-use Rattle.hoist_rules.specs.Statements.{simple_left}
+use Rattle.hoist_parts.specs.Statements.{simple_left}
 use Rattle.hoist_meaning.specs.SourceNames.{IsSourceName, IsSimpleNamed}
 use Rattle.hoist_meaning.proofs.Bindings.{Agreement, Outside, Both, New, in_text, in_tree, IsAgreement, AreBelow, LocalAlike, MeaningAlike, FoundAlike, found_alike}
 use Rattle.hoist_meaning.proofs.Spots.{StandsAt, below_limit}

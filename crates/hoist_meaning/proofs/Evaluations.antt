@@ -13,10 +13,10 @@ use Rattle.scope_rules.specs.Numbered.{right_numbered}
 use Rattle.deep_mean.specs.Evaluation.{evaluate}
 use Rattle.deep_mean.specs.Naming as deep
 use Rattle.deep_mean.specs.Naming.{calls_in}
-use Rattle.hoist_rules.specs.Calls.{holds_call, holds_nested, is_named}
-use Rattle.hoist_rules.specs.Expressions.{one_if, names_in, part_after, part_named, left_of, before}
-use Rattle.hoist_rules.specs.Statements.{value_names, value_before}
-use Rattle.hoist_rules.proofs.Whole.{left_whole}
+use Rattle.hoist_parts.specs.Calls.{holds_call, holds_nested, is_named}
+use Rattle.hoist_parts.specs.Expressions.{one_if, names_in, part_after, part_named, left_of, before}
+use Rattle.hoist_parts.specs.Statements.{value_names, value_before}
+use Rattle.hoist_parts.proofs.Whole.{left_whole}
 use Rattle.hoist_meaning.proofs.Bindings.{Agreement, in_tree}
 use Rattle.hoist_meaning.proofs.Items.{items_of, after}
 use Rattle.hoist_meaning.proofs.Spots.{with_names, before_stands}

@@ -8,9 +8,9 @@ use Rattle.scope_rules.specs.Statements as tree_stmts
 use Rattle.scope_rules.specs.Statements.{inside, left, stmt_after, stmts_after}
 use Rattle.deep_mean.specs.Naming as deep
 use Rattle.deep_mean.specs.Naming.{calls_in, counted}
-use Rattle.hoist_rules.specs.Calls.{holds_call}
-use Rattle.hoist_rules.specs.Expressions.{names_in, left_of, before, is_false}
-use Rattle.hoist_rules.specs.Statements.{value_before, value_left, simple_left, simple_before, stmt_names, as_body, hoisted, all_hoisted}
+use Rattle.hoist_parts.specs.Calls.{holds_call}
+use Rattle.hoist_parts.specs.Expressions.{names_in, left_of, before, is_false}
+use Rattle.hoist_parts.specs.Statements.{value_before, value_left, simple_left, simple_before, stmt_names, as_body, hoisted, all_hoisted}
 use Rattle.hoist_meaning.proofs.Items.{after, after_both}
 use Rattle.hoist_meaning.proofs.Sizes.{Grows, stmt_grows, stmts_grow}
 use Rattle.hoist_meaning.proofs.Pieces.{grows_length, body_is}

@@ -3,7 +3,7 @@
 use Rattle.std.proofs.Common.{ℕ, ◌≡◌, ◌≤◌, Bool, List, [], ◌∷◌, ◌++◌, length}
 use Rattle.c_tree.specs.RawTrees.{RawExprTree, RawSimpleTree, RawStmtTree, RawStmtTrees, RawDo}
 use Rattle.c_tree.specs.Trees.{ProgramTree}
-use Rattle.c_parse.specs.ForParts.{IsForWhole, AreForsWhole}
+use Rattle.whole_calls.specs.WholeForParts.{IsForWhole, AreForsWhole}
 use Rattle.c_mean.specs.Frames.{function_at}
 use Rattle.scope_rules.specs.Expressions.{expr_faults}
 use Rattle.scope_rules.specs.Places.{Spot}
@@ -13,8 +13,8 @@ use Rattle.grammar_places.specs.Places.{expr_places, simple_places, stmt_places,
 use Rattle.deep_mean.specs.DeepTrees.{DeepProgram}
 use Rattle.deep_mean.specs.DeepFrames as frames
 use Rattle.deep_mean.specs.Naming as deep
-use Rattle.hoist_rules.specs.Expressions.{left_of, before}
-use Rattle.hoist_rules.specs.Statements.{value_left, value_before, simple_left, simple_before, hoisted, all_hoisted}
+use Rattle.hoist_parts.specs.Expressions.{left_of, before}
+use Rattle.hoist_parts.specs.Statements.{value_left, value_before, simple_left, simple_before, hoisted, all_hoisted}
 use Rattle.hoist_calls.specs.CallPlaces.{StandsAt}
 use Rattle.hoist_calls.specs.SpawnArguments.{IsPlain, IsSimplePlain, IsStmtPlain, AreStmtsPlain}
 use Rattle.hoist_calls.proofs.KnownSpawn.{AreFine}

@@ -16,11 +16,11 @@ use Rattle.deep_mean.specs.DeepTrees.{DeepProgram}
 use Rattle.deep_mean.specs.DeepFrames as frames
 use Rattle.deep_mean.specs.Naming as deep
 use Rattle.deep_mean.specs.Naming.{calls_in, counted}
-use Rattle.hoist_rules.specs.Calls.{is_spawn}
-use Rattle.hoist_rules.specs.Expressions.{before}
-use Rattle.hoist_rules.specs.Statements.{simple_left, simple_before}
-use Rattle.hoist_rules.proofs.Kept.{held_not, simple_kept, no_simple_before}
-use Rattle.hoist_rules.proofs.NoCalls.{no_before, no_left}
+use Rattle.hoist_parts.specs.Calls.{is_spawn}
+use Rattle.hoist_parts.specs.Expressions.{before}
+use Rattle.hoist_parts.specs.Statements.{simple_left, simple_before}
+use Rattle.hoist_parts.proofs.Kept.{held_not, simple_kept, no_simple_before}
+use Rattle.hoist_parts.proofs.NoCalls.{no_before, no_left}
 use Rattle.hoist_calls.specs.SpawnArguments.{IsPlain, ArePlain, IsSimplePlain}
 use Rattle.hoist_calls.proofs.CallCounts.{no_places}
 use Rattle.hoist_calls.proofs.KnownSpawn.{AreFine}

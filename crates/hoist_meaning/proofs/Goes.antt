@@ -19,9 +19,9 @@ use Rattle.deep_mean.specs.DeepTrees.{DeepProgram}
 use Rattle.deep_mean.specs.Evaluation.{Ready, Trapped}
 use Rattle.deep_mean.specs.Naming as deep
 use Rattle.deep_mean.specs.Naming.{calls_in}
-use Rattle.hoist_rules.specs.Calls.{holds_nested, is_named}
-use Rattle.hoist_rules.specs.Expressions.{names_in, part_after, part_named, left_of, before}
-use Rattle.hoist_rules.specs.Statements.{value_names, value_before}
+use Rattle.hoist_parts.specs.Calls.{holds_nested, is_named}
+use Rattle.hoist_parts.specs.Expressions.{names_in, part_after, part_named, left_of, before}
+use Rattle.hoist_parts.specs.Statements.{value_names, value_before}
 use Rattle.hoist_meaning.proofs.Bindings.{Agreement, in_text}
 use Rattle.hoist_meaning.proofs.Items.{items_of, after, at, call_parts}
 use Rattle.hoist_meaning.proofs.Spots.{StandsAt, with_names, before_stands}

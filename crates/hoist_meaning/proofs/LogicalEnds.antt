@@ -21,10 +21,10 @@ use Rattle.deep_mean.specs.DeepTrees.{LogicalAnd, LogicalOr}
 use Rattle.deep_mean.specs.Evaluation.{Around, LeftOfAnd, LeftOfOr, Decides, Done, of_value, and_then, truth_of, chosen, evaluate, filled}
 use Rattle.deep_mean.specs.Naming as deep
 use Rattle.deep_mean.specs.Naming.{calls_in}
-use Rattle.hoist_rules.specs.NewNames.{used, declared_as, set_to}
-use Rattle.hoist_rules.specs.Calls.{holds_call}
-use Rattle.hoist_rules.specs.Expressions.{one_if, names_in, left_of, is_true, is_false, in_block, decided, before}
-use Rattle.hoist_rules.proofs.Whole.{left_whole}
+use Rattle.hoist_parts.specs.NewNames.{used, declared_as, set_to}
+use Rattle.hoist_parts.specs.Calls.{holds_call}
+use Rattle.hoist_parts.specs.Expressions.{one_if, names_in, left_of, is_true, is_false, in_block, decided, before}
+use Rattle.hoist_parts.proofs.Whole.{left_whole}
 use Rattle.hoist_calls.proofs.KnownSpawn.{AreFine, both_fine, one_fine}
 use Rattle.hoist_meaning.specs.SourceNames.{AreSourceNames}
 use Rattle.hoist_meaning.proofs.Bindings.{Agreement, New, in_tree}

@@ -19,8 +19,8 @@ use Rattle.scope_rules.proofs.NoFaults.{both_none, not_broken, not_false}
 use Rattle.deep_mean.specs.DeepTrees.{DeepExpr}
 use Rattle.deep_mean.specs.Evaluation.{IndexOfLocal, IndexOfGlobal, OperandOf, InParentheses, of_value, evaluate}
 use Rattle.deep_mean.specs.Naming as deep
-use Rattle.hoist_rules.specs.Calls.{holds_call}
-use Rattle.hoist_rules.specs.Expressions.{names_in, left_of, before}
+use Rattle.hoist_parts.specs.Calls.{holds_call}
+use Rattle.hoist_parts.specs.Expressions.{names_in, left_of, before}
 use Rattle.hoist_meaning.specs.SourceNames.{AreSourceNames}
 use Rattle.hoist_meaning.proofs.Bindings.{Agreement, in_text, in_tree, IsAgreement, Paired, NamesStand, LocalAlike, MeaningAlike, FoundAlike, found_alike}
 use Rattle.hoist_meaning.proofs.Values.{value_alike}

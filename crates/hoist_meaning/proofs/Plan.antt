@@ -3,13 +3,13 @@ use Rattle.std.proofs.Common.{ℕ, sym, subst, List}
 use Rattle.c_tree.specs.RawTrees.{RawItemTree}
 use Rattle.c_tree.specs.Trees.{ProgramTree}
 use Rattle.c_tree.specs.WellScoped.{IsWellScoped}
-use Rattle.c_parse.specs.ForParts.{AreForPartsWhole}
+use Rattle.whole_calls.specs.WholeForParts.{AreForPartsWhole}
 use Rattle.scope_rules.specs.Numbered.{IsResolvedBy}
 use Rattle.grammar_places.specs.Nested.{is_call}
 use Rattle.grammar_places.specs.Places.{items_places}
 use Rattle.grammar_places.specs.Rising.{RiseWithin}
 use Rattle.deep_mean.specs.Naming.{deep_program}
-use Rattle.hoist_rules.specs.Statements.{items_hoisted}
+use Rattle.hoist_parts.specs.Statements.{items_hoisted}
 use Rattle.grammar_places.specs.Ranks.{site_numbers}
 use Rattle.hoist_meaning.specs.SameRuns.{RunsTheSame}
 use Rattle.hoist_meaning.specs.SourceNames.{AreItemsNamed}

@@ -18,10 +18,10 @@ use Rattle.scope_rules.specs.Numbered.{number_at, right_numbered}
 use Rattle.deep_mean.specs.DeepTrees.{Callee}
 use Rattle.deep_mean.specs.Evaluation.{Ready, ReadyCall}
 use Rattle.deep_mean.specs.Naming.{calls_in, is_spawn_by}
-use Rattle.hoist_rules.specs.NewNames.{declared, declared_as, set_to}
-use Rattle.hoist_rules.specs.Calls.{holds_call, hold_call, holds_nested, is_named, is_spawn}
-use Rattle.hoist_rules.specs.Expressions.{names_in, part_after, part_or, part_named, left_of, arguments_left, is_true, in_block, before, arguments_before}
-use Rattle.hoist_rules.specs.Statements.{value_left, value_before}
+use Rattle.hoist_parts.specs.NewNames.{declared, declared_as, set_to}
+use Rattle.hoist_parts.specs.Calls.{holds_call, hold_call, holds_nested, is_named, is_spawn}
+use Rattle.hoist_parts.specs.Expressions.{names_in, part_after, part_or, part_named, left_of, arguments_left, is_true, in_block, before, arguments_before}
+use Rattle.hoist_parts.specs.Statements.{value_left, value_before}
 use Rattle.hoist_calls.proofs.KnownSpawn.{AreFine}
 use Rattle.hoist_meaning.specs.SourceNames.{AreSourceNames, AllSourceNames}
 use Rattle.hoist_meaning.proofs.Bindings.{Agreement, in_text, in_tree, NamesStand}

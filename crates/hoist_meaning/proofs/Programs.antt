@@ -19,7 +19,7 @@ use Rattle.deep_mean.specs.DeepFrames as frames
 use Rattle.deep_mean.specs.DeepFrames.{DeepWaitingFrame}
 use Rattle.deep_mean.specs.DeepSteps as deep_steps
 use Rattle.deep_mean.specs.Naming as deep
-use Rattle.hoist_rules.specs.Statements.{all_hoisted}
+use Rattle.hoist_parts.specs.Statements.{all_hoisted}
 use Rattle.hoist_meaning.specs.SameRuns.{RunsTheSame}
 use Rattle.hoist_meaning.proofs.Bindings.{Agreement}
 use Rattle.hoist_meaning.proofs.Items.{items_of, at}

@@ -17,11 +17,11 @@ use Rattle.deep_mean.specs.DeepTrees.{DeepExpr, Callee}
 use Rattle.deep_mean.specs.Evaluation.{TableIndexOf, TableArgumentOf, Ready, ReadyCall, ReadyTableCall, Evaluation, Calls, of_value, and_then, evaluate, evaluate_arguments}
 use Rattle.deep_mean.specs.Naming as deep
 use Rattle.deep_mean.specs.Naming.{calls_in, callee_by, is_spawn_by}
-use Rattle.hoist_rules.specs.Calls.{holds_call, hold_call, holds_nested, is_named, is_spawn}
-use Rattle.hoist_rules.specs.Expressions.{names_in, arguments_names, part_after, part_or, part_named, left_of, arguments_left, before, arguments_before}
-use Rattle.hoist_rules.specs.Statements.{value_names, table_before}
-use Rattle.hoist_rules.proofs.NoCalls.{no_left}
-use Rattle.hoist_rules.proofs.Whole.{left_whole}
+use Rattle.hoist_parts.specs.Calls.{holds_call, hold_call, holds_nested, is_named, is_spawn}
+use Rattle.hoist_parts.specs.Expressions.{names_in, arguments_names, part_after, part_or, part_named, left_of, arguments_left, before, arguments_before}
+use Rattle.hoist_parts.specs.Statements.{value_names, table_before}
+use Rattle.hoist_parts.proofs.NoCalls.{no_left}
+use Rattle.hoist_parts.proofs.Whole.{left_whole}
 use Rattle.hoist_meaning.specs.SourceNames.{AreSourceNames, AllSourceNames}
 use Rattle.hoist_meaning.proofs.Bindings.{Agreement, in_text, in_tree, IsAgreement, NamesStand, callee_alike, table_alike}
 use Rattle.hoist_meaning.proofs.Items.{after, call_parts, ReadyAlike}

@@ -14,9 +14,9 @@ use Rattle.scope_rules.specs.Places.{Spot}
 use Rattle.scope_rules.specs.Simples.{is_fixed, bound}
 use Rattle.deep_mean.specs.DeepTrees.{DeepProgram}
 use Rattle.deep_mean.specs.Naming.{is_spawn_by}
-use Rattle.hoist_rules.specs.Calls.{holds_call, hold_call, holds_nested, is_named, is_spawn}
-use Rattle.hoist_rules.specs.Expressions.{one_if, names_in, arguments_names, part_after}
-use Rattle.hoist_rules.specs.Statements.{value_names}
+use Rattle.hoist_parts.specs.Calls.{holds_call, hold_call, holds_nested, is_named, is_spawn}
+use Rattle.hoist_parts.specs.Expressions.{one_if, names_in, arguments_names, part_after}
+use Rattle.hoist_parts.specs.Statements.{value_names}
 use Rattle.hoist_meaning.proofs.Bindings.{Agreement, Outside, Both, New, AreBelow, Paired}
 use Rattle.hoist_meaning.proofs.Spots.{StandsAt, with_part, with_names, with_argument_names}
 use Rattle.hoist_meaning.proofs.Declarations.{BothStand}

@@ -13,7 +13,7 @@ use Rattle.scope_rules.specs.Names.{Binding, find}
 use Rattle.scope_rules.specs.Meanings.{variable_of}
 use Rattle.scope_rules.specs.Expressions.{scalar_value, expr_of}
 use Rattle.scope_rules.specs.Places.{Spot}
-use Rattle.hoist_rules.specs.NewNames.{new_name, used}
+use Rattle.hoist_parts.specs.NewNames.{new_name, used}
 use Rattle.hoist_meaning.proofs.Bindings.{Agreement, New, in_tree, NamesStand, row_written, row_zeroed, last_found}
 use Rattle.hoist_meaning.proofs.Spots.{StandsAt}
 use Rattle.hoist_meaning.proofs.Extends.{Extends, TreeBelow, extends_text, extends_paired, extends_find, extends_below, pair_below}

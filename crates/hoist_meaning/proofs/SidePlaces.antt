@@ -3,10 +3,10 @@ use Rattle.std.proofs.Common.{ℕ, ◌≡◌, ◌+◌, ◌≤◌, refl, ◌∙�
 use Rattle.c_tree.specs.RawTrees.{RawExprTree, RawExprTrees, RawNumber, RawName, RawElement, RawUnary, RawParenthesized, RawBinary, RawLogicalAnd, RawLogicalOr, RawConditional, RawCall, RawTableCall, NoExprs, And}
 use Rattle.scope_rules.specs.Places.{Spot}
 use Rattle.scope_rules.proofs.NoFaults.{neither}
-use Rattle.hoist_rules.specs.Calls.{holds_call, hold_call, holds_nested, is_named, is_spawn}
-use Rattle.hoist_rules.specs.Expressions.{one_if, names_in, part_after, part_named, left_of, before, arguments_before}
-use Rattle.hoist_rules.specs.Statements.{value_names, value_before, table_before}
-use Rattle.hoist_rules.proofs.NoCalls.{no_before}
+use Rattle.hoist_parts.specs.Calls.{holds_call, hold_call, holds_nested, is_named, is_spawn}
+use Rattle.hoist_parts.specs.Expressions.{one_if, names_in, part_after, part_named, left_of, before, arguments_before}
+use Rattle.hoist_parts.specs.Statements.{value_names, value_before, table_before}
+use Rattle.hoist_parts.proofs.NoCalls.{no_before}
 use Rattle.hoist_meaning.proofs.Bindings.{Agreement}
 use Rattle.hoist_meaning.proofs.Items.{after}
 use Rattle.hoist_meaning.proofs.Spots.{StandsAt, as_many, with_part, with_names, with_argument_names, before_stands, arguments_stand, part_leaves}

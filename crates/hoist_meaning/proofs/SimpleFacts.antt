@@ -7,9 +7,9 @@ use Rattle.scope_rules.specs.Calls.{right_faults}
 use Rattle.scope_rules.specs.Places.{Spot}
 use Rattle.scope_rules.specs.Simples.{is_fixed, next_variable}
 use Rattle.deep_mean.specs.Naming as deep
-use Rattle.hoist_rules.specs.Calls.{holds_nested, is_named}
-use Rattle.hoist_rules.specs.Expressions.{names_in, part_after}
-use Rattle.hoist_rules.specs.Statements.{value_names}
+use Rattle.hoist_parts.specs.Calls.{holds_nested, is_named}
+use Rattle.hoist_parts.specs.Expressions.{names_in, part_after}
+use Rattle.hoist_parts.specs.Statements.{value_names}
 use Rattle.hoist_meaning.proofs.Bindings.{Agreement, in_text, AreBelow}
 use Rattle.hoist_meaning.proofs.Spots.{with_part, with_names}
 use Rattle.hoist_meaning.proofs.Declarations.{declared_or, BothStand, simple_declares}

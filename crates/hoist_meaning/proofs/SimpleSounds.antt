@@ -22,10 +22,10 @@ use Rattle.deep_mean.specs.DeepTrees.{DeepExpr, DeclareScalar, DeclareArray, Dee
 use Rattle.deep_mean.specs.DeepFrames as frames
 use Rattle.deep_mean.specs.Naming as deep
 use Rattle.deep_mean.specs.Naming.{calls_in, counted}
-use Rattle.hoist_rules.specs.Calls.{holds_nested, is_named, is_spawn}
-use Rattle.hoist_rules.specs.Expressions.{names_in, part_after, part_or, part_named, left_of, arguments_left, index_left, argument_left, before}
-use Rattle.hoist_rules.specs.Statements.{value_names, value_left, value_before, simple_left, simple_before}
-use Rattle.hoist_rules.proofs.Whole.{left_whole}
+use Rattle.hoist_parts.specs.Calls.{holds_nested, is_named, is_spawn}
+use Rattle.hoist_parts.specs.Expressions.{names_in, part_after, part_or, part_named, left_of, arguments_left, index_left, argument_left, before}
+use Rattle.hoist_parts.specs.Statements.{value_names, value_left, value_before, simple_left, simple_before}
+use Rattle.hoist_parts.proofs.Whole.{left_whole}
 use Rattle.hoist_calls.specs.SpawnArguments.{IsPlain}
 use Rattle.hoist_calls.proofs.KnownSpawn.{AreFine, both_fine, one_fine}
 use Rattle.hoist_calls.proofs.CallCounts.{part_places}

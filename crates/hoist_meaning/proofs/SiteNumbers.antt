@@ -16,11 +16,11 @@ use Rattle.scope_rules.specs.Statements.{inside, left, step_after, stmt_after, s
 use Rattle.scope_rules.specs.Numbered.{number_at}
 use Rattle.scope_rules.proofs.NoFaults.{neither}
 use Rattle.deep_mean.specs.Naming.{calls_in, all_calls_in}
-use Rattle.hoist_rules.specs.NewNames.{used, declared, declared_as, set_to}
-use Rattle.hoist_rules.specs.Calls.{holds_call, hold_call, is_named, is_spawn}
-use Rattle.hoist_rules.specs.Expressions.{names_in, arguments_names, part_after, part_named, left_of, arguments_left, call_left, index_left, argument_left, table_call_left, is_true, is_false, in_block, decided, before, arguments_before}
-use Rattle.hoist_rules.specs.Statements.{value_left, value_before, table_before, items_hoisted}
-use Rattle.hoist_rules.proofs.Whole.{AllWhole, in_order_whole}
+use Rattle.hoist_parts.specs.NewNames.{used, declared, declared_as, set_to}
+use Rattle.hoist_parts.specs.Calls.{holds_call, hold_call, is_named, is_spawn}
+use Rattle.hoist_parts.specs.Expressions.{names_in, arguments_names, part_after, part_named, left_of, arguments_left, call_left, index_left, argument_left, table_call_left, is_true, is_false, in_block, decided, before, arguments_before}
+use Rattle.hoist_parts.specs.Statements.{value_left, value_before, table_before, items_hoisted}
+use Rattle.hoist_parts.proofs.Whole.{AllWhole, in_order_whole}
 use Rattle.hoist_calls.specs.CallPlaces.{StandsAt}
 use Rattle.hoist_calls.specs.SpawnArguments.{IsPlain, ArePlain, AreItemsPlain}
 use Rattle.hoist_calls.proofs.CallCounts.{no_places, none_of_them}

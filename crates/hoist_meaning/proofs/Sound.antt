@@ -16,9 +16,9 @@ use Rattle.scope_rules.specs.Numbered.{simple_numbered, stmt_numbered}
 use Rattle.deep_mean.specs.DeepTrees.{DeepExpr, DeepSimple, SetLocalElement, SetGlobalElement, DeepProgram}
 use Rattle.deep_mean.specs.Naming as deep
 use Rattle.deep_mean.specs.Naming.{calls_in, counted}
-use Rattle.hoist_rules.specs.Calls.{holds_call, holds_nested}
-use Rattle.hoist_rules.specs.Expressions.{names_in, part_after, left_of, before, is_false}
-use Rattle.hoist_rules.specs.Statements.{value_names, simple_left, simple_before, stmt_names, as_body, hoisted}
+use Rattle.hoist_parts.specs.Calls.{holds_call, holds_nested}
+use Rattle.hoist_parts.specs.Expressions.{names_in, part_after, left_of, before, is_false}
+use Rattle.hoist_parts.specs.Statements.{value_names, simple_left, simple_before, stmt_names, as_body, hoisted}
 use Rattle.hoist_meaning.proofs.Bindings.{Agreement, Paired, AreBelow}
 use Rattle.hoist_meaning.proofs.Items.{items_of, after}
 use Rattle.hoist_meaning.proofs.Premises.{after_part, IsSound, IsSideSound, side_left, IsElementSound, index_tree}

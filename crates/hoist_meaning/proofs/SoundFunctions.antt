@@ -8,7 +8,7 @@ use Rattle.c_tree.specs.RawViews.{raw_in_order}
 use Rattle.c_tree.specs.Trees.{FunctionTree, ProgramTree}
 use Rattle.c_tree.specs.Trees as tree
 use Rattle.c_tree.specs.Temporaries.{capped}
-use Rattle.c_parse.specs.ForParts.{AreForsWhole, IsItemForWhole, AreForPartsWhole}
+use Rattle.whole_calls.specs.WholeForParts.{AreForsWhole, IsItemForWhole, AreForPartsWhole}
 use Rattle.c_mean.specs.Frames.{function_at}
 use Rattle.scope_rules.specs.Names.{Binding, find}
 use Rattle.scope_rules.specs.Places.{Spot}
@@ -25,8 +25,8 @@ use Rattle.deep_mean.specs.DeepTrees as deep_tree
 use Rattle.deep_mean.specs.DeepFrames as frames
 use Rattle.deep_mean.specs.Naming as deep
 use Rattle.deep_mean.specs.Naming.{DeepSofar}
-use Rattle.hoist_rules.specs.Statements.{item_hoisted, items_hoisted, all_hoisted}
-use Rattle.hoist_rules.proofs.Whole.{in_order_whole, all_hoisted_whole}
+use Rattle.hoist_parts.specs.Statements.{item_hoisted, items_hoisted, all_hoisted}
+use Rattle.hoist_parts.proofs.Whole.{in_order_whole, all_hoisted_whole}
 use Rattle.hoist_calls.specs.CallPlaces.{StandsAt}
 use Rattle.hoist_calls.specs.SpawnArguments.{IsItemPlain, AreItemsPlain}
 use Rattle.hoist_meaning.specs.SourceNames.{IsItemNamed, AreItemsNamed}

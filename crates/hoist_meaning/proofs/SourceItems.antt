@@ -15,7 +15,7 @@ use Rattle.scope_rules.specs.Numbered.{function_numbered}
 use Rattle.deep_mean.specs.DeepTrees.{DeepFunction}
 use Rattle.deep_mean.specs.Naming as deep
 use Rattle.deep_mean.specs.Naming.{DeepSofar}
-use Rattle.hoist_rules.specs.Statements.{item_hoisted, items_hoisted, all_hoisted}
+use Rattle.hoist_parts.specs.Statements.{item_hoisted, items_hoisted, all_hoisted}
 
 -- ---- what is declared outside functions
 

@@ -6,7 +6,7 @@ use Rattle.c_tree.specs.RawTrees.{RawItemTree}
 use Rattle.c_tree.specs.Trees.{FunctionTree, ProgramTree}
 use Rattle.c_tree.specs.Trees as tree
 use Rattle.c_tree.specs.WellScoped.{AreFunctionsScoped, IsWellScoped}
-use Rattle.c_parse.specs.ForParts.{AreForPartsWhole}
+use Rattle.whole_calls.specs.WholeForParts.{AreForPartsWhole}
 use Rattle.scope_rules.specs.Names.{Binding, find}
 use Rattle.scope_rules.specs.Meanings.{function_of}
 use Rattle.scope_rules.specs.Items.{definitions, at_start, items_after, program_of}
@@ -19,8 +19,8 @@ use Rattle.grammar_places.specs.Rising.{RiseWithin}
 use Rattle.grammar_places.proofs.RankLaws.{ranks_length}
 use Rattle.deep_mean.specs.Naming as deep
 use Rattle.deep_mean.specs.Naming.{deep_start, deep_program}
-use Rattle.hoist_rules.specs.Statements.{items_hoisted}
-use Rattle.hoist_rules.proofs.Whole.{items_hoisted_whole}
+use Rattle.hoist_parts.specs.Statements.{items_hoisted}
+use Rattle.hoist_parts.proofs.Whole.{items_hoisted_whole}
 use Rattle.hoist_calls.proofs.SpawnedSources.{scoped_plain}
 use Rattle.hoist_meaning.specs.SameRuns.{RunsTheSame}
 use Rattle.hoist_meaning.specs.SourceNames.{AreItemsNamed}

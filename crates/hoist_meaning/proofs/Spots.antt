@@ -7,10 +7,10 @@ use Rattle.scope_rules.specs.declared.meanings.Meaning.{Meaning}
 use Rattle.scope_rules.specs.Places.{Spot}
 use Rattle.scope_rules.specs.Simples.{bound}
 use Rattle.scope_rules.specs.Statements.{inside, left, stmt_after}
-use Rattle.hoist_rules.specs.NewNames.{new_name, used, declared, declared_as, set_to}
-use Rattle.hoist_rules.specs.Calls.{holds_call, hold_call, is_named, is_spawn}
-use Rattle.hoist_rules.specs.Expressions.{one_if, names_in, arguments_names, part_after, part_named, left_of, is_true, is_false, in_block, decided, before, arguments_before, call_left, table_call_left}
-use Rattle.hoist_rules.proofs.NoCalls.{or_left, or_right, no_names}
+use Rattle.hoist_parts.specs.NewNames.{new_name, used, declared, declared_as, set_to}
+use Rattle.hoist_parts.specs.Calls.{holds_call, hold_call, is_named, is_spawn}
+use Rattle.hoist_parts.specs.Expressions.{one_if, names_in, arguments_names, part_after, part_named, left_of, is_true, is_false, in_block, decided, before, arguments_before, call_left, table_call_left}
+use Rattle.hoist_parts.proofs.NoCalls.{or_left, or_right, no_names}
 use Rattle.hoist_meaning.proofs.Bindings.{Agreement, New, in_tree, IsAgreement, new_bound}
 use Rattle.hoist_meaning.proofs.Items.{after, after_both}
 

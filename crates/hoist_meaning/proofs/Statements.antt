@@ -18,10 +18,10 @@ use Rattle.deep_mean.specs.DeepTrees.{DeepExpr, DeepSimple, DeepProgram}
 use Rattle.deep_mean.specs.DeepToDo as deep_items
 use Rattle.deep_mean.specs.Naming as deep
 use Rattle.deep_mean.specs.Naming.{calls_in, counted}
-use Rattle.hoist_rules.specs.Calls.{holds_nested, is_named}
-use Rattle.hoist_rules.specs.Expressions.{names_in, part_after, part_named, left_of, before}
-use Rattle.hoist_rules.specs.Statements.{value_before, simple_left, simple_before}
-use Rattle.hoist_rules.proofs.Kept.{held_not, simple_kept, no_simple_before}
+use Rattle.hoist_parts.specs.Calls.{holds_nested, is_named}
+use Rattle.hoist_parts.specs.Expressions.{names_in, part_after, part_named, left_of, before}
+use Rattle.hoist_parts.specs.Statements.{value_before, simple_left, simple_before}
+use Rattle.hoist_parts.proofs.Kept.{held_not, simple_kept, no_simple_before}
 use Rattle.hoist_meaning.proofs.Bindings.{Agreement}
 use Rattle.hoist_meaning.proofs.Items.{items_of, after}
 use Rattle.hoist_meaning.proofs.Premises.{after_part, side_left, index_tree}

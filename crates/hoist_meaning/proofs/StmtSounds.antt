@@ -3,7 +3,7 @@ use Rattle.std.proofs.Common.{ℕ, ◌+◌, ◌≡◌, ◌≤◌, refl, sym, ap,
 use Rattle.c_tree.specs.RawTrees.{RawExprTree, RawStmtTree, RawStmtTrees, RawDo, RawEmpty, RawBlock, RawIf, RawIfElse, RawWhile, RawFor, RawBreak, RawContinue, RawReturn, NoRawStmts, RawThen}
 use Rattle.c_tree.specs.RawViews.{raw_in_order}
 use Rattle.c_tree.specs.WholeCalls.{HasNoCall, IsStmtWhole, AreStmtsWhole}
-use Rattle.c_parse.specs.ForParts.{IsForWhole}
+use Rattle.whole_calls.specs.WholeForParts.{IsForWhole}
 use Rattle.c_tree.specs.Trees.{ProgramTree}
 use Rattle.c_mean.specs.Frames.{function_at}
 use Rattle.scope_rules.specs.declared.faults.Rule.{Rule}
@@ -22,11 +22,11 @@ use Rattle.deep_mean.specs.DeepTrees.{DeepProgram}
 use Rattle.deep_mean.specs.DeepFrames as frames
 use Rattle.deep_mean.specs.Naming as deep
 use Rattle.deep_mean.specs.Naming.{calls_in, counted}
-use Rattle.hoist_rules.specs.Calls.{holds_call}
-use Rattle.hoist_rules.specs.Expressions.{names_in, left_of, before, is_false, in_block}
-use Rattle.hoist_rules.specs.Statements.{value_before, value_left, stmt_names, as_body, hoisted, all_hoisted, while_calling}
-use Rattle.hoist_rules.proofs.Whole.{AllWhole, not_held, left_whole}
-use Rattle.hoist_rules.proofs.NoCalls.{no_before, no_left}
+use Rattle.hoist_parts.specs.Calls.{holds_call}
+use Rattle.hoist_parts.specs.Expressions.{names_in, left_of, before, is_false, in_block}
+use Rattle.hoist_parts.specs.Statements.{value_before, value_left, stmt_names, as_body, hoisted, all_hoisted, while_calling}
+use Rattle.hoist_parts.proofs.Whole.{AllWhole, not_held, left_whole}
+use Rattle.hoist_parts.proofs.NoCalls.{no_before, no_left}
 use Rattle.hoist_calls.specs.SpawnArguments.{IsStmtPlain}
 use Rattle.hoist_calls.proofs.CallCounts.{no_places}
 use Rattle.hoist_calls.proofs.KnownSpawn.{AreFine, both_fine, one_fine}

@@ -16,11 +16,11 @@ use Rattle.scope_rules.proofs.NoFaults.{both_none}
 use Rattle.deep_mean.specs.Evaluation.{TableIndexOf, TableArgumentOf, Ready, ReadyTableCall, of_value, and_then, evaluate, filled}
 use Rattle.deep_mean.specs.Naming as deep
 use Rattle.deep_mean.specs.Naming.{calls_in}
-use Rattle.hoist_rules.specs.NewNames.{new_name, used, declared_as}
-use Rattle.hoist_rules.specs.Calls.{holds_call, is_named}
-use Rattle.hoist_rules.specs.Expressions.{one_if, names_in, part_after, part_or, part_named, left_of, table_call_left, before}
-use Rattle.hoist_rules.specs.Statements.{table_before}
-use Rattle.hoist_rules.proofs.NoCalls.{no_left, no_before}
+use Rattle.hoist_parts.specs.NewNames.{new_name, used, declared_as}
+use Rattle.hoist_parts.specs.Calls.{holds_call, is_named}
+use Rattle.hoist_parts.specs.Expressions.{one_if, names_in, part_after, part_or, part_named, left_of, table_call_left, before}
+use Rattle.hoist_parts.specs.Statements.{table_before}
+use Rattle.hoist_parts.proofs.NoCalls.{no_left, no_before}
 use Rattle.hoist_calls.proofs.KnownSpawn.{AreFine, both_fine, one_fine}
 use Rattle.hoist_meaning.specs.SourceNames.{AreSourceNames}
 use Rattle.hoist_meaning.proofs.Bindings.{Agreement, New, in_text, in_tree, table_alike}

@@ -20,9 +20,9 @@ use Rattle.deep_mean.specs.DeepTrees as deep_tree
 use Rattle.deep_mean.specs.DeepToDo as deep_items
 use Rattle.deep_mean.specs.Naming as deep
 use Rattle.deep_mean.specs.Naming.{calls_in, counted}
-use Rattle.hoist_rules.specs.Calls.{holds_call}
-use Rattle.hoist_rules.specs.Expressions.{names_in, left_of, before}
-use Rattle.hoist_rules.specs.Statements.{value_before, value_left, simple_left, simple_before, stmt_names, as_body, hoisted, all_hoisted, while_calling}
+use Rattle.hoist_parts.specs.Calls.{holds_call}
+use Rattle.hoist_parts.specs.Expressions.{names_in, left_of, before}
+use Rattle.hoist_parts.specs.Statements.{value_before, value_left, simple_left, simple_before, stmt_names, as_body, hoisted, all_hoisted, while_calling}
 use Rattle.hoist_meaning.proofs.Bindings.{Agreement}
 use Rattle.hoist_meaning.proofs.Items.{items_of, items_both, after}
 use Rattle.hoist_meaning.proofs.Premises.{side_left}

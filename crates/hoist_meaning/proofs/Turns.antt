@@ -24,10 +24,10 @@ use Rattle.deep_mean.specs.DeepTrees.{DeepProgram}
 use Rattle.deep_mean.specs.DeepToDo as deep_items
 use Rattle.deep_mean.specs.Naming as deep
 use Rattle.deep_mean.specs.Naming.{calls_in, counted}
-use Rattle.hoist_rules.specs.Calls.{holds_call}
-use Rattle.hoist_rules.specs.Expressions.{names_in, left_of, before, is_false, in_block}
-use Rattle.hoist_rules.specs.Statements.{as_body, hoisted, turn_of}
-use Rattle.hoist_rules.proofs.NoCalls.{no_left, no_before}
+use Rattle.hoist_parts.specs.Calls.{holds_call}
+use Rattle.hoist_parts.specs.Expressions.{names_in, left_of, before, is_false, in_block}
+use Rattle.hoist_parts.specs.Statements.{as_body, hoisted, turn_of}
+use Rattle.hoist_parts.proofs.NoCalls.{no_left, no_before}
 use Rattle.hoist_meaning.proofs.Bindings.{Agreement}
 use Rattle.hoist_meaning.proofs.Items.{items_of, items_both, after, at}
 use Rattle.hoist_meaning.proofs.Ends.{Rows, NoCall, Comes, ends_on}

@@ -14,9 +14,9 @@ use Rattle.scope_rules.specs.Names.{Binding, find}
 use Rattle.scope_rules.specs.Meanings.{is_scalar, is_array, variable_in, variable_of}
 use Rattle.scope_rules.specs.Expressions.{use_faults, array_faults, expr_faults, scalar_value, element_value, expr_of}
 use Rattle.scope_rules.proofs.NoFaults.{both_none, not_broken, not_false, neither}
-use Rattle.hoist_rules.specs.NewNames.{new_name, used}
-use Rattle.hoist_rules.specs.Calls.{holds_call, is_named, is_spawn}
-use Rattle.hoist_rules.specs.Expressions.{one_if, names_in, arguments_names, part_after, part_or, left_of}
+use Rattle.hoist_parts.specs.NewNames.{new_name, used}
+use Rattle.hoist_parts.specs.Calls.{holds_call, is_named, is_spawn}
+use Rattle.hoist_parts.specs.Expressions.{one_if, names_in, arguments_names, part_after, part_or, left_of}
 use Rattle.hoist_meaning.specs.SourceNames.{AreSourceNames}
 use Rattle.hoist_meaning.proofs.Bindings.{Agreement, Outside, Both, New, in_tree, IsOutside, AreOutside, IsAgreement, new_apart}
 use Rattle.hoist_meaning.proofs.Extends.{TreeBelow, later_apart}

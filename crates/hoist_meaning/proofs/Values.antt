@@ -18,7 +18,7 @@ use Rattle.deep_mean.specs.DeepTrees.{DeepExpr}
 use Rattle.deep_mean.specs.Evaluation.{Around, IndexOfLocal, IndexOfGlobal, OperandOf, InParentheses, LeftOf, RightOf, LeftOfAnd, LeftOfOr, Decides, ConditionOf, Chosen, Done, of_value, and_then, truth_of, chosen, evaluate}
 use Rattle.deep_mean.specs.Naming as deep
 use Rattle.deep_mean.specs.Naming.{calls_in}
-use Rattle.hoist_rules.specs.Calls.{holds_call}
+use Rattle.hoist_parts.specs.Calls.{holds_call}
 use Rattle.hoist_meaning.specs.SourceNames.{AreSourceNames}
 use Rattle.hoist_meaning.proofs.Bindings.{Agreement, in_text, in_tree, IsAgreement, NamesStand, LocalAlike, MeaningAlike, FoundAlike, found_alike}
 

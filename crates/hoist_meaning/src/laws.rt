@@ -2,7 +2,7 @@ ghost use Rattle.std.specs.Prelude.{List, ℕ};
 ghost use Rattle.c_grammar.specs.Grammar.{IsProgram};
 ghost use Rattle.c_lex.specs.Tokens.{AreTokensOf};
 ghost use Rattle.c_lex.specs.declared.tokens.Token.{Token};
-ghost use Rattle.c_parse.specs.ForParts.{AreForPartsWhole};
+ghost use Rattle.whole_calls.specs.WholeForParts.{AreForPartsWhole};
 ghost use Rattle.c_tree.specs.RawTrees.{RawItemTree};
 ghost use Rattle.c_tree.specs.Trees.{ProgramTree};
 ghost use Rattle.c_tree.specs.WellScoped.{IsWellScoped};
@@ -13,7 +13,7 @@ ghost use Rattle.grammar_places.specs.Ranks.{site_numbers};
 ghost use Rattle.grammar_places.specs.Rising.{RiseWithin};
 ghost use Rattle.hoist_meaning.specs.SameRuns.{RunsTheSame};
 ghost use Rattle.hoist_meaning.specs.SourceNames.{AreItemsNamed};
-ghost use Rattle.hoist_rules.specs.Statements.{items_hoisted};
+ghost use Rattle.hoist_parts.specs.Statements.{items_hoisted};
 ghost use Rattle.scope_rules.specs.Numbered.{IsResolvedBy};
 
 /// Where every call in the parentheses of a `for` is whole, no name begins with a digit, and the places of calls rise in the order of

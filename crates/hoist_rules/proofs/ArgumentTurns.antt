@@ -3,9 +3,9 @@ use Rattle.std.proofs.Common.{ℕ, ◌+◌, ◌≡◌, refl, sym, ap, ◌∙◌,
 use Rattle.std.proofs.lemmas.Bool.Decides.{nat_tests}
 use Rattle.c_tree.specs.RawTrees.{RawExprTree, RawExprTrees, NoExprs, And, RawStmtTree}
 use Rattle.c_tree.specs.RawViews.{raw_arguments}
-use Rattle.hoist_rules.specs.Calls.{holds_call, hold_call}
-use Rattle.hoist_rules.specs.Expressions.{one_if, arguments_names, arguments_left, arguments_before}
-use Rattle.hoist_rules.specs.Arguments.{calls_among, passed_left, passed_before, passed_after}
+use Rattle.hoist_parts.specs.Calls.{holds_call, hold_call}
+use Rattle.hoist_parts.specs.Expressions.{one_if, arguments_names, arguments_left, arguments_before}
+use Rattle.hoist_parts.specs.Arguments.{calls_among, passed_left, passed_before, passed_after}
 
 -- expressions, and then arguments
 abbrev pub then_trees : List RawExprTree → RawExprTrees → RawExprTrees

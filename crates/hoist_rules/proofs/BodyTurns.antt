@@ -1,7 +1,7 @@
 -- A turn over the statements of a block.
 use Rattle.std.proofs.Common.{ℕ, ◌+◌, ◌≡◌, ◌∙◌, List, ◌++◌, append_assoc, arith}
 use Rattle.c_tree.specs.RawTrees.{RawStmtTree, RawStmtTrees, RawThen}
-use Rattle.hoist_rules.specs.Statements.{stmt_names, stmts_names, hoisted, all_hoisted}
+use Rattle.hoist_parts.specs.Statements.{stmt_names, stmts_names, hoisted, all_hoisted}
 
 pub turn_statements : (k n : ℕ) (s : RawStmtTree) (ss : RawStmtTrees) (before after whole : List RawStmtTree) →
     after ≡ before ++ hoisted k s → n ≡ k + stmt_names s → before ++ all_hoisted k (RawThen s ss) ≡ whole → after ++ all_hoisted n ss ≡ whole

@@ -1,11 +1,11 @@
 -- A call and a call of a table's member, after what goes before their parts, and a conditional whose chosen parts hold no call.
 use Rattle.std.proofs.Common.{ℕ, ◌+◌, ◌≡◌, refl, sym, ap, ◌∙◌, Bool, false, ◌||◌, List, [], ◌∷◌, ◌++◌, append_assoc, arith}
 use Rattle.c_tree.specs.RawTrees.{NameTree, RawExprTree, RawExprTrees, RawConditional, RawCall, RawTableCall, RawStmtTree}
-use Rattle.hoist_rules.specs.NewNames.{declared_as}
-use Rattle.hoist_rules.specs.Calls.{holds_call, is_named, is_spawn}
-use Rattle.hoist_rules.specs.Expressions.{names_in, arguments_names, part_after, part_or, part_named, left_of, arguments_left, call_left, index_left, argument_left, table_call_left, before, arguments_before}
-use Rattle.hoist_rules.specs.Statements.{table_before}
-use Rattle.hoist_rules.proofs.NoCalls.{or_left, or_right, no_names}
+use Rattle.hoist_parts.specs.NewNames.{declared_as}
+use Rattle.hoist_parts.specs.Calls.{holds_call, is_named, is_spawn}
+use Rattle.hoist_parts.specs.Expressions.{names_in, arguments_names, part_after, part_or, part_named, left_of, arguments_left, call_left, index_left, argument_left, table_call_left, before, arguments_before}
+use Rattle.hoist_parts.specs.Statements.{table_before}
+use Rattle.hoist_parts.proofs.NoCalls.{or_left, or_right, no_names}
 use Rattle.hoist_rules.proofs.Pushes.{then_pushed}
 
 -- `w` is the expression, `s` what stood before it

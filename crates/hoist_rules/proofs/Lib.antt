@@ -1,7 +1,3 @@
-pub mod Decimals
-pub mod NoCalls
-pub mod ChainLemmas
-pub mod HeldChains
 pub mod ValueChains
 pub mod Operands
 pub mod ArgumentTurns
@@ -9,7 +5,3 @@ pub mod Pushes
 pub mod BodyTurns
 pub mod OperatorTurns
 pub mod CallTurns
-pub mod Kept
-pub mod Whole
-pub mod Temporaries
-pub mod Names

@@ -5,10 +5,10 @@ use Rattle.c_tree.specs.declared.raw_expressions.RawExpr.{RawExpr}
 use Rattle.c_tree.specs.RawTrees.{RawExprTree, RawStmtTree}
 use Rattle.c_tree.specs.RawViews.{raw_joined, raw_chained}
 use Rattle.c_tree.proofs.RawExprEquations.{raw_operand_tree}
-use Rattle.hoist_rules.specs.Calls.{holds_call, is_left_alone}
-use Rattle.hoist_rules.specs.Expressions.{one_if, names_in, part_named, left_of, before}
-use Rattle.hoist_rules.specs.Chains.{operand_trees, operand_left, operand_before, operand_after, operands_left, operands_before, operands_after}
-use Rattle.hoist_rules.proofs.HeldChains.{joined_alone}
+use Rattle.hoist_parts.specs.Calls.{holds_call, is_left_alone}
+use Rattle.hoist_parts.specs.Expressions.{one_if, names_in, part_named, left_of, before}
+use Rattle.hoist_parts.specs.Chains.{operand_trees, operand_left, operand_before, operand_after, operands_left, operands_before, operands_after}
+use Rattle.hoist_parts.proofs.HeldChains.{joined_alone}
 
 pub operands_seen : (ps : List (Infix × RawExpr)) → operand_trees ps ≡ map raw_operand_tree ps
 operands_seen [] = refl

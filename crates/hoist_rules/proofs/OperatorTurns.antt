@@ -3,10 +3,10 @@ use Rattle.std.proofs.Common.{ℕ, ◌+◌, ◌≡◌, refl, sym, ap, ◌∙◌,
 use Rattle.c_tree.specs.declared.operators.Infix.{Infix}
 use Rattle.c_tree.specs.RawTrees.{RawExprTree, RawStmtTree}
 use Rattle.c_tree.specs.RawViews.{raw_joined}
-use Rattle.hoist_rules.specs.Calls.{holds_call}
-use Rattle.hoist_rules.specs.Expressions.{one_if, part_or, part_named, left_of, before}
-use Rattle.hoist_rules.specs.Chains.{branches, operand_left, operand_before}
-use Rattle.hoist_rules.proofs.NoCalls.{no_left, no_before}
+use Rattle.hoist_parts.specs.Calls.{holds_call}
+use Rattle.hoist_parts.specs.Expressions.{one_if, part_or, part_named, left_of, before}
+use Rattle.hoist_parts.specs.Chains.{branches, operand_left, operand_before}
+use Rattle.hoist_parts.proofs.NoCalls.{no_left, no_before}
 
 plain_left_is : (k : ℕ) (op : Infix) (alone : Bool) (l r : RawExprTree) → branches op (holds_call r) ≡ false →
     raw_joined (part_or (holds_call r && not alone) k l) op (left_of (k + one_if (holds_call r && not alone)) r) ≡ operand_left k op alone l r

@@ -1,7 +1,1 @@
-pub mod NewNames
-pub mod Calls
-pub mod Expressions
-pub mod Statements
 pub mod HoistExamples
-pub mod Chains
-pub mod Arguments

@@ -2,12 +2,12 @@
 ghost use Rattle.std.specs.Prelude.{◌≡◌, [], ◌∷◌, ◌++◌, map, IfOk, OnOk};
 ghost use Rattle.c_tree.specs.RawTrees.{RawNumber, RawIf, RawWhile, RawBreak};
 ghost use Rattle.c_tree.specs.RawViews.{raw_expr_tree, raw_stmt_tree};
-ghost use Rattle.hoist_rules.specs.Expressions.{is_false, in_block};
-ghost use Rattle.hoist_rules.specs.Statements.{as_body};
+ghost use Rattle.hoist_parts.specs.Expressions.{is_false, in_block};
+ghost use Rattle.hoist_parts.specs.Statements.{as_body};
 
-use crate::chains::is_false;
 use crate::hoisting::Hoisting;
 use c_tree::{RawExpr, RawStmt};
+use hoist_parts::is_false;
 use std::alloc::{AllocError, Global};
 
 // Statements as a body.

@@ -2,14 +2,14 @@
 ghost use Rattle.std.specs.Prelude.{◌≡◌, ◌+◌, [], ◌∷◌, ◌++◌, map, IfOk, OnOk};
 ghost use Rattle.c_tree.specs.RawTrees.{RawIf, RawIfElse};
 ghost use Rattle.c_tree.specs.RawViews.{raw_expr_tree, raw_stmt_tree};
-ghost use Rattle.hoist_rules.specs.NewNames.{used, declared, declared_as, set_to};
-ghost use Rattle.hoist_rules.specs.Expressions.{in_block, is_true};
-ghost use Rattle.hoist_rules.specs.Chains.{chain_tree, condition_by};
+ghost use Rattle.hoist_parts.specs.NewNames.{used, declared, declared_as, set_to};
+ghost use Rattle.hoist_parts.specs.Expressions.{in_block, is_true};
+ghost use Rattle.hoist_parts.specs.Chains.{chain_tree, condition_by};
 
 use crate::built::boxed_pair;
-use crate::chains::{Chain, condition_by, is_true};
-use crate::hoisting::{Hoisting, used};
+use crate::hoisting::Hoisting;
 use c_tree::{Infix, RawExpr, RawStmt};
+use hoist_parts::{Chain, condition_by, is_true, used};
 use std::alloc::AllocError;
 
 impl Hoisting {

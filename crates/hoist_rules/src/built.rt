@@ -1,9 +1,9 @@
 // Expressions that are built again from their parts, and values that are held while memory may run out.
 ghost use Rattle.std.specs.Prelude.{◌≡◌, IfOk};
-ghost use Rattle.c_tree.specs.RawTrees.{RawElement, RawUnary, RawParenthesized, RawConditional, RawCall, RawTableCall};
+ghost use Rattle.c_tree.specs.RawTrees.{RawElement, RawParenthesized, RawConditional, RawCall, RawTableCall};
 ghost use Rattle.c_tree.specs.RawViews.{name_tree, raw_expr_tree, raw_expr_trees};
 
-use c_tree::{Name, RawExpr, UnaryOperator};
+use c_tree::{Name, RawExpr};
 use std::alloc::{AllocError, Global};
 
 /// A copy of a name.
@@ -59,20 +59,6 @@ pub(crate) fn element(alloc: Global, name: &Name, index: RawExpr) -> Result<RawE
     let index = Box::new(alloc, index)?;
     let (name, index) = named(alloc, name, index)?;
     Ok(RawExpr::Element { name, index })
-}
-
-/// An operator before its operand.
-pub(crate) fn unary(
-    alloc: Global,
-    operator: UnaryOperator,
-    operand: RawExpr,
-) -> Result<RawExpr, AllocError>
-    ensures { IfOk result (λ e. raw_expr_tree e ≡ RawUnary operator (raw_expr_tree operand)) }
-{
-    Ok(RawExpr::Unary {
-        operator,
-        operand: Box::new(alloc, operand)?,
-    })
 }
 
 /// `(inner)`

@@ -2,9 +2,9 @@
 ghost use Rattle.std.specs.Prelude.{◌≡◌, [], ◌∷◌};
 ghost use Rattle.c_tree.specs.declared.operators.BinaryOperator.{BinaryOperator};
 ghost use Rattle.c_tree.specs.RawTrees.{RawName, RawNumber, RawElement, RawParenthesized, RawBinary, RawLogicalAnd, RawLogicalOr, RawConditional, RawTableCall, RawSetElement, RawTableCalling, RawDo, RawBlock, RawIf, RawIfElse, RawWhile, RawBreak, RawContinue};
-ghost use Rattle.hoist_rules.specs.NewNames.{used, declared, declared_as, set_to};
-ghost use Rattle.hoist_rules.specs.Expressions.{is_true, is_false, in_block};
-ghost use Rattle.hoist_rules.specs.Statements.{hoisted};
+ghost use Rattle.hoist_parts.specs.NewNames.{used, declared, declared_as, set_to};
+ghost use Rattle.hoist_parts.specs.Expressions.{is_true, is_false, in_block};
+ghost use Rattle.hoist_parts.specs.Statements.{hoisted};
 ghost use Rattle.hoist_rules.specs.HoistExamples.{x, y, i, a, f, g, h, t, put, spawn, call, calls, one, two, plus, sets, returns};
 
 /// `put(f() + 1);` becomes `int 0 = f(); put(0 + 1);`, and `return f(1) + f(2);` becomes `int 0 = f(1); int 1 = f(2); return 0 + 1;`.

@@ -1,19 +1,19 @@
 // The rewriting of an expression.
 ghost use Rattle.std.specs.Prelude.{◌≡◌, ◌+◌, false, [], ◌∷◌, ◌++◌, map, IfOk, OnOk};
 ghost use Rattle.c_tree.specs.RawViews.{name_tree, raw_expr_tree, raw_expr_trees, raw_stmt_tree};
-ghost use Rattle.hoist_rules.specs.NewNames.{set_to};
-ghost use Rattle.hoist_rules.specs.Calls.{is_named, is_spawn, holds_call};
-ghost use Rattle.hoist_rules.specs.Chains.{chain_tree, operand_trees, operand_left, operand_before, operand_after, operands_left, operands_before, operands_after};
-ghost use Rattle.hoist_rules.specs.Arguments.{passed_left, passed_before, passed_after};
-ghost use Rattle.hoist_rules.specs.Expressions.{one_if, names_in, arguments_names, in_block, part_after, part_or, part_named, left_of, arguments_left, call_left, before, arguments_before};
+ghost use Rattle.hoist_parts.specs.NewNames.{set_to};
+ghost use Rattle.hoist_parts.specs.Calls.{is_named, is_spawn, holds_call};
+ghost use Rattle.hoist_parts.specs.Chains.{chain_tree, operand_trees, operand_left, operand_before, operand_after, operands_left, operands_before, operands_after};
+ghost use Rattle.hoist_parts.specs.Arguments.{passed_left, passed_before, passed_after};
+ghost use Rattle.hoist_parts.specs.Expressions.{one_if, names_in, arguments_names, in_block, part_after, part_or, part_named, left_of, arguments_left, call_left, before, arguments_before};
 
-use crate::built::{call_of, choice, copied, element, parenthesized, table_call_of, unary};
-use crate::chains::{Chain, is_branching};
-use crate::held_calls::{
-    calls_after, calls_among, either_holds_call, holds_call, is_left_alone, is_spawn, needs_name,
-};
+use crate::built::{call_of, choice, copied, element, parenthesized, table_call_of};
 use crate::hoisting::Hoisting;
 use c_tree::{Infix, Name, RawExpr, RawStmt};
+use hoist_parts::{
+    Chain, calls_after, calls_among, either_holds_call, holds_call, is_branching, is_left_alone,
+    is_spawn, needs_name, unary,
+};
 use std::alloc::AllocError;
 
 impl Hoisting {

@@ -1,12 +1,10 @@
 // Where the rewriting of a function stands.
-ghost use Rattle.std.specs.Prelude.{◌≡◌, ◌+◌, ◌++◌, ◌∷◌, [], List, map, IfOk, OnOk};
-ghost use Rattle.cap_text.specs.Decimals.{canonical_decimal};
-ghost use Rattle.c_tree.specs.RawTrees.{RawName};
-ghost use Rattle.c_tree.specs.RawViews.{name_tree, raw_expr_tree, raw_stmt_tree};
-ghost use Rattle.hoist_rules.specs.NewNames.{new_name, used, declared, declared_as, set_to};
+ghost use Rattle.std.specs.Prelude.{◌≡◌, ◌+◌, ◌++◌, ◌∷◌, [], map, IfOk, OnOk};
+ghost use Rattle.c_tree.specs.RawViews.{raw_expr_tree, raw_stmt_tree};
+ghost use Rattle.hoist_parts.specs.NewNames.{used, declared, declared_as, set_to};
 
-use c_tree::{Name, RawExpr, RawSimple, RawStmt};
-use cap_text::put_dec;
+use c_tree::{RawExpr, RawSimple, RawStmt};
+use hoist_parts::{new_name, used};
 use std::alloc::{AllocError, Global};
 use std::mem;
 
@@ -16,29 +14,6 @@ pub(crate) struct Hoisting {
     pub(crate) alloc: Global,
     pub(crate) next: u32,
     pub(crate) statements: Vec<RawStmt>,
-}
-
-// Appends a number.
-fn put_number(text: &mut Vec<u8>, number: u32) -> Result<(), AllocError>
-    ensures { OnOk result (text.new.items ≡ text.old.items ++ canonical_decimal number) }
-{
-    put_dec(text, i128::from(number))
-}
-
-// The new name of a number.
-fn new_name(alloc: Global, number: u32) -> Result<Name, AllocError>
-    ensures { IfOk result (λ n. name_tree n ≡ new_name number) }
-{
-    let mut text = Vec::new(alloc);
-    put_number(&mut text, number)?;
-    Ok(Name { at: 0, text })
-}
-
-/// The value of the new name of a number.
-pub(crate) fn used(alloc: Global, number: u32) -> Result<RawExpr, AllocError>
-    ensures { IfOk result (λ e. raw_expr_tree e ≡ used number) }
-{
-    Ok(RawExpr::Name(new_name(alloc, number)?))
 }
 
 impl Hoisting {

@@ -3,8 +3,8 @@ ghost use Rattle.std.specs.Prelude.{◌≡◌, map, option_map, IfOk};
 ghost use Rattle.c_tree.specs.RawViews.{name_tree, raw_stmt_trees, raw_item_tree, raw_item_trees};
 ghost use Rattle.c_tree.specs.RawProgramView.{raw_program_tree};
 ghost use Rattle.c_tree.specs.WholeCalls.{AreCallsWhole};
-ghost use Rattle.c_parse.specs.ForParts.{AreForsWhole, IsItemForWhole, AreForPartsWhole};
-ghost use Rattle.hoist_rules.specs.Statements.{item_hoisted, items_hoisted};
+ghost use Rattle.whole_calls.specs.WholeForParts.{AreForsWhole, IsItemForWhole, AreForPartsWhole};
+ghost use Rattle.hoist_parts.specs.Statements.{item_hoisted, items_hoisted};
 
 use crate::built::copied;
 use crate::hoisting::Hoisting;

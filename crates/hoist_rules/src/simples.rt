@@ -2,14 +2,14 @@
 ghost use Rattle.std.specs.Prelude.{◌≡◌, ◌+◌, ◌++◌, map, option_map, IfOk, OnOk};
 ghost use Rattle.c_tree.specs.RawTrees.{RawReturn};
 ghost use Rattle.c_tree.specs.RawViews.{raw_expr_tree, raw_simple_tree, raw_stmt_tree};
-ghost use Rattle.hoist_rules.specs.Calls.{holds_call, holds_nested, is_named};
-ghost use Rattle.hoist_rules.specs.Expressions.{names_in, part_after, part_or, part_named, left_of, before, index_left, argument_left};
-ghost use Rattle.hoist_rules.specs.Statements.{returned_names, returned_before, returned_left, value_names, value_left, value_before, table_before, simple_names, simple_left, simple_before};
+ghost use Rattle.hoist_parts.specs.Calls.{holds_call, holds_nested, is_named};
+ghost use Rattle.hoist_parts.specs.Expressions.{names_in, part_after, part_or, part_named, left_of, before, index_left, argument_left};
+ghost use Rattle.hoist_parts.specs.Statements.{returned_names, returned_before, returned_left, value_names, value_left, value_before, table_before, simple_names, simple_left, simple_before};
 
 use crate::built::{copied, named, table_call_of};
-use crate::held_calls::{holds_call, holds_nested, is_spawn};
 use crate::hoisting::Hoisting;
 use c_tree::{RawExpr, RawSimple, RawStmt};
+use hoist_parts::{holds_call, holds_nested, is_spawn};
 use std::alloc::AllocError;
 
 impl Hoisting {

@@ -5,4 +5,5 @@ pub mod Valid
 pub mod Budgeting
 pub mod Commands
 pub mod Serving
+pub mod Auditing
 pub mod Every

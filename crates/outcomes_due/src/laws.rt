@@ -6,9 +6,10 @@ ghost use Rattle.c_tree.specs.WellScoped.{IsWellScoped};
 ghost use Rattle.certificate_rules.specs.Validity.{IsValid};
 ghost use Rattle.codegen_link.specs.declared.options.Options.{Options};
 ghost use Rattle.codegen_link.specs.Plans.{AreInRange};
+ghost use Rattle.command_words.specs.declared.options.Audit.{Audit as AuditOptions};
 ghost use Rattle.command_words.specs.declared.options.Policy.{Policy};
 ghost use Rattle.command_words.specs.declared.options.Placement.{Placement};
-ghost use Rattle.command_words.specs.WordList.{Request, Serve, Run, Build, Check, Graph, Demo, Budget, IsWordList};
+ghost use Rattle.command_words.specs.WordList.{Request, Serve, Run, Build, Check, Graph, Demo, Audit, Budget, IsWordList};
 ghost use Rattle.command_outcomes.specs.Outcome.{Outcome};
 ghost use Rattle.command_outcomes.specs.Done.{Outside};
 ghost use Rattle.capriccio_commands.specs.BuildsFiles.{HasFittingCode};
@@ -78,7 +79,23 @@ pub fn budget_is_due()
         IsWordList words (Budget source image certificate) → HoldBytes before.files → (outcome : Outcome) × IsDue words before outcome }
 {}
 
-/// Of every list of words an outcome is due, whatever the files and the trace are. It does nothing: the law is the contract.
+/// Of the words of `audit` it can't be that no outcome is due, whatever the files and the trace are. No law finds the outcome: the audit
+/// does. It does nothing: the law is the contract.
+pub fn audit_is_due()
+    ensures { (words : List (List ℕ)) (before : Outside) (source log : List ℕ) (options : AuditOptions) →
+        IsWordList words (Audit source log options) → ¬ ((outcome : Outcome) → ¬ IsDue words before outcome) }
+{}
+
+/// Of every list of words an outcome is due, whatever the files and the trace are, unless the words ask for an audit. It does nothing:
+/// the law is the contract.
 pub fn outcome_is_due()
-    ensures { (words : List (List ℕ)) (before : Outside) → HoldBytes before.files → (outcome : Outcome) × IsDue words before outcome }
+    ensures { (words : List (List ℕ)) (before : Outside) → HoldBytes before.files →
+        ((source log : List ℕ) (options : AuditOptions) → ¬ IsWordList words (Audit source log options)) →
+        (outcome : Outcome) × IsDue words before outcome }
+{}
+
+/// Of every list of words it can't be that no outcome is due, whatever the files and the trace are. It does nothing: the law is the
+/// contract.
+pub fn never_is_none_due()
+    ensures { (words : List (List ℕ)) (before : Outside) → HoldBytes before.files → ¬ ((outcome : Outcome) → ¬ IsDue words before outcome) }
 {}

@@ -1,6 +1,6 @@
 -- What an answer says where no count of faults rose: what is due was done as a whole, or memory was wanting.
 use Rattle.std.proofs.Common.{◌≡◌, ◌⊎◌, ℕ, List, Option, Result, Ok, Err, subst, arith, inl, inr, ⊎_elim}
-use Rattle.cap_io.specs.Faults.{Stayed}
+use Rattle.cap_io.specs.Faults.{Rose, Stayed}
 use Rattle.cap_io.specs.Files.{Files}
 use Rattle.command_words.specs.WordList.{IsWordList, Request}
 use Rattle.command_words.proofs.OneRequest.{one_request}
@@ -28,6 +28,9 @@ does_it words before o request asked h =
 not_risen : {P : Type 0} (old new : ℕ) → IsRisen old new → Stayed old new → P
 not_risen old new risen stayed = let less = risen.rose stayed.1 in let same = stayed.0 in absurd (omega (arith, less, same))
 
+not_rose : {P : Type 0} (old new : ℕ) → Rose old new → Stayed old new → P
+not_rose old new rose stayed = let less = rose stayed.1 in let same = stayed.0 in absurd (omega (arith, less, same))
+
 told_status : (status : ℕ) (line : List ℕ) (old new : Option (List ℕ)) (faults faults' answer : ℕ) → IsTold status line old new faults faults' answer → (answer ≡ status) ⊎ (answer ≡ fault_status Memory)
 told_status status line old new faults faults' answer h = ⊎_elim (λ x. inl x.0) (λ x. ⊎_elim (λ y. inl y.0) (λ y. inr y.0) x.2) h
 
@@ -38,7 +41,9 @@ by_result words before after request (Ok o) old new faults faults' status asked 
     ⊎_elim (λ same. inl (record { outcome = o; does = does_it words before o request asked done.0; whole = done.1; status_is = same })) (λ want. inr want)
     (told_status o.status o.line old new faults faults' status told)
 by_result words before after request (Err Read) old new faults faults' status asked none done told =
-    ⊎_elim (λ x. let counted = x.1 in not_risen before.loads after.loads counted.loads none.loads) (λ x. let counted = x.4 in not_risen before.reads after.reads counted.reads none.reads) done
+    ⊎_elim
+    (λ x. ⊎_elim (λ y. let counted = y.1 in not_risen before.loads after.loads counted.loads none.loads) (λ y. let counted = y.1 in not_rose before.reads after.reads counted.reads none.reads) x)
+    (λ x. let counted = x.4 in not_risen before.reads after.reads counted.reads none.reads) done
 by_result words before after request (Err Write) old new faults faults' status asked none done told =
     ⊎_elim (λ x. let counted = x.1 in not_risen before.stores after.stores counted.stores none.stores) (λ x. let counted = x.1 in not_risen before.writes after.writes counted.writes none.writes) done.2
 by_result words before after request (Err Memory) old new faults faults' status asked none done told =

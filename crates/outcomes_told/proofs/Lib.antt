@@ -5,3 +5,4 @@ pub mod Workload
 pub mod Logs
 pub mod Texts
 pub mod Stored
+pub mod Audits

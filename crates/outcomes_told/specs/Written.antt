@@ -9,6 +9,8 @@ use Rattle.schedule_log.specs.declared.entries.StopLine.{StopLine}
 use Rattle.command_outcomes.specs.declared.faults.Fault.TheVariants.{Memory}
 use Rattle.command_outcomes.specs.Done.{Outside}
 use Rattle.command_outcomes.specs.FaultLines.{fault_status}
+use Rattle.capriccio_commands.specs.Audits.{judgement_line, judgement_status}
+use Rattle.capriccio_commands.specs.declared.audit_command.Judgement.{Judgement}
 use Rattle.capriccio_commands.specs.Runs.{IsRun, stop_status}
 use Rattle.capriccio_commands.specs.Summary.{summary_of}
 
@@ -45,3 +47,8 @@ pub record WritesSummary (g : Setup) (trace : List ℕ) (before after : Outside)
 pub record WritesText (text : List ℕ) (before after : Outside) (status : ℕ) : Type 0 where
   pub out : Appends before.taken after.taken text
   pub succeeds : status ≡ 0
+
+-- the output took the line that tells what is said of a log, and the status is the one that goes with it
+pub record WritesJudgement (is : Judgement) (before after : Outside) (status : ℕ) : Type 0 where
+  pub out : Appends before.taken after.taken (judgement_line is)
+  pub status_is : status ≡ judgement_status is

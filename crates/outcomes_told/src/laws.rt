@@ -6,9 +6,10 @@ ghost use Rattle.c_lower.specs.ProgramCode.{lowered};
 ghost use Rattle.call_cycles.specs.Cycles.{IsOnCycle};
 ghost use Rattle.chunk_budget.specs.declared.budgets.Budget.{Budget};
 ghost use Rattle.chunk_budget.specs.LeastBudgets.{IsLeastBudget};
+ghost use Rattle.command_words.specs.declared.options.Audit.{Audit as AuditOptions};
 ghost use Rattle.command_words.specs.declared.options.Placement.{Placement};
 ghost use Rattle.command_words.specs.declared.options.Policy.{Policy};
-ghost use Rattle.command_words.specs.WordList.{Serve, Run, Build, Check, Graph, Demo, Budget as AskBudget, IsWordList};
+ghost use Rattle.command_words.specs.WordList.{Serve, Run, Build, Check, Graph, Demo, Audit, Budget as AskBudget, IsWordList};
 ghost use Rattle.stack_build.specs.Builds.{IsLaidOut};
 ghost use Rattle.stack_image.specs.declared.images.Image.{Image};
 ghost use Rattle.stack_certificate.specs.declared.certificates.Certificate.{Certificate};
@@ -16,6 +17,10 @@ ghost use Rattle.workload.specs.Traces.{trace_text};
 ghost use Rattle.workload_source.specs.Programs.{program_text};
 ghost use Rattle.command_outcomes.specs.Done.{Outside, WhereTold, AreStored};
 ghost use Rattle.command_outcomes.specs.Loads.{IsSourceText};
+ghost use Rattle.command_outcomes.specs.Steps.{IsLoaded};
+ghost use Rattle.command_outcomes.specs.declared.documents.Document.TheVariants as document;
+ghost use Rattle.capriccio_commands.specs.Audits.{IsJudgement, reading_of};
+ghost use Rattle.capriccio_commands.specs.declared.audit_command.Judgement.{Judgement};
 ghost use Rattle.capriccio_commands.specs.BuildsFiles.{built, built_line};
 ghost use Rattle.capriccio_commands.specs.Budgets.{budget_text};
 ghost use Rattle.capriccio_commands.specs.Demos.{demo_sizes, demo_policy};
@@ -24,7 +29,7 @@ ghost use Rattle.capriccio_commands.specs.Graphs.{IsAnalysed, HasFittingFrames};
 ghost use Rattle.capriccio_commands.specs.Runs.{setup_of, pool_bytes};
 ghost use Rattle.outcomes_told.specs.Given.{HasAnswered, HasSource, HasBuildable, HasValidPair};
 ghost use Rattle.outcomes_told.specs.Looked.{LooksAtGoodLines};
-ghost use Rattle.outcomes_told.specs.Written.{UnlessMemory, WritesLog, WritesSummary, WritesText};
+ghost use Rattle.outcomes_told.specs.Written.{UnlessMemory, WritesJudgement, WritesLog, WritesSummary, WritesText};
 
 /// `serve` of a source that reads as a program of which no frame and not the code is too large, where each line of the trace that is
 /// looked at is good: the output took the whole lawful log of the pair that is laid out, and the status is 0, 10, 11, 12, 13 or 14. It does
@@ -98,6 +103,16 @@ pub fn budget_writes_its_lines()
         HasAnswered words files trace before after status → IsWordList words (AskBudget source image certificate) →
         HasValidPair files source image certificate program i c → ((f : ℕ) → IsOnCycle (lowered program) f → ⊥) →
         UnlessMemory status ((budget : Budget) × IsLeastBudget (lowered program) c budget × WritesText (budget_text budget) before after status) }
+{}
+
+/// `audit` of a source that reads as a program, with a log that is there and not too long: the output took the line that tells what is said of
+/// the log, read against the program, the options and the trace, and the status is 0, 15 or 16. It does nothing: the law is the contract.
+pub fn audit_writes_its_judgement()
+    ensures { (words : List (List ℕ)) (files : Files) (trace source log : List ℕ) (options : AuditOptions) (program : ProgramTree) (bytes : List ℕ)
+        (before after : Outside) (status : ℕ) →
+        HasAnswered words files trace before after status → IsWordList words (Audit source log options) →
+        HasSource files source program → IsLoaded document.Log (Some files) log bytes →
+        UnlessMemory status ((is : Judgement) × IsJudgement (reading_of program options) (Some trace) bytes is × WritesJudgement is before after status) }
 {}
 
 /// `check` on what `build` wrote for the same source, under three different names: where `build` ended with 0, the files that it left are

@@ -18,6 +18,13 @@ struct Latencies {
     slowest: Option<Slowest>,
 }
 
+/// How long requests took to their first answers, and to their last ones.
+#[derive(Drop)]
+struct Answered {
+    firsts: Latencies,
+    lasts: Latencies,
+}
+
 /// Appends the lines on requests: how many came, were dropped, were taken and were answered, and how long that took, from a
 /// request's time in the trace to its first answer and to its last one.
 pub(crate) fn put_requests(
@@ -26,7 +33,8 @@ pub(crate) fn put_requests(
     numbers: &Numbers,
     times: &[u64],
 ) -> Result<(), AllocError> {
-    let firsts = answered_in(alloc, numbers, times, false)?;
+    let answered = answered_in(alloc, numbers, times)?;
+    let Answered { firsts, lasts } = answered;
     let line = RequestsLine {
         came: numbers.arrivals.len() as u64,
         dropped: numbers.dropped,
@@ -35,32 +43,31 @@ pub(crate) fn put_requests(
     };
     write!(text, "{line}\n")?;
     put_latency(text, "first", firsts)?;
-    let lasts = answered_in(alloc, numbers, times, true)?;
     put_latency(text, "last", lasts)
 }
 
-/// How long each request that was answered took, to its first answer or to its last.
-fn answered_in(
-    alloc: Global,
-    numbers: &Numbers,
-    times: &[u64],
-    last: bool,
-) -> Result<Latencies, AllocError> {
-    let mut found = Latencies {
+/// No latency so far.
+fn no_latencies(alloc: Global) -> Latencies {
+    Latencies {
         ticks: Vec::new(alloc),
         slowest: None,
+    }
+}
+
+/// How long each request that was answered took.
+fn answered_in(alloc: Global, numbers: &Numbers, times: &[u64]) -> Result<Answered, AllocError> {
+    let mut found = Answered {
+        firsts: no_latencies(alloc),
+        lasts: no_latencies(alloc),
     };
-    let mut request: u64 = 0;
-    for wait in numbers.takes.as_slice() {
-        if let Some(arrived) = arrival_of(numbers, times, request) {
-            if let Some(at) = answer_of(numbers, request, last) {
-                let slow = Slowest {
-                    ticks: at.saturating_sub(arrived),
-                    arrived,
-                    thread: wait.thread,
-                };
-                found.ticks.push(slow.ticks)?;
-                found.slowest = Some(slower(found.slowest, slow));
+    let arrivals = numbers.arrivals.as_slice();
+    let takes = numbers.takes.as_slice();
+    let mut request: usize = 0;
+    for answers in numbers.answers.as_slice() {
+        if let (Some(given), Some(wait)) = (*answers, takes.get(request)) {
+            if let Some(arrived) = arrival_of(arrivals, times, request) {
+                add(&mut found.firsts, given.first, arrived, wait.thread)?;
+                add(&mut found.lasts, given.last, arrived, wait.thread)?;
             }
         }
         request = request.saturating_add(1);
@@ -68,20 +75,22 @@ fn answered_in(
     Ok(found)
 }
 
-/// When the request of that number came, by the trace.
-fn arrival_of(numbers: &Numbers, times: &[u64], request: u64) -> Option<u64> {
-    let line = numbers.arrivals.as_slice().get(request as usize).copied()?;
-    times.get(line as usize).copied()
+/// Adds the latency of a request that arrived then, and was answered then by that thread.
+fn add(found: &mut Latencies, at: u64, arrived: u64, thread: u32) -> Result<(), AllocError> {
+    let slow = Slowest {
+        ticks: at.saturating_sub(arrived),
+        arrived,
+        thread,
+    };
+    found.ticks.push(slow.ticks)?;
+    found.slowest = Some(slower(found.slowest, slow));
+    Ok(())
 }
 
-/// When the first answer to a request was there, or the last.
-fn answer_of(numbers: &Numbers, request: u64, last: bool) -> Option<u64> {
-    let answers = numbers.answers.get(&request).copied()?;
-    if last {
-        Some(answers.last)
-    } else {
-        Some(answers.first)
-    }
+/// When the request of that number came, by the trace.
+fn arrival_of(arrivals: &[u64], times: &[u64], request: usize) -> Option<u64> {
+    let line = arrivals.get(request).copied()?;
+    times.get(line as usize).copied()
 }
 
 /// The slower of two, and the earlier where they took as long.

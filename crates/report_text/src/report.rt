@@ -3,7 +3,6 @@ use crate::left::put_left;
 use crate::lines::{ChunksLine, GateLine};
 use crate::places::Places;
 use crate::waits::put_waits;
-use cap_text::Lines;
 use cap_word::SiteKey;
 use gate_spells::{Marks, Spells};
 use run_history::Happening;
@@ -218,13 +217,18 @@ fn put_gate(text: &mut String, course: &Course) -> Result<(), AllocError> {
     write!(text, "{line}{end}\n")
 }
 
-/// The last line of a log.
+/// The last line of a log. It looks back from the end, up to the line feed before it.
 pub fn last_line(log: &[u8]) -> &[u8] {
-    let mut last: &[u8] = &[];
-    for line in Lines::new(log) {
-        last = line;
+    let Some((last, body)) = log.split_last() else {
+        return log;
+    };
+    let whole = if *last == b'\n' { body } else { log };
+    for at in (0..whole.len()).rev() {
+        if whole[at] == b'\n' {
+            return &whole[at + 1..];
+        }
     }
-    last
+    whole
 }
 
 /// Appends a line of a log.

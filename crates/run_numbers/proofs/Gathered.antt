@@ -1,14 +1,10 @@
 -- The lists and counts of what a log tells, when one entry more has told something.
-use Rattle.std.proofs.Common.{◌≡◌, ◌∙◌, ℕ, ◌+◌, ◌-◌, Bool, true, false, List, [], ◌∷◌, ◌++◌, Option, Some, None, ap, sym, refl, max, append_assoc, arith, if◌then◌else◌}
-use Rattle.schedule_log.specs.declared.entries.Item.{Item}
+use Rattle.std.proofs.Common.{◌≡◌, ◌∙◌, ℕ, ◌+◌, ◌-◌, List, [], ◌∷◌, ◌++◌, Option, Some, None, ap, sym, refl, max, append_assoc, arith}
 use Rattle.schedule_log.specs.declared.entries.Item.TheVariants.{Arrive, Data}
-use Rattle.run_history.specs.declared.happenings.Wait.{Wait}
 use Rattle.run_history.specs.declared.happenings.Happening.{Happening}
 use Rattle.run_history.specs.declared.happenings.Happening.TheVariants.{Came, Lost, Started, Waited, Put, Ran, Nothing}
 use Rattle.run_history.specs.Happenings.{answered_at, clocks_in, most_held, arrivals_from, requests_dropped, drops_request}
 use Rattle.std.specs.Prelude.{count_by, cond}
-use Rattle.std.specs.BTreeMap.{get}
-use Rattle.std.specs.Ordering.{nat_cmp}
 use Rattle.std.proofs.lemmas.List.Sums.{sum_by-append}
 use Rattle.run_numbers.specs.declared.answers.Answers.{Answers}
 use Rattle.run_numbers.specs.declared.numbers.WaitLength.{WaitLength}

@@ -1,2 +1,3 @@
+mod EmptyPlaces
 pub mod Gathered
 pub mod Readings

@@ -1,14 +1,12 @@
 -- The numbers of what a log tells.
-use Rattle.std.specs.Prelude.{◌≡◌, ℕ, ◌+◌, ◌-◌, ◌≤◌, Bool, true, false, List, [], ◌∷◌, ◌++◌, Option, Some, None, count_by, max}
-use Rattle.std.specs.BTreeMap.{get}
-use Rattle.std.specs.Ordering.{nat_cmp}
+use Rattle.std.specs.Prelude.{◌≡◌, ℕ, ◌+◌, ◌-◌, Bool, true, false, List, [], ◌∷◌, ◌++◌, Option, Some, None, count_by, max}
 use Rattle.run_history.specs.declared.happenings.Wait.{Wait}
 use Rattle.run_history.specs.declared.happenings.Happening.{Happening}
-use Rattle.run_history.specs.declared.happenings.Happening.TheVariants.{Came, Lost, Started, Waited, Put, Ran, Nothing}
+use Rattle.run_history.specs.declared.happenings.Happening.TheVariants.{Came, Lost, Waited}
 use Rattle.run_history.specs.Happenings.{requests_dropped, arrivals_from, answered_at, most_held}
 use Rattle.run_numbers.specs.declared.numbers.Numbers.{Numbers}
 use Rattle.run_numbers.specs.declared.numbers.WaitLength.{WaitLength}
-use Rattle.run_numbers.specs.Answers.{answers_from}
+use Rattle.run_numbers.specs.Answers.{answers_from, answers_at}
 
 -- an event of the trace came or was dropped
 abbrev pub is_event : Happening → Bool
@@ -39,7 +37,7 @@ pub record IsNumbersOf (chunks : ℕ) (told : List Happening) (n : Numbers) : Ty
   pub arrivals : n.arrivals.items ≡ arrivals_from 0 told
   pub dropped : n.dropped ≡ requests_dropped told
   pub takes : n.takes.items ≡ takes told
-  pub answers : (request : ℕ) → get nat_cmp n.answers request ≡ answers_from None (answered_at request told)
+  pub answers : (request : ℕ) → answers_at n.answers.items request ≡ answers_from None (answered_at request told)
   pub waits : n.waits.items ≡ wait_lengths told
   pub held : n.most_held ≡ most_held chunks told
 
@@ -49,7 +47,7 @@ pub record IsOneMore (chunks : ℕ) (told : Happening) (old new : Numbers) : Typ
   pub arrivals : new.arrivals.items ≡ old.arrivals.items ++ arrivals_from old.events (told ∷ [])
   pub dropped : new.dropped ≡ old.dropped + requests_dropped (told ∷ [])
   pub takes : new.takes.items ≡ old.takes.items ++ takes (told ∷ [])
-  pub answers : (request : ℕ) → get nat_cmp new.answers request ≡ answers_from (get nat_cmp old.answers request) (answered_at request (told ∷ []))
+  pub answers : (request : ℕ) → answers_at new.answers.items request ≡ answers_from (answers_at old.answers.items request) (answered_at request (told ∷ []))
   pub waits : new.waits.items ≡ old.waits.items ++ wait_lengths (told ∷ [])
   pub held : new.most_held ≡ max old.most_held (most_held chunks (told ∷ []))
 

@@ -1,8 +1,10 @@
+ghost use Rattle.std.specs.Prelude.{◌≡◌, ℕ, ◌<◌, OnOk, length};
+ghost use Rattle.run_numbers.specs.Answers.{answers_at};
+
 use crate::answers::{Answers, one_more};
 use run_history::{Happening, Segment, Wait};
 use schedule_log::Item;
 use std::alloc::Global;
-use std::collections::BTreeMap;
 
 /// Why numbers go no further.
 #[derive(Clone, Copy)]
@@ -33,8 +35,9 @@ pub struct Numbers {
     pub dropped: u64,
     /// The waits that took a request, in order.
     pub takes: Vec<Wait>,
-    /// When requests were answered, by their numbers.
-    pub answers: BTreeMap<u64, Answers>,
+    /// When requests were answered: at the place of a request's number, where it was. Behind the last that was answered there are no
+    /// places.
+    pub answers: Vec<Option<Answers>>,
     /// All waits, in order.
     pub waits: Vec<WaitLength>,
     /// The most chunks that were held after a segment.
@@ -46,10 +49,8 @@ impl Numbers {
     ghost use Rattle.run_history.specs.declared.happenings.Happening.{Happening};
     ghost use Rattle.run_history.specs.declared.happenings.Happening.TheVariants.{Came, Lost, Waited, Ran};
     ghost use Rattle.run_history.specs.Happenings.{clocks_in};
-    ghost use Rattle.run_numbers.specs.Answers.{answers_from};
+    ghost use Rattle.run_numbers.specs.Answers.{answers_from, answers_at};
     ghost use Rattle.run_numbers.specs.Numbers.{IsNumbersOf, IsOneMore, KeepsOthers};
-    ghost use Rattle.std.specs.BTreeMap.{get};
-    ghost use Rattle.std.specs.Ordering.{nat_cmp};
 
     /// The numbers before the first entry. It takes no memory.
     pub fn new(alloc: Global) -> Numbers
@@ -60,7 +61,7 @@ impl Numbers {
             arrivals: Vec::new(alloc),
             dropped: 0,
             takes: Vec::new(alloc),
-            answers: BTreeMap::new(alloc),
+            answers: Vec::new(alloc),
             waits: Vec::new(alloc),
             most_held: 0,
         }
@@ -137,7 +138,7 @@ impl Numbers {
 
     /// The answers of a segment.
     fn answer(&mut self, segment: Segment) -> Result<(), NumbersError>
-        ensures answers { (request : ℕ) → OnOk result (get nat_cmp self.new.answers request ≡ answers_from (get nat_cmp self.old.answers request) (clocks_in request segment)) }
+        ensures answers { (request : ℕ) → OnOk result (answers_at self.new.answers.items request ≡ answers_from (answers_at self.old.answers.items request) (clocks_in request segment)) }
         ensures others { OnOk result (KeepsOthers self.old self.new) }
     {
         if segment.puts == 0 {
@@ -146,11 +147,21 @@ impl Numbers {
         let Some(request) = segment.request else {
             return Ok(());
         };
-        let before = self.answers.get(&request).copied();
-        let answers = one_more(before, segment.ended).ok_or(NumbersError::Count)?;
-        match self.answers.insert(request, answers) {
-            Ok(_) => Ok(()),
-            Err(_) => Err(NumbersError::Memory),
-        }
+        let place = request as usize;
+        make_places(&mut self.answers, place)?;
+        let answers = one_more(self.answers[place], segment.ended).ok_or(NumbersError::Count)?;
+        self.answers[place] = Some(answers);
+        Ok(())
     }
+}
+
+/// Makes places for the answers to all requests up to this one.
+fn make_places(answers: &mut Vec<Option<Answers>>, place: usize) -> Result<(), NumbersError>
+    ensures same { (request : ℕ) → OnOk result (answers_at answers.new.items request ≡ answers_at answers.old.items request) }
+    ensures there { OnOk result (place < length answers.new.items) }
+{
+    while answers.len() <= place {
+        answers.push(None).map_err(|_| NumbersError::Memory)?;
+    }
+    Ok(())
 }

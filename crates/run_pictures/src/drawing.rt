@@ -1,4 +1,5 @@
 use crate::graph::{GraphEdge, put_label};
+use crate::head::put_head;
 use crate::names::put_escaped;
 use std::alloc::AllocError;
 
@@ -18,6 +19,9 @@ const BOW: u64 = 45;
 
 const FARTHEST: u64 = 360;
 
+/// The width of the picture.
+const WIDTH: u64 = 1420;
+
 /// Appends the blocking graph as SVG: the nodes one below another with their names, and an arrow for each edge with its label.
 /// Arrows down stand right of the boxes, and arrows up and back to the same node left.
 pub fn put_drawing(
@@ -27,12 +31,9 @@ pub fn put_drawing(
 ) -> Result<(), AllocError> {
     let bottom = (names.len() as u64).saturating_mul(STEP).saturating_add(10);
     let height = bottom.saturating_add(20);
-    write!(
-        text,
-        "<svg xmlns=\"http://www.w3.org/2000/svg\" width=\"1420\" height=\"{height}\" viewBox=\"0 0 1420 {height}\" font-family=\"sans-serif\" font-size=\"11\">\n"
-    )?;
+    put_head(text, WIDTH, height)?;
     text.push_str(
-        "<defs><marker id=\"tip\" markerWidth=\"8\" markerHeight=\"8\" refX=\"7\" refY=\"4\" orient=\"auto\"><path d=\"M0,0 L8,4 L0,8 z\"/></marker></defs>\n<rect width=\"100%\" height=\"100%\" fill=\"#ffffff\"/>\n",
+        "<defs><marker id=\"tip\" markerWidth=\"8\" markerHeight=\"8\" refX=\"7\" refY=\"4\" orient=\"auto\"><path d=\"M0,0 L8,4 L0,8 z\"/></marker></defs>\n",
     )?;
     for edge in edges {
         put_arrow(text, edge)?;

@@ -3,20 +3,18 @@
 // In: what each entry of a log tells (`run_history`), and names for the places at which threads wait. Out: the timeline as SVG,
 // a row a thread, with its runs and its waits by place (`Rows`, `put_timeline`), and the blocking graph as DOT (`put_graph`) and
 // as SVG (`put_drawing`). A row keeps at most one mark for each column of the picture, so that the picture doesn't grow with the
-// log. The crates above use the clauses of `Rows::add` and `column_of` (specs/Columns.antt); of the text of a picture no
-// clause speaks.
+// log. The columns are those of `run_columns`; of the text of a picture no clause speaks.
 // SVG is that of the W3C's "Scalable Vector Graphics (SVG) 1.1", DOT that of Graphviz.
 #![tactic(auto)]
 
 mod colors;
-mod columns;
 mod drawing;
 mod graph;
+mod head;
 mod names;
 mod rows;
 mod timeline;
 
-pub use columns::column_of;
 pub use drawing::put_drawing;
 pub use graph::{GraphEdge, put_graph};
 pub use rows::{Doing, Mark, Rows};

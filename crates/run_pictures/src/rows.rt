@@ -1,4 +1,4 @@
-use crate::columns::column_of;
+use run_columns::column_of;
 use run_history::{Happening, Segment, Wait};
 use std::alloc::{AllocError, Global};
 use std::collections::BTreeMap;

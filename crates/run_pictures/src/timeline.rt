@@ -1,7 +1,8 @@
 use crate::colors::color_of;
-use crate::columns::COLUMNS;
+use crate::head::put_head;
 use crate::names::put_escaped;
 use crate::rows::{Doing, Mark, Rows};
+use run_columns::COLUMNS;
 use std::alloc::AllocError;
 
 /// Room left of the rows, for the threads' numbers.
@@ -33,11 +34,7 @@ pub fn put_timeline(
         .saturating_add(top)
         .saturating_add(20);
     let width = LEFT + COLUMNS + 40;
-    write!(
-        text,
-        "<svg xmlns=\"http://www.w3.org/2000/svg\" width=\"{width}\" height=\"{height}\" viewBox=\"0 0 {width} {height}\" font-family=\"sans-serif\" font-size=\"11\">\n"
-    )?;
-    text.push_str("<rect width=\"100%\" height=\"100%\" fill=\"#ffffff\"/>\n")?;
+    put_head(text, u64::from(width), height)?;
     put_legend(text, names)?;
     put_clocks(text, rows.end(), top, height.saturating_sub(14))?;
     put_rows(text, rows, sites, top, high)?;

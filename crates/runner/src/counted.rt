@@ -30,7 +30,8 @@ impl Model for CountedReader {
 impl CountedReader {
     /// A reader at the start of a trace.
     pub(crate) fn new(alloc: Global) -> Result<CountedReader, AllocError>
-        ensures { IfOk result (λ reader. reader ≡ record { held = []; lines = 0; last = 0; refused = None }) }
+        ensures { IfOk result (λ reader.
+            reader ≡ record { held = []; lines = 0; last = 0; refused = None }) }
     {
         Ok(CountedReader {
             reader: TraceReader::new(alloc)?,
@@ -42,7 +43,8 @@ impl CountedReader {
     pub(crate) fn next<S: Source>(&mut self, source: &mut S) -> Result<Option<Event>, TraceError>
         requires unrefused { self.old.refused ≡ None }
         ensures told { NextTold self.old self.new (S.left source.old) (S.left source.new) result }
-        ensures fits { IfOk result (λ answer. IfSome answer (λ event. FitsEvent event × (self.old.last ≤ event.time))) }
+        ensures fits { IfOk result (λ answer. IfSome answer (λ event. FitsEvent event
+            × (self.old.last ≤ event.time))) }
         ensures kept { KeepsRefusal self.old self.new result }
         ensures counted { self.new.lines ≤ 1000000 }
         ensures counts { CountsNext result (S.faults source.old) (S.faults source.new) }

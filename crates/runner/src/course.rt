@@ -68,7 +68,10 @@ impl<C: Measure + Drop> Course<C> {
     ) -> Result<Course<C>, AllocError>
         requires sound { IsSound world.now.accepted }
         requires fresh { HasNothing rule }
-        ensures { IfOk result (λ course. (g : Setup) (left : Rest) → IsAtStartBy (rule_of rule) g world.now monitor → (course.under ≡ None) × StandsBetween g (start_of g (bytes_of left) world.now.machine) course world.now left) }
+        ensures { IfOk result (λ course. (g : Setup) (left : Rest) →
+            IsAtStartBy (rule_of rule) g world.now monitor → (course.under ≡ None)
+            × StandsBetween g (start_of g (bytes_of left) world.now.machine) course world.now
+            left) }
     {
         let reader = CountedReader::new(alloc)?;
         let graph = Graph::new(alloc);
@@ -94,9 +97,12 @@ impl<C: Measure + Drop> Course<C> {
     ) -> Result<Option<Halt>, Failure>
         requires stands { StandsSomehow self.old world.old }
         requires unrefused { writer.old.refused ≡ None }
-        ensures ends { BackTo (S.left trace.old) (S.left trace.new) (λ before left. (g : Setup) (state : State) → Stands g state self.old world.old before →
-            StepEnds g state before self.new world.new left (output_of writer.old (K.taken out.old)) (output_of writer.new (K.taken out.new)) result) }
-        ensures counts { CountsStep result (S.faults trace.old) (S.faults trace.new) (K.faults out.old) (K.faults out.new) }
+        ensures ends { BackTo (S.left trace.old) (S.left trace.new) (λ before left.
+            (g : Setup) (state : State) → Stands g state self.old world.old before →
+            StepEnds g state before self.new world.new left (output_of writer.old (K.taken out.old))
+            (output_of writer.new (K.taken out.new)) result) }
+        ensures counts { CountsStep result (S.faults trace.old) (S.faults trace.new)
+            (K.faults out.old) (K.faults out.new) }
         ensures unrefused { OnOk result (writer.new.refused ≡ None) }
         ensures falls { FallsTo (rank self.old world.old) result (rank self.new world.new) }
         ensures keeps { KeepsRun world.old world.new }
@@ -118,9 +124,12 @@ impl<C: Measure + Drop> Course<C> {
         requires stands { StandsSomehow self.old world.old }
         requires between { self.old.under ≡ None }
         requires unrefused { writer.old.refused ≡ None }
-        ensures ends { BackTo (S.left trace.old) (S.left trace.new) (λ before left. (g : Setup) (state : State) → StandsBetween g state self.old world.old before →
-            StepEnds g state before self.new world.new left (output_of writer.old (K.taken out.old)) (output_of writer.new (K.taken out.new)) result) }
-        ensures counts { CountsStep result (S.faults trace.old) (S.faults trace.new) (K.faults out.old) (K.faults out.new) }
+        ensures ends { BackTo (S.left trace.old) (S.left trace.new) (λ before left.
+            (g : Setup) (state : State) → StandsBetween g state self.old world.old before →
+            StepEnds g state before self.new world.new left (output_of writer.old (K.taken out.old))
+            (output_of writer.new (K.taken out.new)) result) }
+        ensures counts { CountsStep result (S.faults trace.old) (S.faults trace.new)
+            (K.faults out.old) (K.faults out.new) }
         ensures unrefused { OnOk result (writer.new.refused ≡ None) }
         ensures falls { FallsTo (rank self.old world.old) result (rank self.new world.new) }
         ensures keeps { KeepsRun world.old world.new }
@@ -144,7 +153,10 @@ impl<C: Measure + Drop> Course<C> {
     ) -> Result<Option<Halt>, Failure>
         requires stands { PointStands self.old world.old next }
         requires unrefused { writer.old.refused ≡ None }
-        ensures ends { (g : Setup) (state : State) (left : Rest) → IsAtPoint g state self.old world.old left next → StepEnds g state left self.new world.new left (output_of writer.old (K.taken out.old)) (output_of writer.new (K.taken out.new)) result }
+        ensures ends { (g : Setup) (state : State) (left : Rest) →
+            IsAtPoint g state self.old world.old left next →
+            StepEnds g state left self.new world.new left (output_of writer.old (K.taken out.old))
+            (output_of writer.new (K.taken out.new)) result }
         ensures counts { CountsPart result (K.faults out.old) (K.faults out.new) }
         ensures unrefused { OnOk result (writer.new.refused ≡ None) }
         ensures falls { FallsTo (rank self.old world.old) result (rank self.new world.new) }
@@ -174,11 +186,16 @@ impl<C: Measure + Drop> Course<C> {
         requires between { world.old.machine.running ≡ None }
         requires in_range { IsEventInRange event.kind }
         requires unrefused { writer.old.refused ≡ None }
-        ensures ends { (g : Setup) (state : State) (left : Rest) → IsAtPoint g state self.old world.old left (Some event) → event.time ≤ world.old.machine.clock → PartEnds g state left self.new world.new left (output_of writer.old (K.taken out.old)) (output_of writer.new (K.taken out.new)) result }
+        ensures ends { (g : Setup) (state : State) (left : Rest) →
+            IsAtPoint g state self.old world.old left (Some event) →
+            event.time ≤ world.old.machine.clock →
+            PartEnds g state left self.new world.new left (output_of writer.old (K.taken out.old))
+            (output_of writer.new (K.taken out.new)) result }
         ensures counts { CountsPart result (K.faults out.old) (K.faults out.new) }
         ensures unrefused { OnOk result (writer.new.refused ≡ None) }
         ensures long_rank { long_rank self.new world.new ≡ long_rank self.old world.old }
-        ensures lines_rank { self.old.next ≡ Next.Event event → lines_rank self.new < lines_rank self.old }
+        ensures lines_rank { self.old.next ≡ Next.Event event →
+            lines_rank self.new < lines_rank self.old }
         ensures keeps { KeepsRun world.old world.new }
     {
         let delivered = world.deliver(event);
@@ -199,7 +216,10 @@ impl<C: Measure + Drop> Course<C> {
     ) -> Result<(), Failure>
         requires stands { ChoiceStands self.old world.old }
         requires unrefused { writer.old.refused ≡ None }
-        ensures ends { (g : Setup) (state : State) (left : Rest) (next : Option Event) → IsAtChoice g state self.old world.old left next → PartEnds g state left self.new world.new left (output_of writer.old (K.taken out.old)) (output_of writer.new (K.taken out.new)) result }
+        ensures ends { (g : Setup) (state : State) (left : Rest) (next : Option Event) →
+            IsAtChoice g state self.old world.old left next →
+            PartEnds g state left self.new world.new left (output_of writer.old (K.taken out.old))
+            (output_of writer.new (K.taken out.new)) result }
         ensures counts { CountsPart result (K.faults out.old) (K.faults out.new) }
         ensures unrefused { OnOk result (writer.new.refused ≡ None) }
         ensures falls { long_rank self.new world.new < long_rank self.old world.old }

@@ -24,8 +24,12 @@ pub(crate) fn write_end<K: Sink>(
     out: &mut K,
 ) -> Result<(), Failure>
     requires { writer.refused ≡ None }
-    ensures bytes { Puts (K.taken out.old) (K.taken out.new) (writer.held ++ log_text (end_lines world.now.setting.caps graph.now.edges (stop_line halt (free_count world.now.machine.areas.pool)))) result }
-    ensures fits { OnOk result (IsFitText (log_text (end_lines world.now.setting.caps graph.now.edges (stop_line halt (free_count world.now.machine.areas.pool))))) }
+    ensures bytes { Puts (K.taken out.old) (K.taken out.new)
+        (writer.held ++ log_text (end_lines world.now.setting.caps graph.now.edges
+        (stop_line halt (free_count world.now.machine.areas.pool)))) result }
+    ensures fits { OnOk result
+        (IsFitText (log_text (end_lines world.now.setting.caps graph.now.edges
+        (stop_line halt (free_count world.now.machine.areas.pool))))) }
     ensures counts { CountsPart result (K.faults out.old) (K.faults out.new) }
 {
     let Ok(edges) = graph.edges() else {
@@ -45,7 +49,9 @@ fn write_edges<K: Sink>(
     out: &mut K,
 ) -> Result<(), Failure>
     requires { writer.old.refused ≡ None }
-    ensures bytes { PutsText (output_of writer.old (K.taken out.old)) (output_of writer.new (K.taken out.new)) (log_text (edge_lines world.now.setting.caps edges.now)) result }
+    ensures bytes { PutsText (output_of writer.old (K.taken out.old))
+        (output_of writer.new (K.taken out.new))
+        (log_text (edge_lines world.now.setting.caps edges.now)) result }
     ensures counts { CountsPart result (K.faults out.old) (K.faults out.new) }
     ensures unrefused { OnOk result (writer.new.refused ≡ None) }
 {

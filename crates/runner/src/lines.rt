@@ -18,7 +18,8 @@ pub(crate) fn write_line<K: Sink>(
     entry: &Entry,
 ) -> Result<(), Failure>
     requires { writer.old.refused ≡ None }
-    ensures bytes { PutsText (output_of writer.old (K.taken out.old)) (output_of writer.new (K.taken out.new)) (entry_text entry.now ++ 10 ∷ []) result }
+    ensures bytes { PutsText (output_of writer.old (K.taken out.old))
+        (output_of writer.new (K.taken out.new)) (entry_text entry.now ++ 10 ∷ []) result }
     ensures counts { CountsPart result (K.faults out.old) (K.faults out.new) }
     ensures unrefused { OnOk result (writer.new.refused ≡ None) }
 {

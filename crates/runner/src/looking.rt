@@ -37,9 +37,13 @@ impl<C: Measure + Drop> Course<C> {
     /// Looks at the next line of the trace, which stays until it is delivered.
     pub(crate) fn look<S: Source>(&mut self, trace: &mut S) -> Result<Looked, Failure>
         requires unrefused { self.old.reader.refused ≡ None }
-        ensures looks { BackTo (S.left trace.old) (S.left trace.new) (λ before left. (g : Setup) (state : State) (held : Held) → StandsBetween g state self.old held before →
+        ensures looks { BackTo (S.left trace.old) (S.left trace.new) (λ before left.
+            (g : Setup) (state : State) (held : Held) → StandsBetween g state self.old held before →
             LooksAt g state before self.new held left result) }
-        ensures rest { self.new ≡ record self.old { reader = self.new.reader; next = self.new.next } }
+        ensures rest { self.new ≡ record self.old {
+          reader = self.new.reader;
+          next = self.new.next;
+        } }
         ensures nears { Nears self.old self.new result }
         ensures counts { CountsLook result (S.faults trace.old) (S.faults trace.new) }
     {
@@ -54,9 +58,13 @@ impl<C: Measure + Drop> Course<C> {
     fn read<S: Source>(&mut self, trace: &mut S) -> Result<Looked, Failure>
         requires unrefused { self.old.reader.refused ≡ None }
         requires unread { self.old.next ≡ Next.Unread }
-        ensures looks { BackTo (S.left trace.old) (S.left trace.new) (λ before left. (g : Setup) (state : State) (held : Held) → StandsBetween g state self.old held before →
+        ensures looks { BackTo (S.left trace.old) (S.left trace.new) (λ before left.
+            (g : Setup) (state : State) (held : Held) → StandsBetween g state self.old held before →
             LooksAt g state before self.new held left result) }
-        ensures rest { self.new ≡ record self.old { reader = self.new.reader; next = self.new.next } }
+        ensures rest { self.new ≡ record self.old {
+          reader = self.new.reader;
+          next = self.new.next;
+        } }
         ensures nears { Nears self.old self.new result }
         ensures counts { CountsLook result (S.faults trace.old) (S.faults trace.new) }
     {

@@ -21,7 +21,7 @@ use thread_core::World;
 
 /// Runs a world that was just made over a trace, and writes its log. A run ends with
 ///
-/// - `Done` at a choice of a thread, where every thread has ended: what is left of the trace isn't looked at;
+/// - `Done` at a choice of a thread, where every thread has ended, whatever is left of the trace;
 /// - `BadTrace` at a choice, where the next line of the trace spells no event, has a time below that of the line before, or is
 ///   line 1,000,001;
 /// - `Idle` at a choice, where the trace is over, no thread is ready and none sleeps;
@@ -43,7 +43,9 @@ pub fn run<S: Source, K: Sink, C: Measure + Drop>(
     out: &mut K,
 ) -> RunEnd
     requires { (g : Setup) × IsAtStart g world.old monitor }
-    ensures answer { (g : Setup) → IsAtStart g world.old monitor → IsRunEnd g world.new (S.left trace.old) (K.taken out.old) (K.taken out.new) (S.faults trace.old) (S.faults trace.new) (K.faults out.old) (K.faults out.new) result }
+    ensures answer { (g : Setup) → IsAtStart g world.old monitor →
+        IsRunEnd g world.new (S.left trace.old) (K.taken out.old) (K.taken out.new)
+        (S.faults trace.old) (S.faults trace.new) (K.faults out.old) (K.faults out.new) result }
     ensures keeps { KeepsRun world.old world.new }
 {
     let scheduler = Scheduler::new(alloc);
@@ -63,7 +65,9 @@ pub fn run_stride<S: Source, K: Sink, C: Measure + Drop>(
 ) -> RunEnd
     requires start { (g : Setup) × IsAtStartBy (by_stride rule.tickets) g world.old monitor }
     requires fresh { rule ≡ new_rule rule.tickets }
-    ensures answer { (g : Setup) → IsAtStartBy (by_stride rule.tickets) g world.old monitor → IsRunEnd g world.new (S.left trace.old) (K.taken out.old) (K.taken out.new) (S.faults trace.old) (S.faults trace.new) (K.faults out.old) (K.faults out.new) result }
+    ensures answer { (g : Setup) → IsAtStartBy (by_stride rule.tickets) g world.old monitor →
+        IsRunEnd g world.new (S.left trace.old) (K.taken out.old) (K.taken out.new)
+        (S.faults trace.old) (S.faults trace.new) (K.faults out.old) (K.faults out.new) result }
     ensures keeps { KeepsRun world.old world.new }
 {
     let strides = StridesAtNodes::new(alloc, rule);
@@ -82,7 +86,9 @@ fn run_by<S: Source, K: Sink, C: Measure + Drop>(
 ) -> RunEnd
     requires start { (g : Setup) × IsAtStartBy (rule_of rule) g world.old monitor }
     requires fresh { HasNothing rule }
-    ensures answer { (g : Setup) → IsAtStartBy (rule_of rule) g world.old monitor → IsRunEnd g world.new (S.left trace.old) (K.taken out.old) (K.taken out.new) (S.faults trace.old) (S.faults trace.new) (K.faults out.old) (K.faults out.new) result }
+    ensures answer { (g : Setup) → IsAtStartBy (rule_of rule) g world.old monitor →
+        IsRunEnd g world.new (S.left trace.old) (K.taken out.old) (K.taken out.new)
+        (S.faults trace.old) (S.faults trace.new) (K.faults out.old) (K.faults out.new) result }
     ensures keeps { KeepsRun world.old world.new }
 {
     match go(alloc, world, rule, monitor, trace, out) {
@@ -101,13 +107,16 @@ fn go<S: Source, K: Sink, C: Measure + Drop>(
 ) -> Result<RunEnd, Failure>
     requires start { (g : Setup) × IsAtStartBy (rule_of rule) g world.old monitor }
     requires fresh { HasNothing rule }
-    ensures answer { (g : Setup) → IsAtStartBy (rule_of rule) g world.old monitor → IsRunEnd g world.new (S.left trace.old) (K.taken out.old) (K.taken out.new) (S.faults trace.old) (S.faults trace.new) (K.faults out.old) (K.faults out.new) (run_end result) }
+    ensures answer { (g : Setup) → IsAtStartBy (rule_of rule) g world.old monitor →
+        IsRunEnd g world.new (S.left trace.old) (K.taken out.old) (K.taken out.new)
+        (S.faults trace.old) (S.faults trace.new) (K.faults out.old) (K.faults out.new)
+        (run_end result) }
     ensures keeps { KeepsRun world.old world.new }
 {
     // What these calls tell: the pair is valid, and its chunks have a size that a pool's may have.
     let accepted = world.accepted();
     sizes_law(accepted);
-    let _image = accepted.image();
+    accepted.is_valid();
     let Ok(mut writer) = LogWriter::new(alloc) else {
         return Err(Failure::Memory);
     };

@@ -39,10 +39,14 @@ impl<C: Measure + Drop> Course<C> {
     ) -> Result<Option<Halt>, Failure>
         requires stands { SegmentStands self.old world.old under }
         requires unrefused { writer.old.refused ≡ None }
-        ensures ends { (g : Setup) (state : State) (left : Rest) → StandsWithin g state self.old world.old left under → StepEnds g state left self.new world.new left (output_of writer.old (K.taken out.old)) (output_of writer.new (K.taken out.new)) result }
+        ensures ends { (g : Setup) (state : State) (left : Rest) →
+            StandsWithin g state self.old world.old left under →
+            StepEnds g state left self.new world.new left (output_of writer.old (K.taken out.old))
+            (output_of writer.new (K.taken out.new)) result }
         ensures counts { CountsPart result (K.faults out.old) (K.faults out.new) }
         ensures unrefused { OnOk result (writer.new.refused ≡ None) }
-        ensures falls { self.old.under ≡ Some under → FallsTo (rank self.old world.old) result (rank self.new world.new) }
+        ensures falls { self.old.under ≡ Some under →
+            FallsTo (rank self.old world.old) result (rank self.new world.new) }
         ensures keeps { KeepsRun world.old world.new }
     {
         let turn = under.turn;
@@ -83,10 +87,14 @@ impl<C: Measure + Drop> Course<C> {
     ) -> Result<(), Failure>
         requires turn { HasTurn self.old world.old under (Turn.Out value) }
         requires unrefused { writer.old.refused ≡ None }
-        ensures ends { (g : Setup) (state : State) (left : Rest) → StandsWithin g state self.old world.old left under → PartEnds g state left self.new world.new left (output_of writer.old (K.taken out.old)) (output_of writer.new (K.taken out.new)) result }
+        ensures ends { (g : Setup) (state : State) (left : Rest) →
+            StandsWithin g state self.old world.old left under →
+            PartEnds g state left self.new world.new left (output_of writer.old (K.taken out.old))
+            (output_of writer.new (K.taken out.new)) result }
         ensures counts { CountsPart result (K.faults out.old) (K.faults out.new) }
         ensures unrefused { OnOk result (writer.new.refused ≡ None) }
-        ensures falls { self.old.under ≡ Some under → long_rank self.new world.new < long_rank self.old world.old }
+        ensures falls { self.old.under ≡ Some under →
+            long_rank self.new world.new < long_rank self.old world.old }
         ensures keeps { KeepsRun world.old world.new }
     {
         let entry = Entry::Out {
@@ -100,9 +108,12 @@ impl<C: Measure + Drop> Course<C> {
     /// A thread has started.
     fn spawn(&mut self, world: &mut World, under: Under, thread: ThreadId) -> Result<(), Failure>
         requires { HasTurn self.old world.old under (Turn.Spawned thread) }
-        ensures ends { (g : Setup) (state : State) (left : Rest) (now : Output) → StandsWithin g state self.old world.old left under → PartEnds g state left self.new world.new left now now result }
+        ensures ends { (g : Setup) (state : State) (left : Rest) (now : Output) →
+            StandsWithin g state self.old world.old left under →
+            PartEnds g state left self.new world.new left now now result }
         ensures only_memory { IfErr result (λ failure. failure ≡ Failure.Memory) }
-        ensures falls { IfOk result (λ _. self.old.under ≡ Some under → long_rank self.new world.new < long_rank self.old world.old) }
+        ensures falls { IfOk result (λ _. self.old.under ≡ Some under →
+            long_rank self.new world.new < long_rank self.old world.old) }
         ensures keeps { KeepsRun world.old world.new }
     {
         self.rule.start(thread)?;
@@ -113,10 +124,18 @@ impl<C: Measure + Drop> Course<C> {
     /// The segment goes on.
     fn proceed(&mut self, world: &mut World, under: Under)
         requires { MayProceed world.old world.old.stopped }
-        ensures goes_on { (g : Setup) (state : State) (left : Rest) → StandsInside g state self.old world.old left under.choice under.before → Stands g state self.new world.new left }
-        ensures ticks { (g : Setup) (state : State) (left : Rest) → StandsInside g state self.old world.old left under.choice under.before → HasTicked state.machine world.new.machine }
-        ensures acts { world.old.stopped ≡ None → ActsTo world.old.setting world.old.machine world.new.machine }
-        ensures falls { (g : Setup) (state : State) (left : Rest) → StandsInside g state self.old world.old left under.choice under.before → 1 ≤ under_rank self.old.under → long_rank self.new world.new < long_rank self.old world.old }
+        ensures goes_on { (g : Setup) (state : State) (left : Rest) →
+            StandsInside g state self.old world.old left under.choice under.before →
+            Stands g state self.new world.new left }
+        ensures ticks { (g : Setup) (state : State) (left : Rest) →
+            StandsInside g state self.old world.old left under.choice under.before →
+            HasTicked state.machine world.new.machine }
+        ensures acts { world.old.stopped ≡ None →
+            ActsTo world.old.setting world.old.machine world.new.machine }
+        ensures falls { (g : Setup) (state : State) (left : Rest) →
+            StandsInside g state self.old world.old left under.choice under.before →
+            1 ≤ under_rank self.old.under →
+            long_rank self.new world.new < long_rank self.old world.old }
         ensures keeps { KeepsRun world.old world.new }
     {
         let choice = under.choice;
@@ -142,7 +161,10 @@ impl<C: Measure + Drop> Course<C> {
     ) -> Result<(), Failure>
         requires turn { HasTurn self.old world.now under (Turn.Blocked key.now cost) }
         requires unrefused { writer.old.refused ≡ None }
-        ensures ends { (g : Setup) (state : State) (left : Rest) → StandsWithin g state self.old world.now left under → PartEnds g state left self.new world.now left (output_of writer.old (K.taken out.old)) (output_of writer.new (K.taken out.new)) result }
+        ensures ends { (g : Setup) (state : State) (left : Rest) →
+            StandsWithin g state self.old world.now left under →
+            PartEnds g state left self.new world.now left (output_of writer.old (K.taken out.old))
+            (output_of writer.new (K.taken out.new)) result }
         ensures counts { CountsPart result (K.faults out.old) (K.faults out.new) }
         ensures unrefused { OnOk result (writer.new.refused ≡ None) }
         ensures over { OnOk result (self.new.under ≡ None) }
@@ -176,7 +198,10 @@ impl<C: Measure + Drop> Course<C> {
     ) -> Result<(), Failure>
         requires turn { HasTurn self.old world.now under (Turn.Ended cost) }
         requires unrefused { writer.old.refused ≡ None }
-        ensures ends { (g : Setup) (state : State) (left : Rest) → StandsWithin g state self.old world.now left under → PartEnds g state left self.new world.now left (output_of writer.old (K.taken out.old)) (output_of writer.new (K.taken out.new)) result }
+        ensures ends { (g : Setup) (state : State) (left : Rest) →
+            StandsWithin g state self.old world.now left under →
+            PartEnds g state left self.new world.now left (output_of writer.old (K.taken out.old))
+            (output_of writer.new (K.taken out.new)) result }
         ensures counts { CountsPart result (K.faults out.old) (K.faults out.new) }
         ensures unrefused { OnOk result (writer.new.refused ≡ None) }
         ensures over { OnOk result (self.new.under ≡ None) }

@@ -17,7 +17,9 @@ pub(crate) fn uses_of(world: &World) -> [u32; 8]
 
 /// The change of each use.
 pub(crate) fn changes(before: &[u32; 8], after: &[u32; 8]) -> [i64; 8]
-    ensures { (r : ℕ) → r < 8 → slice_index_or result r (pos 0) ≡ pos (slice_index after.now r) -ℤ pos (slice_index before.now r) }
+    ensures { (r : ℕ) → r < 8 →
+        slice_index_or result r (pos 0) ≡ pos (slice_index after.now r) -ℤ pos
+        (slice_index before.now r) }
 {
     let mut change = [0; 8];
     for place in 0..8 {

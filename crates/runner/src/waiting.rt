@@ -16,10 +16,13 @@ use thread_core::World;
 /// The clock goes on to the next time at which something may go on, where no thread is ready and the next event isn't due; or
 /// there is no such time.
 pub(crate) fn wait(world: &mut World, next: Option<Event>) -> Option<Halt>
-    requires point { (g : Setup) × (state : State) × (k : Kept) × (left : Rest) × IsAtPoint g state k world.old left next }
+    requires point { (g : Setup) × (state : State) × (k : Kept) × (left : Rest)
+        × IsAtPoint g state k world.old left next }
     requires unready { any_ready_in world.old ≡ false }
     requires not_due { is_due next world.old.machine.clock ≡ false }
-    ensures ends { (g : Setup) (state : State) (k : Kept) (left : Rest) → IsAtPoint g state k world.old left next → WaitEnds g state k world.old world.new left result }
+    ensures ends { (g : Setup) (state : State) (k : Kept) (left : Rest) →
+        IsAtPoint g state k world.old left next →
+        WaitEnds g state k world.old world.new left result }
     ensures keeps { KeepsRun world.old world.new }
     ensures cost { world.new.machine.cost ≡ world.old.machine.cost }
 {

@@ -147,6 +147,7 @@ impl Areas {
     ghost use Rattle.segment_run.specs.Spots.{world_spot, IsOn, word_on, with_word_on};
 
     // The spot of an address, if it is on the map.
+    #[inline(always)]
     fn spot(&self, address: u32) -> Option<Spot>
         ensures spot { option_map world_spot result ≡ spot_of self.now address }
         ensures on { IfSome result (IsOn self.now address) }

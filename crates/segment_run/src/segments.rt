@@ -38,6 +38,9 @@ pub enum Segment {
 
 /// Runs a thread that rests and doesn't stand at an ECALL, until it stands at one of a call of the thread package, has
 /// ended, or can't go on.
+///
+/// It is one function in every program, so that the compiler gives its loop the registers of the processor, whoever calls it.
+#[inline(never)]
 pub fn run_segment(
     accepted: &Accepted,
     areas: &mut Areas,

@@ -8,7 +8,8 @@ use Rattle.c_tree.specs.RawTemporaries.{AreWithinTemporaries}
 use Rattle.c_tree.specs.Trees.{ProgramTree}
 use Rattle.c_tree.specs.WellScoped.{IsWellScoped}
 use Rattle.c_grammar.specs.declared.errors.ParseError.{ParseError}
-use Rattle.c_parse.specs.ForParts.{AreForPartsWhole, nested_in_fors}
+use Rattle.whole_calls.specs.WholeForParts.{AreForPartsWhole}
+use Rattle.c_parse.specs.ForParts.{nested_in_fors}
 use Rattle.c_parse.specs.Parsed.{IsParsedWhere, IsRefusedWhere}
 use Rattle.c_parse.proofs.ForWhole.{for_parts_whole}
 use Rattle.scope_rules.specs.declared.errors.ScopeError.{ScopeError}
@@ -16,9 +17,9 @@ use Rattle.scope_rules.specs.Items.{program_of}
 use Rattle.scope_rules.specs.Numbered.{numbered}
 use Rattle.c_scope.specs.declared.source_errors.SourceError.{SourceError}
 use Rattle.c_scope.specs.declared.source_errors.SourceError.TheVariants as refusals
-use Rattle.hoist_rules.specs.Statements.{items_hoisted}
-use Rattle.hoist_rules.proofs.Whole.{items_hoisted_whole}
-use Rattle.hoist_rules.proofs.Temporaries.{items_small}
+use Rattle.hoist_parts.specs.Statements.{items_hoisted}
+use Rattle.hoist_parts.proofs.Whole.{items_hoisted_whole}
+use Rattle.hoist_parts.proofs.Temporaries.{items_small}
 use Rattle.grammar_places.specs.Ranks.{site_numbers}
 use Rattle.grammar_places.proofs.RankLaws.{ranks_are_numbers}
 use Rattle.c_hoist.specs.NestedText.{ReadsNested, IsNestedSourceErrorOf}

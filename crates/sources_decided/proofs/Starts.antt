@@ -14,7 +14,7 @@ use Rattle.c_grammar.specs.Tokens.{rest_of, Passes, PassesNumber}
 use Rattle.c_grammar.specs.Grammar.{IsExpr, IsBinary, IsRepeated, IsUnary, IsPrimary, IsIndex, IsParenthesized, AreArguments, AreMoreArguments, IsSize, IsSimple, IsLocal, AreMoreLocals, AreLocals, IsUpToSemicolon, IsForInit, IsForStep, IsBody, IsBlock, AreStmts, IsStart, IsGlobal, AreMoreGlobals, AreMoreMembers, IsNameOption, AreMoreParameters, AreMoreNamed, AreParameters, AreNamed, IsResult, AreItem, AreItems}
 use Rattle.scope_rules.specs.Names.{Binding}
 use Rattle.scope_rules.specs.Items.{Sofar, at_start, definitions, item_after, items_after}
-use Rattle.hoist_rules.specs.Statements.{item_hoisted, items_hoisted}
+use Rattle.hoist_parts.specs.Statements.{item_hoisted, items_hoisted}
 use Rattle.c_hoist.specs.NestedText.{ReadsNested}
 
 -- ---- tokens

@@ -1,6 +1,6 @@
 // Lists of words: those that are refused, and those with the command that they ask for, from the table of commands and
 // options.
-use command_words::{Command, Placement, Policy, Rule, Tickets, WordsError, read_words};
+use command_words::{Audit, Command, Placement, Policy, Rule, Tickets, WordsError, read_words};
 use std::alloc::{AllocError, Global};
 
 // Lists that are no word list: one a line, with a blank between the words.
@@ -49,6 +49,16 @@ serve P --rule stride --tickets 1=2=3
 serve P --rule stride --tickets 01=2
 serve P --knee 1000
 build P I C --knee 1
+serve P --steps 1
+run P I C --steps 1
+audit P
+audit P L M
+audit P L --steps 1000000001
+audit P L --rule graph
+audit P L --tickets 1=1
+audit P L --extra-size 64
+audit P L --chunk 64
+audit P L --high 500
 serve P --chunk 65536 --chunks 1025
 serve P --extra 65537
 serve P --extra-size 16
@@ -189,6 +199,37 @@ const GRAPH: Command<'static> = Command::Graph {
 
 const DEMO: Command<'static> = Command::Demo { number: 1000 };
 
+const AUDIT: Command<'static> = Command::Audit {
+    source: "P",
+    log: "L",
+    options: AUDIT_OPTIONS,
+};
+
+const AUDIT_OPTIONS: Audit = Audit {
+    chunks: 1024,
+    extra: 0,
+    fuel: 10_000_000,
+    backlog: 64,
+    caps: [0; 8],
+    high: 900,
+    low: 700,
+    knee: 0,
+    steps: 1_000_000_000,
+};
+
+const AUDIT_OF_FEW_STEPS: Command<'static> = Command::Audit {
+    source: "P",
+    log: "L",
+    options: Audit {
+        extra: 65_536,
+        fuel: 0,
+        caps: [0, 1, 0, 0, 0, 0, 0, 0],
+        knee: 999,
+        steps: 0,
+        ..AUDIT_OPTIONS
+    },
+};
+
 // The policy of `--rule stride --knee 500 --tickets 0=3,7=1024`.
 fn stride_policy() -> Policy {
     let mut pairs = [(0, 0); 64];
@@ -314,6 +355,12 @@ fn word_lists_ask_for_a_command(rt: HostRuntime) {
         & asks(alloc, "build P I C --chunk 96", &BUILD)
         & asks(alloc, "check P I C", &CHECK)
         & asks(alloc, "graph --max-path 4080 P", &GRAPH)
-        & asks(alloc, "demo 1000", &DEMO);
+        & asks(alloc, "demo 1000", &DEMO)
+        & asks(alloc, "audit P L", &AUDIT)
+        & asks(
+            alloc,
+            "audit --steps 0 P --extra 65536 --knee 999 L --caps 1=1 --fuel 0",
+            &AUDIT_OF_FEW_STEPS,
+        );
     assert!(rt; right);
 }

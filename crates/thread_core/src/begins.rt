@@ -14,7 +14,8 @@ impl World {
     pub fn begin(&mut self, thread: ThreadId) -> Turn
         requires { MayBegin self.old thread self.old.stopped }
         ensures begins { self.old.stopped ≡ None → Begins self.old thread.number result self.new }
-        ensures source { self.old.stopped ≡ None → BeginsAsSource self.old thread.number result self.new }
+        ensures source { self.old.stopped ≡ None →
+            BeginsAsSource self.old thread.number result self.new }
         ensures chains { self.old.stopped ≡ None → BeginsShort self.old thread.number self.new }
         ensures leaves { self.old.stopped ≡ None → LeavesRun result self.new }
         ensures again { AnswersAgain self.old self.old.stopped result self.new }
@@ -37,7 +38,8 @@ impl World {
         requires { MayProceed self.old self.old.stopped }
         ensures proceeds { self.old.stopped ≡ None → Proceeds self.old result self.new }
         ensures source { self.old.stopped ≡ None → ProceedsAsSource self.old result self.new }
-        ensures chains { self.old.stopped ≡ None → StepsKeepShort self.old self.old.machine self.new }
+        ensures chains { self.old.stopped ≡ None →
+            StepsKeepShort self.old self.old.machine self.new }
         ensures leaves { self.old.stopped ≡ None → LeavesRun result self.new }
         ensures again { AnswersAgain self.old self.old.stopped result self.new }
         ensures setting { KeepsSetting self.old self.new }

@@ -60,7 +60,8 @@ fn take_parts(alloc: Global, accepted: &Accepted, policy: WorldPolicy) -> Result
     requires extra_least { 32 ≤ policy.extra_bytes }
     requires extra_most { policy.extra_bytes ≤ 65536 }
     requires extra_whole { policy.extra_bytes % 16 ≡ 0 }
-    requires pool { policy.chunks * accepted.now.certificate.chunk + policy.extra * policy.extra_bytes ≤ 67108864 }
+    requires pool { policy.chunks * accepted.now.certificate.chunk + policy.extra *
+        policy.extra_bytes ≤ 67108864 }
     ensures { IfOk result (AreParts accepted.now policy) }
 {
     sizes_law(accepted);

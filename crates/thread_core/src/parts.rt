@@ -37,7 +37,8 @@ impl State {
         requires going { self.old.stopped ≡ None }
         requires settled { IsSettled (checked_of accepted.now) (machine_of most self.old) }
         requires ready { IsTrue (is_ready_in (held_in accepted.now most self.old) thread) }
-        ensures picks { after_action (setting_of accepted.now most self.old) (machine_of most self.old) (Pick thread.number) ≡ Some (machine_of most self.new) }
+        ensures picks { after_action (setting_of accepted.now most self.old)
+            (machine_of most self.old) (Pick thread.number) ≡ Some (machine_of most self.new) }
         ensures may { MayRun accepted.now most self.new thread }
         ensures begun { self.new.begun ≡ most - self.old.fuel.left }
         ensures fuel { self.new.fuel ≡ self.old.fuel }
@@ -62,9 +63,14 @@ impl State {
     pub(crate) fn take_result(&mut self, thread: ThreadId, block: Block)
         requires there { IsSome (get self.old.records thread.slot) }
         requires may { MayResume self.old.exchange block }
-        ensures exchange { self.new.exchange ≡ record self.old.exchange { exchange = (row_of self.old.exchange block).after } }
-        ensures context { ContextIs self.old thread (λ context. HasContext self.old thread (answered_context context (result_on block (row_of self.old.exchange block).result)) self.new) }
-        ensures rest { self.new ≡ record self.old { exchange = self.new.exchange; records = self.new.records } }
+        ensures exchange { self.new.exchange ≡
+            record self.old.exchange { exchange = (row_of self.old.exchange block).after } }
+        ensures context { ContextIs self.old thread
+            (λ context. HasContext self.old thread
+            (answered_context context (result_on block (row_of self.old.exchange block).result))
+            self.new) }
+        ensures rest { self.new ≡ record self.old
+            { exchange = self.new.exchange; records = self.new.records } }
     {
         let result = self.exchange.resume(block);
         match block {
@@ -81,7 +87,12 @@ impl State {
     pub(crate) fn set_out(&mut self, most: u64, thread: ThreadId)
         requires waits { IsSome (wait_at self.old.waits thread.slot) }
         requires fuel { self.old.fuel.left ≤ most }
-        ensures { self.new ≡ record self.old { waits = record self.old.waits { places = slice_set self.old.waits.places thread.slot None }; running = Some thread; begun = most - self.old.fuel.left } }
+        ensures { self.new ≡ record self.old {
+          waits = record self.old.waits
+              { places = slice_set self.old.waits.places thread.slot None };
+          running = Some thread;
+          begun = most - self.old.fuel.left;
+        } }
     {
         self.waits.go(thread.slot as usize);
         self.running = Some(thread);
@@ -95,8 +106,14 @@ impl State {
         requires fuel { 0 < self.old.fuel.left }
         requires clock { self.old.waits.clock + 1 ≤ latest }
         ensures record { HasContext self.old thread result self.new }
-        ensures context { ContextIs self.old thread (λ context. result ≡ passed_context context answer) }
-        ensures rest { self.new ≡ record self.old { records = self.new.records; fuel = self.new.fuel; waits = record self.old.waits { clock = self.old.waits.clock + 1 } } }
+        ensures context { ContextIs self.old thread
+            (λ context. result ≡ passed_context context answer) }
+        ensures rest { self.new ≡ record self.old {
+          records = self.new.records;
+          fuel = self.new.fuel;
+          waits = record self.old.waits
+              { clock = self.old.waits.clock + 1 };
+        } }
         ensures fuel { self.new.fuel.left + 1 ≡ self.old.fuel.left }
         ensures rests { (accepted : Acceptance) (areas : Areas) → IsValid (lowered (accepted_tree accepted)) accepted.image accepted.certificate →
             ContextIs self.old thread (λ context. RestsBefore (checked_of accepted) (local_of areas context)) → RestsBehind (checked_of accepted) (code_of accepted) (local_of areas result) }
@@ -114,7 +131,8 @@ impl State {
     /// Whether a free chunk fits the bound of a function, so that a thread can start there.
     pub(crate) fn has_chunk_for(&self, accepted: &Accepted, function: u32) -> bool
         requires { function < length accepted.now.certificate.functions }
-        ensures { (result ≡ false) ↔ FitsNone self.now.areas.pool (fact_at accepted.now.certificate function).bound }
+        ensures { (result ≡ false) ↔ FitsNone self.now.areas.pool
+            (fact_at accepted.now.certificate function).bound }
     {
         let fact = &accepted.certificate().functions.as_slice()[function as usize];
         self.areas.pool().fits(fact.bound)
@@ -151,7 +169,8 @@ impl State {
         requires there { IsSome (get self.old.records thread.slot) }
         requires live { 0 < self.old.live }
         ensures record { Updates self.old.records self.new.records thread.slot None }
-        ensures rest { self.new ≡ record self.old { records = self.new.records; live = self.old.live - 1; running = None } }
+        ensures rest { self.new ≡ record self.old
+            { records = self.new.records; live = self.old.live - 1; running = None } }
     {
         let _ = self.records.try_remove(thread.slot as usize);
         self.live -= 1;
@@ -161,7 +180,8 @@ impl State {
     /// So many instructions have retired.
     pub(crate) fn tick(&mut self, retired: u64)
         requires { self.old.waits.clock + retired ≤ latest }
-        ensures { self.new ≡ record self.old { waits = record self.old.waits { clock = self.old.waits.clock + retired } } }
+        ensures { self.new ≡ record self.old
+            { waits = record self.old.waits { clock = self.old.waits.clock + retired } } }
     {
         let now = self.waits.clock() + retired;
         self.waits.advance(now);

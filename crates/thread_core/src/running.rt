@@ -74,7 +74,9 @@ impl State {
     fn block(&mut self, accepted: &Accepted, most: u64, thread: ThreadId, block: Block) -> Turn
         requires runs { Runs accepted.now most self.old thread }
         requires fuel { 0 < self.old.fuel.left }
-        requires at { LocalIs self.old thread (λ l. IsAtModel (checked_of accepted.now) (code_of accepted.now) l (Calls (Blocking block))) }
+        requires at { LocalIs self.old thread
+            (λ l. IsAtModel (checked_of accepted.now) (code_of accepted.now) l
+            (Calls (Blocking block))) }
         ensures { Told accepted.now most thread self.old (Some result) self.new }
     {
         let _image = accepted.image();
@@ -97,7 +99,8 @@ impl State {
     fn answer(&mut self, accepted: &Accepted, most: u64, thread: ThreadId, ask: Ask) -> Option<Turn>
         requires runs { Runs accepted.now most self.old thread }
         requires fuel { 0 < self.old.fuel.left }
-        requires at { LocalIs self.old thread (λ l. IsAtAsk (checked_of accepted.now) (code_of accepted.now) l ask) }
+        requires at { LocalIs self.old thread
+            (λ l. IsAtAsk (checked_of accepted.now) (code_of accepted.now) l ask) }
         ensures told { Told accepted.now most thread self.old result self.new }
         ensures fuel { IfNone result (self.new.fuel.left < self.old.fuel.left) }
     {
@@ -136,7 +139,9 @@ impl State {
     ) -> Turn
         requires runs { Runs accepted.now most self.old thread }
         requires fuel { 0 < self.old.fuel.left }
-        requires at { LocalIs self.old thread (λ l. IsAtAsk (checked_of accepted.now) (code_of accepted.now) l (Ask.Spawn function argument)) }
+        requires at { LocalIs self.old thread
+            (λ l. IsAtAsk (checked_of accepted.now) (code_of accepted.now) l
+            (Ask.Spawn function argument)) }
         ensures { Told accepted.now most thread self.old (Some result) self.new }
     {
         // What the image's call tells: the pair is valid.

@@ -80,7 +80,8 @@ impl State {
     /// Whether a live thread is ready.
     pub(crate) fn is_ready(&self, thread: ThreadId) -> bool
         requires { IsUntrapped self.now.exchange (waits_for_in self.now thread) }
-        ensures { result ≡ is_ready_in self.now.exchange.caps self.now.exchange.exchange self.now.waits.clock (waits_for_in self.now thread) }
+        ensures { result ≡ is_ready_in self.now.exchange.caps self.now.exchange.exchange
+            self.now.waits.clock (waits_for_in self.now thread) }
     {
         match self.waits_for(thread) {
             None => false,

@@ -1,17 +1,19 @@
 -- Each command, or that the words don't ask for it.
 use Rattle.std.proofs.Common.{◌≡◌, ◌∙◌, ℕ, suc, ◌+◌, ◌*◌, ◌<◌, ◌≤◌, inl, inr, List, [], ◌∷◌, ◌++◌, Option, refl, sym, subst, arith, codes}
 use Rattle.cap_text.specs.Decimals.{canonical_decimal}
+use Rattle.command_words.specs.declared.options.Audit.{Audit as AuditOptions}
 use Rattle.command_words.specs.declared.options.Placement.{Placement}
 use Rattle.command_words.specs.declared.options.Policy.{Policy}
 use Rattle.command_words.specs.Said.{Said, positionals_of, value_of, IsOneOf}
 use Rattle.command_words.specs.Parse.{all_options}
-use Rattle.command_words.specs.Values.{IsPlacement, IsPolicy}
-use Rattle.command_words.specs.WordList.{Request, Serve, Run, Build, Check, Graph, Demo, Budget, Says, IsWordList, placement_options, policy_options}
+use Rattle.command_words.specs.Values.{IsAudit, IsPlacement, IsPolicy}
+use Rattle.command_words.specs.WordList.{Request, Serve, Run, Build, Check, Graph, Demo, Audit, Budget, Says, IsWordList, audit_policy, placement_options, policy_options}
 use Rattle.command_words.proofs.Chosen.{one_placement, one_policy}
+use Rattle.command_words.proofs.GivenOptions.{within}
 use Rattle.decisions.specs.Decided.{Decided}
 use Rattle.decisions.proofs.Decisions.{Below, decided_by, both_decided, below_decided, le_decided, text_same, list_same}
 use Rattle.words_decided.proofs.Spoken.{Text, Heard, heard_decided, one_following, follows_of}
-use Rattle.words_decided.proofs.Values.{placement_decided, policy_decided}
+use Rattle.words_decided.proofs.Values.{audit_options_decided, placement_decided, policy_decided}
 
 -- ---- the words behind a command's name
 
@@ -19,6 +21,15 @@ one_word : (words : List Text) → Decided ((word : Text) × (words ≡ word ∷
 one_word [] = inr (λ h. let e = h.1 in absurd cc)
 one_word (word ∷ []) = inl (word, refl)
 one_word (word ∷ next ∷ more) = inr (λ h. let e = h.1 in absurd cc)
+
+abbrev Two : List Text → Type 0
+Two words = (first : Text) × ((second : Text) × (words ≡ first ∷ second ∷ []))
+
+two_words : (words : List Text) → Decided (Two words)
+two_words [] = inr (λ h. let e = h.1.1 in absurd cc)
+two_words (a ∷ []) = inr (λ h. let e = h.1.1 in absurd cc)
+two_words (a ∷ b ∷ []) = inl (a, (b, refl))
+two_words (a ∷ b ∷ next ∷ more) = inr (λ h. let e = h.1.1 in absurd cc)
 
 abbrev Three : List Text → Type 0
 Three words = (first : Text) × ((second : Text) × ((third : Text) × (words ≡ first ∷ second ∷ third ∷ [])))
@@ -56,17 +67,12 @@ command_decided words name options within P each = by (heard_decided words name 
   by (inr none) = inr (λ other. none (other.0, other.1.0))
   by (inl h) = whole h (each h.0)
 
-in_first : (a b : List Text) (word : Text) → IsOneOf a word → IsOneOf (a ++ b) word
-in_first [] b word is = absurd is
-in_first (name ∷ a) b word (inl e) = inl e
-in_first (name ∷ a) b word (inr more) = inr (in_first a b word more)
-
-in_second : (a b : List Text) (word : Text) → IsOneOf b word → IsOneOf (a ++ b) word
-in_second [] b word is = is
-in_second (name ∷ a) b word is = inr (in_second a b word is)
-
 no_options : (word : Text) → IsOneOf [] word → IsOneOf all_options word
-no_options word is = absurd is
+no_options = within all_options [] refl
+
+-- the options of `serve`
+abbrev run_and_placement : List Text
+run_and_placement = placement_options ++ policy_options
 
 -- ---- the two sets of options of `serve`
 
@@ -95,24 +101,24 @@ abbrev pub AsksServe : List Text → Type 0
 AsksServe words = (source : Text) × ((placement : Placement) × ((policy : Policy) × IsWordList words (Serve source placement policy)))
 
 pub serve_decided : (words : List Text) → Decided (AsksServe words)
-serve_decided words = decided_by to from (command_decided words (codes "serve") all_options (λ word is. is) P (λ said. both_decided (one_word (positionals_of said)) (sizes_decided said))) where
+serve_decided words = decided_by to from (command_decided words (codes "serve") run_and_placement (within all_options run_and_placement refl) P (λ said. both_decided (one_word (positionals_of said)) (sizes_decided said))) where
   P : List Said → Type 0
   P said = ((word : Text) × (positionals_of said ≡ word ∷ [])) × Sizes (value_of said)
 
-  to : SaysWith words (codes "serve") all_options P → AsksServe words
-  to s = let z = s.1.1.1 in (s.1.1.0.0, (z.0, (z.1.0, (s.0, says_as words (codes "serve") _ _ all_options s.0 s.1.1.0.1 s.1.0, z.1.1.0.0, z.1.1.0.1, z.1.1.1))))
+  to : SaysWith words (codes "serve") run_and_placement P → AsksServe words
+  to s = let z = s.1.1.1 in (s.1.1.0.0, (z.0, (z.1.0, (s.0, says_as words (codes "serve") _ _ run_and_placement s.0 s.1.1.0.1 s.1.0, z.1.1.0.0, z.1.1.0.1, z.1.1.1))))
 
-  from : AsksServe words → SaysWith words (codes "serve") all_options P
+  from : AsksServe words → SaysWith words (codes "serve") run_and_placement P
   from a =
       let is = a.1.1.1 in
-      (is.0, (heard_as words (codes "serve") _ all_options is.0 is.1, ((a.0, is.1.positional), (a.1.0, (a.1.1.0, ((is.2, is.3), is.4))))))
+      (is.0, (heard_as words (codes "serve") _ run_and_placement is.0 is.1, ((a.0, is.1.positional), (a.1.0, (a.1.1.0, ((is.2, is.3), is.4))))))
 
 abbrev pub AsksRun : List Text → Type 0
 AsksRun words = (source : Text) × ((image : Text) × ((certificate : Text) × ((policy : Policy) × IsWordList words (Run source image certificate policy))))
 
 pub run_decided : (words : List Text) → Decided (AsksRun words)
 run_decided words = decided_by to from
-    (command_decided words (codes "run") policy_options (in_second placement_options policy_options) P (λ said. both_decided (three_words (positionals_of said)) (policy_decided (value_of said)))) where
+    (command_decided words (codes "run") policy_options (within all_options policy_options refl) P (λ said. both_decided (three_words (positionals_of said)) (policy_decided (value_of said)))) where
       P : List Said → Type 0
       P said = Three (positionals_of said) × ((policy : Policy) × IsPolicy (value_of said) policy)
 
@@ -129,7 +135,7 @@ AsksBuild words = (source : Text) × ((image : Text) × ((certificate : Text) ×
 
 pub build_decided : (words : List Text) → Decided (AsksBuild words)
 build_decided words = decided_by to from
-    (command_decided words (codes "build") placement_options (in_first placement_options policy_options) P (λ said. both_decided (three_words (positionals_of said)) (placement_decided (value_of said)))) where
+    (command_decided words (codes "build") placement_options (within all_options placement_options refl) P (λ said. both_decided (three_words (positionals_of said)) (placement_decided (value_of said)))) where
       P : List Said → Type 0
       P said = Three (positionals_of said) × ((placement : Placement) × IsPlacement (value_of said) placement)
 
@@ -170,7 +176,7 @@ AsksGraph words = (source : Text) × ((placement : Placement) × IsWordList word
 
 pub graph_decided : (words : List Text) → Decided (AsksGraph words)
 graph_decided words = decided_by to from
-    (command_decided words (codes "graph") placement_options (in_first placement_options policy_options) P (λ said. both_decided (one_word (positionals_of said)) (placement_decided (value_of said)))) where
+    (command_decided words (codes "graph") placement_options (within all_options placement_options refl) P (λ said. both_decided (one_word (positionals_of said)) (placement_decided (value_of said)))) where
       P : List Said → Type 0
       P said = ((word : Text) × (positionals_of said ≡ word ∷ [])) × ((placement : Placement) × IsPlacement (value_of said) placement)
 
@@ -179,6 +185,23 @@ graph_decided words = decided_by to from
 
       from : AsksGraph words → SaysWith words (codes "graph") placement_options P
       from a = let is = a.1.1 in (is.0, (heard_as words (codes "graph") _ placement_options is.0 is.1, ((a.0, is.1.positional), (a.1.0, is.2))))
+
+abbrev pub AsksAudit : List Text → Type 0
+AsksAudit words = (source : Text) × ((log : Text) × ((options : AuditOptions) × IsWordList words (Audit source log options)))
+
+pub audit_decided : (words : List Text) → Decided (AsksAudit words)
+audit_decided words = decided_by to from
+    (command_decided words (codes "audit") audit_policy (within all_options audit_policy refl) P (λ said. both_decided (two_words (positionals_of said)) (audit_options_decided (value_of said)))) where
+      P : List Said → Type 0
+      P said = Two (positionals_of said) × ((options : AuditOptions) × IsAudit (value_of said) options)
+
+      to : SaysWith words (codes "audit") audit_policy P → AsksAudit words
+      to s = let t = s.1.1.0 in (t.0, (t.1.0, (s.1.1.1.0, (s.0, says_as words (codes "audit") _ _ audit_policy s.0 t.1.1 s.1.0, s.1.1.1.1))))
+
+      from : AsksAudit words → SaysWith words (codes "audit") audit_policy P
+      from a =
+          let is = a.1.1.1 in
+          (is.0, (heard_as words (codes "audit") _ audit_policy is.0 is.1, ((a.0, (a.1.0, is.1.positional)), (a.1.1.0, is.2))))
 
 abbrev pub AsksDemo : List Text → Type 0
 AsksDemo words = (number : ℕ) × IsWordList words (Demo number)

@@ -32,7 +32,7 @@ at_one P (name ∷ names) word all (inl e) = subst P (sym e) all.0
 at_one P (name ∷ names) word all (inr more) = at_one P names word all.1 more
 
 none_plain : AllByRecursion (λ (name : Text). IsPlain name → ⊥) all_options
-none_plain = (λ p. p refl, (λ p. p refl, (λ p. p refl, (λ p. p refl, (λ p. p refl, (λ p. p refl, (λ p. p refl, (λ p. p refl, (λ p. p refl, (λ p. p refl, (λ p. p refl, (λ p. p refl, (λ p. p refl, tt)))))))))))))
+none_plain = (λ p. p refl, (λ p. p refl, (λ p. p refl, (λ p. p refl, (λ p. p refl, (λ p. p refl, (λ p. p refl, (λ p. p refl, (λ p. p refl, (λ p. p refl, (λ p. p refl, (λ p. p refl, (λ p. p refl, (λ p. p refl, tt))))))))))))))
 
 pub no_option : (word : Text) → IsOneOf all_options word → IsPlain word → ⊥
 no_option word is plain = at_one (λ (name : Text). IsPlain name → ⊥) all_options word none_plain is plain

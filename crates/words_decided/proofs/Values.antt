@@ -3,12 +3,13 @@ use Rattle.std.proofs.Common.{◌≡◌, ◌∙◌, ℕ, zero, suc, ◌+◌, ◌
 use Rattle.std.proofs.lemmas.List.{length-map}
 use Rattle.cap_text.specs.Decimals.{canonical_decimal}
 use Rattle.cap_text.specs.Pieces.{pieces}
+use Rattle.command_words.specs.declared.options.Audit.{Audit}
 use Rattle.command_words.specs.declared.options.Placement.{Placement}
 use Rattle.command_words.specs.declared.options.Policy.{Policy}
 use Rattle.command_words.specs.declared.options.Rule.{Rule}
 use Rattle.command_words.specs.declared.options.Rule.TheVariants.{Graph, Stride}
 use Rattle.command_words.specs.declared.options.Tickets.{Tickets}
-use Rattle.command_words.specs.Values.{IsChosen, IsNumber, default_max_path, IsPlacement, cap_text, AreCapsAbove, caps_of, IsCapsText, AreCaps, ticket_text, AreTicketsFrom, IsTicketsText, tickets_of, AreTickets, rule_name, IsRule, IsPolicy}
+use Rattle.command_words.specs.Values.{IsChosen, IsNumber, default_max_path, IsPlacement, cap_text, AreCapsAbove, caps_of, IsCapsText, AreCaps, ticket_text, AreTicketsFrom, IsTicketsText, tickets_of, AreTickets, rule_name, IsAudit, IsRule, IsPolicy}
 use Rattle.decisions.specs.Decided.{Decided}
 use Rattle.decisions.proofs.Decisions.{Below, decided_by, both_decided, either_decided, then_decided, below_decided, le_decided, lt_decided, number_same, text_same, option_same}
 
@@ -249,6 +250,81 @@ policy_decided given =
                     (policy.rule, is.rule),
                     (policy.knee, is.knee),
                   ),
+                ),
+              ),
+            ),
+          ),
+        ),
+      ),
+    )
+
+-- ---- the options of an audit
+
+pub audit_options_decided : (given : Texts) → Decided ((options : Audit) × IsAudit given options)
+audit_options_decided given =
+    decided_by to from (both_decided (number_decided (given (codes "--chunks")) 1024 1 65536)
+    (both_decided (number_decided (given (codes "--extra")) 0 0 65536)
+    (both_decided (number_decided (given (codes "--fuel")) 10000000 0 1000000000)
+    (both_decided (number_decided (given (codes "--backlog")) 64 1 4096)
+    (both_decided (caps_decided (given (codes "--caps")))
+    (both_decided (ranged_decided (given (codes "--high")) 900 1 1000 (λ high. (low : ℕ) × IsNumber (given (codes "--low")) 700 0 (high - 1) low) (λ high. number_decided (given (codes "--low")) 700 0 (high - 1)))
+    (both_decided (number_decided (given (codes "--knee")) 0 0 999)
+    (number_decided (given (codes "--steps")) 1000000000 0 1000000000))))))))
+  where
+    Parts : Type 0
+    Parts = ((n : ℕ) × IsNumber (given (codes "--chunks")) 1024 1 65536 n)
+        × (((n : ℕ) × IsNumber (given (codes "--extra")) 0 0 65536 n)
+        × (((n : ℕ) × IsNumber (given (codes "--fuel")) 10000000 0 1000000000 n)
+        × (((n : ℕ) × IsNumber (given (codes "--backlog")) 64 1 4096 n)
+        × (((caps : List ℕ) × AreCaps (given (codes "--caps")) caps)
+        × (((n : ℕ) × (IsNumber (given (codes "--high")) 900 1 1000 n × ((low : ℕ) × IsNumber (given (codes "--low")) 700 0 (n - 1) low)))
+        × (((n : ℕ) × IsNumber (given (codes "--knee")) 0 0 999 n)
+        × ((n : ℕ) × IsNumber (given (codes "--steps")) 1000000000 0 1000000000 n)))))))
+
+    to : Parts → (options : Audit) × IsAudit given options
+    to p =
+        let q = p.1.1.1 in
+        let r = q.1.1 in (
+          record {
+            chunks = p.0.0;
+            extra = p.1.0.0;
+            fuel = p.1.1.0.0;
+            backlog = q.0.0;
+            caps = q.1.0.0;
+            high = r.0.0;
+            low = r.0.1.1.0;
+            knee = r.1.0.0;
+            steps = r.1.1.0;
+          },
+          record {
+            chunks = p.0.1;
+            extra = p.1.0.1;
+            fuel = p.1.1.0.1;
+            backlog = q.0.1;
+            caps = q.1.0.1;
+            high = r.0.1.0;
+            low = r.0.1.1.1;
+            knee = r.1.0.1;
+            steps = r.1.1.1;
+          },
+        )
+
+    from : (options : Audit) × IsAudit given options → Parts
+    from ((options, is)) = (
+      (options.chunks, is.chunks),
+      (
+        (options.extra, is.extra),
+        (
+          (options.fuel, is.fuel),
+          (
+            (options.backlog, is.backlog),
+            (
+              (options.caps, is.caps),
+              (
+                (options.high, (is.high, (options.low, is.low))),
+                (
+                  (options.knee, is.knee),
+                  (options.steps, is.steps),
                 ),
               ),
             ),

@@ -49,5 +49,5 @@ returns g c = λ left reads.
     let stores = subst (λ y. Stored c.in_ok-products.products.image.items y) c.as_slice-2.ensures.value half in
     let Printed : List ℕ → Type 0 = λ text. IsPrinted 0 text (K.taken a.out.now) (K.taken c.print.new.out) (K.faults a.out.now) (K.faults c.print.new.out) c.print.result in
     let told : Printed c.as_slice-3.result.now = c.print.ensures in
-    printed-ends (Builds before.files a.source.now a.image.now a.certificate.now a.options) before after outcome c.print.result is.0 refl refl refl (stored-after outcome.stores before.files (F.files loaded) after.files first.files stores.0)
-    (keeps-itself left) (step.loads ∙ is.1) (stores.1 ∙ first.stores) refl (subst Printed c.as_slice-3.ensures.value told)
+    printed-ends (Builds before.files a.source.now a.image.now a.certificate.now a.options) before after outcome c.print.result is.0 refl refl (keeps-itself left)
+    (stored-after outcome.stores before.files (F.files loaded) after.files first.files stores.0) (step.loads ∙ is.1) (stores.1 ∙ first.stores) refl (subst Printed c.as_slice-3.ensures.value told)

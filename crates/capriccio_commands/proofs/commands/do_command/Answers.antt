@@ -8,7 +8,7 @@ use Rattle.capriccio_commands.specs.Due.{Does, sizes_of}
 use Rattle.capriccio_commands.specs.Graphs.{Graphs}
 use Rattle.capriccio_commands.specs.Runs.{Serves}
 use Rattle.command_outcomes.specs.Steps.{EndsAs}
-use Rattle.capriccio_commands.proofs.Options.{build-sizes, serve-sizes, serve-policy, serve-pool, run-policy}
+use Rattle.capriccio_commands.proofs.Options.{audit-options, build-sizes, serve-sizes, serve-policy, serve-pool, run-policy}
 use Rattle.capriccio_commands.proofs.commands.do_command.Goals as goal
 
 pub build-requires : goal.build-requires
@@ -99,6 +99,19 @@ returns-in-Demo g c =
     let after : Outside = record { files = F.files a.shelf.now; loads = F.load_faults a.shelf.now; stores = F.store_faults a.shelf.now; left = S.left a.trace.now; reads = S.faults a.trace.now; taken = K.taken c.demo.new.out; writes = K.faults c.demo.new.out } in
     let Q : Command → Type 0 = λ x. EndsAs (Does (request_of x) before) before after c.demo.result in
     subst Q (sym c.in-Demo.is) (c.demo.ensures before.files before.loads before.stores before.left before.reads)
+
+pub audit-requires : goal.audit-requires
+audit-requires g c =
+    let asked = rw c.in-Audit.is at c.requires.1 in
+    audit-options c.requires.0 c.in-Audit.source.now c.in-Audit.log.now c.in-Audit.options asked
+
+pub returns-in-Audit : goal.returns-in-Audit
+returns-in-Audit g c =
+    let F = g.F.Shelf in let S = g.S.Source in let K = g.K.Sink in let a = c.args in
+    let before : Outside = record { files = F.files a.shelf.now; loads = F.load_faults a.shelf.now; stores = F.store_faults a.shelf.now; left = S.left a.trace.now; reads = S.faults a.trace.now; taken = K.taken a.out.now; writes = K.faults a.out.now } in
+    let after : Outside = record { files = F.files c.audit.new.shelf; loads = F.load_faults c.audit.new.shelf; stores = F.store_faults c.audit.new.shelf; left = S.left c.audit.new.trace; reads = S.faults c.audit.new.trace; taken = K.taken c.audit.new.out; writes = K.faults c.audit.new.out } in
+    let Q : Command → Type 0 = λ x. EndsAs (Does (request_of x) before) before after c.audit.result in
+    subst Q (sym c.in-Audit.is) (c.audit.ensures)
 
 pub returns-in-Budget : goal.returns-in-Budget
 returns-in-Budget g c =

@@ -1,6 +1,6 @@
 use Rattle.c_tree.specs.RawProgramView.{raw_program_tree}
-use Rattle.hoist_rules.proofs.Temporaries.{items_small}
-use Rattle.hoist_rules.proofs.Whole.{items_hoisted_whole}
+use Rattle.hoist_parts.proofs.Temporaries.{items_small}
+use Rattle.hoist_parts.proofs.Whole.{items_hoisted_whole}
 use Rattle.hoist_rules.proofs.programs.hoist.Goals as goal
 
 pub new-requires : goal.new-requires

@@ -1,7 +1,7 @@
 use Rattle.std.proofs.Common.{◌≡◌, ◌++◌, drop}
 use Rattle.c_tree.specs.RawViews.{raw_item_trees}
-use Rattle.c_parse.specs.ForParts.{AreForPartsWhole}
-use Rattle.hoist_rules.specs.Statements.{items_hoisted}
+use Rattle.whole_calls.specs.WholeForParts.{AreForPartsWhole}
+use Rattle.hoist_parts.specs.Statements.{items_hoisted}
 use Rattle.hoist_rules.proofs.programs.items_of.Given as goal
 
 abbrev pub invariant-loop-item : goal.invariant-loop-item

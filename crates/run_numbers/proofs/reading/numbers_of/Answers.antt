@@ -1,4 +1,4 @@
-use Rattle.std.proofs.Common.{◌≡◌, ◌∙◌, ℕ, Bool, List, sym, refl, subst}
+use Rattle.std.proofs.Common.{◌∙◌, ℕ, List, sym, refl, subst}
 use Rattle.cap_text.specs.TextLines.{lines_of}
 use Rattle.run_history.specs.Known.{Known, happening}
 use Rattle.run_numbers.proofs.Gathered.{numbers_more}

@@ -20,17 +20,17 @@ use Rattle.chunk_pool.specs.Pool.{free_count}
 
 pub returns-in_default-clause-answer : goal.returns-in_default-clause-answer
 returns-in_default-clause-answer g c = λ s at.
-    let sound = subst IsSound c.accepted-accepted.ensures (record { valid = c.image-image.ensures.valid; aligned = c.sizes_law.ensures.aligned; least = c.sizes_law.ensures.least; most = c.sizes_law.ensures.most }) in
+    let sound = subst IsSound c.accepted-accepted.ensures (record { valid = c.is_valid.ensures; aligned = c.sizes_law.ensures.aligned; least = c.sizes_law.ensures.least; most = c.sizes_law.ensures.most }) in
     run_memory c.args.world.now (rule_of c.args.rule) c.args.monitor (g.S.Source.left c.args.trace.now) (g.K.Sink.taken c.args.out.now) (g.S.Source.faults c.args.trace.now) (g.K.Sink.faults c.args.out.now) sound s at
 
 pub returns-in_default-new-clause-answer : goal.returns-in_default-new-clause-answer
 returns-in_default-new-clause-answer g c = λ s at.
-    let sound = subst IsSound c.accepted-accepted.ensures (record { valid = c.image-image.ensures.valid; aligned = c.sizes_law.ensures.aligned; least = c.sizes_law.ensures.least; most = c.sizes_law.ensures.most }) in
+    let sound = subst IsSound c.accepted-accepted.ensures (record { valid = c.is_valid.ensures; aligned = c.sizes_law.ensures.aligned; least = c.sizes_law.ensures.least; most = c.sizes_law.ensures.most }) in
     run_memory c.args.world.now (rule_of c.args.rule) c.args.monitor (g.S.Source.left c.args.trace.now) (g.K.Sink.taken c.args.out.now) (g.S.Source.faults c.args.trace.now) (g.K.Sink.faults c.args.out.now) sound s at
 
 pub loop-halt-init : goal.loop-halt-init
 loop-halt-init g c =
-    let sound = subst IsSound c.accepted-accepted.ensures (record { valid = c.image-image.ensures.valid; aligned = c.sizes_law.ensures.aligned; least = c.sizes_law.ensures.least; most = c.sizes_law.ensures.most }) in
+    let sound = subst IsSound c.accepted-accepted.ensures (record { valid = c.is_valid.ensures; aligned = c.sizes_law.ensures.aligned; least = c.sizes_law.ensures.least; most = c.sizes_law.ensures.most }) in
     let runs = runs_first c.args.world.now (rule_of c.args.rule) c.args.monitor (g.S.Source.left c.args.trace.now) (g.K.Sink.taken c.args.out.now) (g.S.Source.faults c.args.trace.now) (g.K.Sink.faults c.args.out.now) c.in-Ok-new.course c.requires.start sound c.in-Ok-new.ensures in (
       subst (λ (w : WriterState). RunsOn c.args.world.now (rule_of c.args.rule) c.args.monitor (g.S.Source.left c.args.trace.now) (g.K.Sink.taken c.args.out.now) (g.S.Source.faults c.args.trace.now) (g.K.Sink.faults c.args.out.now) c.in-Ok-new.course c.args.world.now (g.S.Source.left c.args.trace.now)
           (output_of w (g.K.Sink.taken c.args.out.now)) (g.S.Source.faults c.args.trace.now) (g.K.Sink.faults c.args.out.now)) (sym c.in-Ok.ensures) runs,

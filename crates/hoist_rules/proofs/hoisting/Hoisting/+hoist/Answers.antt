@@ -4,9 +4,9 @@ use Rattle.c_tree.specs.RawTrees.{RawConditional, RawCall, RawTableCall}
 use Rattle.c_tree.specs.RawViews.{name_tree, raw_expr_tree, raw_expr_trees, raw_stmt_tree, raw_chained}
 use Rattle.c_tree.proofs.Cuts.{drop_at}
 use Rattle.c_tree.proofs.RawExprEquations.{raw_operand_tree, raw_expr_tree-Chain, raw_expr_tree-Conditional, raw_expr_tree-Call, raw_expr_tree-TableCall}
-use Rattle.hoist_rules.specs.Arguments.{calls_among}
-use Rattle.hoist_rules.specs.Chains.{chain_tree, operand_trees}
-use Rattle.hoist_rules.proofs.NoCalls.{no_left, no_before, no_names}
+use Rattle.hoist_parts.specs.Arguments.{calls_among}
+use Rattle.hoist_parts.specs.Chains.{chain_tree, operand_trees}
+use Rattle.hoist_parts.proofs.NoCalls.{no_left, no_before, no_names}
 use Rattle.hoist_rules.proofs.Operands as operand
 use Rattle.hoist_rules.proofs.CallTurns as calling
 use Rattle.hoist_rules.proofs.OperatorTurns as joined

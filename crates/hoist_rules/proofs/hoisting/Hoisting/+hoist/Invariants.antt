@@ -1,8 +1,8 @@
 use Rattle.std.proofs.Common.{◌≡◌, ◌+◌, ◌++◌, map, drop}
 use Rattle.c_tree.specs.RawViews.{raw_expr_tree, raw_expr_trees, raw_stmt_tree}
-use Rattle.hoist_rules.specs.Expressions.{arguments_names, arguments_left, arguments_before}
-use Rattle.hoist_rules.specs.Arguments.{calls_among}
-use Rattle.hoist_rules.specs.Chains.{chain_tree, operand_trees, operands_left, operands_before, operands_after}
+use Rattle.hoist_parts.specs.Expressions.{arguments_names, arguments_left, arguments_before}
+use Rattle.hoist_parts.specs.Arguments.{calls_among}
+use Rattle.hoist_parts.specs.Chains.{chain_tree, operand_trees, operands_left, operands_before, operands_after}
 use Rattle.hoist_rules.proofs.ArgumentTurns.{then_trees}
 use Rattle.hoist_rules.proofs.hoisting.Hoisting.+hoist.Given as goal
 

@@ -1,7 +1,7 @@
 use Rattle.std.proofs.Common.{◌≡◌, ◌∷◌, ◌+◌, map, drop, arith}
 use Rattle.c_tree.specs.RawViews.{raw_expr_tree, raw_stmt_tree, raw_stmt_trees}
 use Rattle.c_tree.proofs.Cuts.{drop_at}
-use Rattle.hoist_rules.proofs.NoCalls.{no_names}
+use Rattle.hoist_parts.proofs.NoCalls.{no_names}
 use Rattle.hoist_rules.proofs.BodyTurns as body
 use Rattle.hoist_rules.proofs.hoisting.Hoisting.+statements.Goals as goal
 

@@ -1,7 +1,7 @@
 use Rattle.std.proofs.Common.{◌≡◌, ◌+◌, ◌++◌, map, drop}
 use Rattle.c_tree.specs.RawViews.{raw_stmt_tree, raw_stmt_trees}
-use Rattle.c_parse.specs.ForParts.{AreForsWhole}
-use Rattle.hoist_rules.specs.Statements.{stmts_names, all_hoisted}
+use Rattle.whole_calls.specs.WholeForParts.{AreForsWhole}
+use Rattle.hoist_parts.specs.Statements.{stmts_names, all_hoisted}
 use Rattle.hoist_rules.proofs.hoisting.Hoisting.+statements.Given as goal
 
 abbrev pub invariant-block-loop-stmt : goal.invariant-block-loop-stmt

@@ -3,9 +3,9 @@ use Rattle.std.specs.Prelude.{IfOk, OnOk}
 use Rattle.c_tree.specs.RawTrees.{RawExprTree}
 use Rattle.c_tree.specs.RawViews.{raw_expr_tree, raw_stmt_tree, raw_chained}
 use Rattle.c_tree.proofs.RawExprEquations.{raw_operand_tree, raw_expr_tree-Chain}
-use Rattle.hoist_rules.specs.Expressions.{names_in, left_of, before}
-use Rattle.hoist_rules.specs.Statements.{value_names, value_left, value_before}
-use Rattle.hoist_rules.proofs.HeldChains.{some_mapped, some_chain}
+use Rattle.hoist_parts.specs.Expressions.{names_in, left_of, before}
+use Rattle.hoist_parts.specs.Statements.{value_names, value_left, value_before}
+use Rattle.hoist_parts.proofs.HeldChains.{some_mapped, some_chain}
 use Rattle.hoist_rules.proofs.ValueChains.{joined_value_left, joined_value_before, joined_value_names}
 use Rattle.hoist_rules.proofs.hoisting.Hoisting.+value.Goals as goal
 

@@ -1,5 +1,5 @@
 use Rattle.c_tree.specs.RawViews.{raw_expr_tree}
-use Rattle.hoist_rules.proofs.Kept.{held_not}
+use Rattle.hoist_parts.proofs.Kept.{held_not}
 use Rattle.hoist_rules.proofs.hoisting.Hoisting.kept_condition.Goals as goal
 
 pub kept-requires : goal.kept-requires

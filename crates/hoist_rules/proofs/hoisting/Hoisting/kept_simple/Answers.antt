@@ -1,6 +1,6 @@
 use Rattle.std.proofs.Common.{◌∙◌, ◌++◌, map, ap, append-nil, arith}
 use Rattle.c_tree.specs.RawViews.{raw_simple_tree, raw_stmt_tree}
-use Rattle.hoist_rules.proofs.Kept.{simple_kept, no_simple_before, no_simple_names}
+use Rattle.hoist_parts.proofs.Kept.{simple_kept, no_simple_before, no_simple_names}
 use Rattle.hoist_rules.proofs.hoisting.Hoisting.kept_simple.Goals as goal
 
 pub returns-clause-kept : goal.returns-clause-kept

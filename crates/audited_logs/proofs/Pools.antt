@@ -1,0 +1,153 @@
+-- The count of chunks stays through a run, and one is held at its start.
+use Rattle.std.proofs.Common.{◌≡◌, ℕ, suc, ◌+◌, ◌-◌, ◌≤◌, nat_eq, nat_le, cond, List, [], ◌∷◌, length, true, false, Option, Some, None, refl, ap, ◌∙◌, subst, arith, length-append, ⊎_elim}
+use Rattle.std.proofs.lemmas.Bool.{cases_eq, cond_both, eq-eqb, ne_eqb}
+use Rattle.std.proofs.lemmas.List.FromFn.{length-range_with_len}
+use Rattle.std.specs.List.{range_with_len}
+use Rattle.cap_word.specs.Calls.{Call, Blocking, Immediate}
+use Rattle.cap_word.specs.Runs.{Goes, Asks, Stops}
+use Rattle.cap_word.specs.declared.stops.Stop.{Stop}
+use Rattle.cap_word.specs.declared.traps.TrapKind.{TrapKind}
+use Rattle.c_mean.specs.ModelledCalls.{blocking_row, immediate_row}
+use Rattle.chunk_pool.specs.Pool.{Pool, Taken, all_free, free_count, taken_for, start_pool}
+use Rattle.chunk_pool.proofs.FreeLaws.{copies-cons}
+use Rattle.chunk_pool.proofs.NeedLaws.{taken_for-count, taken_for-leaves}
+use Rattle.chunk_pool.proofs.ShapeLaws.{count-same}
+use Rattle.machine_world.specs.Areas.{Areas}
+use Rattle.machine_world.specs.Held.{copies, KeepsShape}
+use Rattle.machine_world.specs.Local as local
+use Rattle.machine_world.specs.Local.{LocalMove, Ended, Trapped, NoRoom, Wrong, local_step}
+use Rattle.machine_world.specs.Runs.{empty_world, started_on, start_world}
+use Rattle.machine_world.specs.Threads as machine
+use Rattle.machine_world.specs.Threads.{Thread, World, Setting, Move, thread_of, with_thread, most_threads, package_call, printed, spawned, unless_trap, asked, stopped, moved, step_of, step_on, step}
+use Rattle.machine_world.proofs.HeldLaws.{KeepsShape-step}
+
+-- how many chunks a world has
+abbrev pub chunk_count : World → ℕ
+chunk_count w = w.areas.pool.count
+
+-- ---- steps
+
+abbrev pub KeepsCount : World → Move → Type 0
+KeepsCount w (machine.Goes after) = chunk_count after ≡ chunk_count w
+KeepsCount w (machine.Puts value after) = chunk_count after ≡ chunk_count w
+KeepsCount w (machine.Spawns number after) = chunk_count after ≡ chunk_count w
+KeepsCount w (machine.Blocks after) = chunk_count after ≡ chunk_count w
+KeepsCount w (machine.Ends after) = chunk_count after ≡ chunk_count w
+KeepsCount w (machine.Stops stop) = Unit {0}
+KeepsCount w machine.Wrong = Unit {0}
+
+count_trap : (w : World) (trap : Option TrapKind) (move : Move) → KeepsCount w move → KeepsCount w (unless_trap trap move)
+count_trap w (Some kind) move kept = tt
+count_trap w None move kept = kept
+
+count_printed : (w : World) (value : Option ℕ) (after : World) → chunk_count after ≡ chunk_count w → KeepsCount w (printed value after)
+count_printed w None after kept = kept
+count_printed w (Some value) after kept = kept
+
+module _ (s : Setting) (w : World) (thread : Thread) where
+  count_call : (call : Call) → KeepsCount w (package_call s w thread call)
+  count_call (Blocking block) = count_trap w (blocking_row s.caps w.exchange block).trap _ refl
+  count_call (Immediate ask) =
+      let row = immediate_row s.caps w.exchange thread.number w.next ask in
+      count_trap w row.trap _ (count_printed w row.prints _ refl)
+
+  count_spawned : (entry argument need : ℕ) (found : Option Taken) → taken_for w.areas.pool need ≡ found → KeepsCount w (spawned w thread entry argument found)
+  count_spawned entry argument need None e = tt
+  count_spawned entry argument need (Some taken) e = taken_for-count w.areas.pool need taken e
+
+  count_moved : (move : LocalMove) → KeepsShape (record { areas = w.areas; core = thread.core }) move → KeepsCount w (moved s w thread move)
+  count_moved (Goes after) keeps = count-same w.areas.pool after.areas.pool keeps
+  count_moved (Asks (local.Calls call) still) keeps = count_call call
+  count_moved (Asks (local.Starts entry argument need) still) keeps =
+      cond_both (nat_le most_threads (length w.threads)) (machine.Stops Stop.Threads) (spawned w thread entry argument (taken_for w.areas.pool need)) (KeepsCount w)
+      (λ _. tt)
+      (λ _. count_spawned entry argument need (taken_for w.areas.pool need) refl)
+  count_moved (Stops (Ended areas)) keeps = count-same w.areas.pool areas.pool keeps
+  count_moved (Stops (Trapped kind)) keeps = tt
+  count_moved (Stops NoRoom) keeps = tt
+  count_moved (Stops Wrong) keeps = tt
+
+count_step_of : (s : Setting) (w : World) (found : Option Thread) → KeepsCount w (step_of s w found)
+count_step_of s w None = tt
+count_step_of s w (Some thread) =
+    cond_both (nat_eq w.cost s.fuel) (machine.Stops Stop.Fuel) (moved s w thread (local_step s.code (record { areas = w.areas; core = thread.core }))) (KeepsCount w)
+    (λ _. tt)
+    (λ _. count_moved s w thread (local_step s.code (record { areas = w.areas; core = thread.core })) (KeepsShape-step s.code (record { areas = w.areas; core = thread.core })))
+
+count_step_on : (s : Setting) (w : World) (running : Option ℕ) → KeepsCount w (step_on s w running)
+count_step_on s w None = tt
+count_step_on s w (Some number) = count_step_of s w (thread_of w number)
+
+pub count_step : (s : Setting) (w : World) → KeepsCount w (step s w)
+unfolding step
+count_step s w = count_step_on s w w.running
+
+-- ---- the start
+
+-- a list without one of its elements
+record Without (x : ℕ) (ys : List ℕ) : Type 0 where
+  rest : List ℕ
+  copies_are : (id : ℕ) → copies id ys ≡ cond (nat_eq x id) 1 0 + copies id rest
+  long : length ys ≡ suc (length rest)
+
+without_later : (x y : ℕ) (ys : List ℕ) → Without x ys → Without x (y ∷ ys)
+without_later x y ys is = record {
+  rest = y ∷ is.rest;
+  copies_are = λ id. (let whole = copies-cons y ys id (nat_eq y id) refl in let part = copies-cons y is.rest id (nat_eq y id) refl in let old = is.copies_are id in omega (arith, whole, part, old));
+  long = ap suc is.long;
+}
+
+without : (x : ℕ) (ys : List ℕ) → 1 ≤ copies x ys → Without x ys
+without x [] some = absurd (omega (arith, some))
+without x (y ∷ ys) some = ⊎_elim
+    (λ (same : y ≡ x). record { rest = ys; copies_are = λ id. ap (λ (n : ℕ). copies id (n ∷ ys)) same ∙ copies-cons x ys id (nat_eq x id) refl; long = refl })
+    (λ (apart : y ≡ x → ⊥). without_later x y ys (without x ys (let whole = copies-cons y ys x false (ne_eqb y x apart) in omega (arith, whole, some))))
+    (cases_eq y x)
+
+-- lists with as many copies of each number are as long
+as_long : (xs ys : List ℕ) → ((id : ℕ) → copies id xs ≡ copies id ys) → length xs ≡ length ys
+as_long [] [] same = refl
+as_long [] (y ∷ ys) same =
+    let none = same y in
+    let one = copies-cons y ys y true (eq-eqb y y refl) in
+    absurd (omega (arith, none, one))
+as_long (x ∷ xs) ys same =
+    let one = copies-cons x xs x true (eq-eqb x x refl) in
+    let there = same x in
+    let w = without x ys (omega (arith, one, there)) in
+    let rest = as_long xs w.rest (λ id. (let mine = copies-cons x xs id (nat_eq x id) refl in let theirs = w.copies_are id in let all = same id in omega (arith, mine, theirs, all))) in
+    let long = w.long in
+    omega (arith, rest, long)
+
+-- a chunk that is taken is one free chunk less
+free_taken : (p : Pool) (need : ℕ) (taken : Taken) → taken_for p need ≡ Some taken → free_count p ≡ suc (free_count taken.pool)
+free_taken p need taken e = as_long (all_free p) (taken.chunk ∷ all_free taken.pool) (λ id. taken_for-leaves p need taken e id)
+
+free_start : (chunks words extra extra_words : ℕ) → free_count (start_pool chunks words extra extra_words) ≡ chunks + extra
+free_start chunks words extra extra_words =
+    let long = length-append (range_with_len 0 chunks) (range_with_len chunks extra) in
+    let first = length-range_with_len 0 chunks in
+    let more = length-range_with_len chunks extra in
+    omega (arith, long, first, more)
+
+-- the first world has the chunks of its areas, of which one is held, at clock 0 and cost 0
+pub record Starts (chunks : ℕ) (w : World) : Type 0 where
+  pub count : chunk_count w ≡ chunks
+  pub held : w.areas.pool.count - free_count w.areas.pool ≡ 1
+  pub clock : w.clock ≡ 0
+  pub cost : w.cost ≡ 0
+  pub threads : length w.threads ≡ 1
+
+starts_on : (areas : Areas) (chunks entry need : ℕ) (w : World) (found : Option Taken) → areas.pool.count ≡ chunks → free_count areas.pool ≡ chunks → taken_for areas.pool need ≡ found → started_on (empty_world areas) entry found ≡ Some w → Starts chunks w
+starts_on areas chunks entry need w None count free f e = absurd (let no : ◌≡◌ {A = Option World} None (Some w) = e in cc)
+starts_on areas chunks entry need w (Some taken) count free f e =
+    let same : with_thread (empty_world areas) taken entry 0 ≡ w = cc in
+    let is = taken_for-count areas.pool need taken f in
+    let less = free_taken areas.pool need taken f in
+    subst (Starts chunks) same (record { count = is ∙ count; held = omega (arith, is, count, less, free); clock = refl; cost = refl; threads = refl })
+
+pub starts : (chunks words extra extra_words entry need : ℕ) (globals tables : List ℕ) (w : World) → start_world (record { pool = start_pool chunks words extra extra_words; globals = globals; tables = tables }) entry need ≡ Some w → Starts (chunks + extra) w
+unfolding start_world
+starts chunks words extra extra_words entry need globals tables w e =
+    let areas : Areas = record { pool = start_pool chunks words extra extra_words; globals = globals; tables = tables } in
+    starts_on areas (chunks + extra) entry need w (taken_for areas.pool need) refl (free_start chunks words extra extra_words) refl e

@@ -1,0 +1,95 @@
+-- An audit doesn't say of a lawful log that it is unlawful.
+use Rattle.std.proofs.Common.{◌≡◌, ◌⊎◌, ℕ, ◌≤◌, List, Option, Some, Result, Ok, Err, refl, sym, ap, subst, ◌∙◌, arith, inl, inr, ⊎_elim}
+use Rattle.std.specs.Prelude.{slice_index}
+use Rattle.std.specs.Io.KnownBytes.{Appends}
+use Rattle.audited_logs.specs.Audited.{AreCapsSmall, IsLawfulOrTooLong}
+use Rattle.audited_logs.proofs.Logs.{log_judged}
+use Rattle.c_tree.specs.Trees.{ProgramTree}
+use Rattle.cap_io.specs.Files.{Files}
+use Rattle.choice_rules.specs.Policy.{Policy}
+use Rattle.command_words.specs.WordList.{Audit}
+use Rattle.command_words.specs.declared.options.Audit.{Audit as AuditOptions}
+use Rattle.lawful_log.specs.Lawful.{IsLawfulLog}
+use Rattle.lawful_log.specs.Setup.{Setup}
+use Rattle.machine_world.specs.Threads.{World}
+use Rattle.machine_world.specs.WellFormed.{most_fuel}
+use Rattle.schedule_log.specs.EntryText.{log_text}
+use Rattle.schedule_log.specs.declared.entries.Entry.{Entry}
+use Rattle.schedule_log.specs.declared.entries.StopLine.{StopLine}
+use Rattle.thread_core.specs.Worlds.{Held}
+use Rattle.command_outcomes.specs.declared.faults.Fault.{Fault}
+use Rattle.command_outcomes.specs.declared.faults.Fault.TheVariants.{Read, Write, Memory}
+use Rattle.command_outcomes.specs.Done.{Outside, IsDone, IsThisCase, IsTold, NoFault, line_of, status_of}
+use Rattle.command_outcomes.specs.FaultLines.{fault_status}
+use Rattle.command_outcomes.specs.Outcome.{Outcome}
+use Rattle.capriccio_commands.specs.Audits.{AreAuditOptions, Audits, IsJudgement, judged_outcome, reading_of}
+use Rattle.capriccio_commands.specs.Due.{IsDue}
+use Rattle.capriccio_commands.specs.declared.audit_command.Judgement.{Judgement}
+use Rattle.capriccio_commands.specs.declared.audit_command.Judgement.TheVariants.{Lawful, Steps}
+use Rattle.capriccio_commands.proofs.Options.{audit-options}
+use Rattle.capriccio_call.specs.Audited.{AsksForAudit, IsAudited, IsRunUnder, SaysOf}
+use Rattle.capriccio_call.specs.Headline.{IsAnswer}
+use Rattle.capriccio_call.proofs.GoodRun.{status-told}
+use Rattle.capriccio_call.proofs.OneRun.{pooled-areas}
+
+-- ---- what is said of the log
+
+caps-small : (options : AuditOptions) (caps : List ℕ) → AreAuditOptions options → caps ≡ options.caps → AreCapsSmall caps
+caps-small options caps ranges same = λ r some lt.
+    let small = subst (λ (its : List ℕ). slice_index its r ≤ 1000000) (sym same) (ranges.run.caps r some lt) in omega (arith, small)
+
+-- by the law on lawful logs that are read
+judged : (options : AuditOptions) (g : Setup) (trace : List ℕ) (entries : List Entry) (stop : StopLine) (end : World) → AreAuditOptions options → IsRunUnder options g → IsLawfulLog g trace entries stop end →
+    IsLawfulOrTooLong (reading_of g.program options) trace (log_text entries)
+judged options g trace entries stop end ranges run log =
+    let ok = run.accepted in
+    let fuel : g.policy.fuel ≤ most_fuel = subst (λ n. n ≤ 1000000000) (sym (ap (λ (p : Policy). p.fuel) run.policy)) ranges.run.fuel in
+    let caps = caps-small options g.policy.caps ranges (ap (λ (p : Policy). p.caps) run.policy) in
+    subst (λ (p : Policy). IsLawfulOrTooLong (record { program = g.program; policy = p; most_steps = options.steps }) trace (log_text entries)) run.policy
+    (log_judged g ok.scoped ok.valid (pooled-areas g ok run.pool) fuel caps options.steps trace entries stop end log)
+
+-- ---- what is due, and was done
+
+judged-due : (words : List (List ℕ)) (before : Outside) (options : AuditOptions) (program : ProgramTree) (trace log : List ℕ) (is : Judgement) → AsksForAudit words before options program trace log →
+    IsJudgement (reading_of program options) (Some trace) log is → IsDue words before (judged_outcome is)
+judged-due words before options program trace log is asks says =
+    let source = asks.source_there in
+    let text = asks.log_there in
+    let Does : Option Files → Option (List ℕ) → Type 0 = λ files left. Audits files left asks.source_name asks.log_name options (judged_outcome is) in
+    let told : Does (Some asks.files) (Some trace) = (Some asks.source, source.file, inl (source.fits, (Some log, text.file, inl (text.fits, inl (program, asks.reads, (is, says, refl)))))) in
+    let left : Does (Some asks.files) before.left = subst (λ (its : Option (List ℕ)). Does (Some asks.files) its) (sym asks.trace_told) told in
+    let does : Does before.files before.left = subst (λ (its : Option Files). Does its before.left) (sym asks.files_told) left in
+    inl (Audit asks.source_name asks.log_name options, asks.asked, does)
+
+said : (due : Outcome → Type 0) (is : Judgement) (before after : Outside) (given : Result Outcome Fault) (err err' : Option (List ℕ)) (faults faults' status : ℕ) → IsThisCase (judged_outcome is) given → IsDone due before after given →
+    IsTold (status_of given) (line_of given) err err' faults faults' status → SaysOf is before after status ⊎ (status ≡ fault_status Memory)
+said due is before after (Ok o) err err' faults faults' status same done told =
+    let whole = done.1 in
+    inl (
+      status-told o.status o.line err err' faults faults' status (ap (λ (x : Outcome). x.line) same) told ∙ ap (λ (x : Outcome). x.status) same,
+      subst (λ (x : Outcome). Appends before.taken after.taken x.out) same whole.out,
+    )
+said due is before after (Err Memory) err err' faults faults' status same done told = inr (⊎_elim (λ x. x.0) (λ x. ⊎_elim (λ y. y.0) (λ y. y.0) x.2) told)
+said due is before after (Err Read) err err' faults faults' status same done told = absurd same
+said due is before after (Err Write) err err' faults faults' status same done told = absurd same
+
+-- an audit of which that is due says that
+says : (words : List (List ℕ)) (before after : Outside) (err err' : Option (List ℕ)) (faults faults' : ℕ) (last : Option Held) (status : ℕ) (options : AuditOptions) (program : ProgramTree) (trace log : List ℕ) (is : Judgement) →
+    IsAnswer words before after err err' faults faults' last status → AsksForAudit words before options program trace log → NoFault before after → IsJudgement (reading_of program options) (Some trace) log is →
+    SaysOf is before after status ⊎ (status ≡ fault_status Memory)
+says words before after err err' faults faults' last status options program trace log is answer asks none judgement =
+    let due = judged-due words before options program trace log is asks judgement in
+    let same = answer.2 none asks.files (judged_outcome is) asks.files_told (λ _. (trace, asks.trace_told)) due in
+    said (IsDue words before) is before after answer.0 err err' faults faults' status same answer.1 answer.3
+
+-- ---- the clause
+
+pub audited : (words : List (List ℕ)) (before after : Outside) (err err' : Option (List ℕ)) (faults faults' : ℕ) (last : Option Held) (status : ℕ) → IsAnswer words before after err err' faults faults' last status → IsAudited words before after status
+audited words before after err err' faults faults' last status answer options g trace entries stop end asks run log none =
+    let ranges = audit-options words asks.source_name asks.log_name options asks.asked in
+    let on : (is : Judgement) → IsJudgement (reading_of g.program options) (Some trace) (log_text entries) is → SaysOf is before after status ⊎ (status ≡ fault_status Memory) =
+    λ is judgement. says words before after err err' faults faults' last status options g.program trace (log_text entries) is answer asks none judgement in
+    ⊎_elim
+    (λ lawful. ⊎_elim (λ x. inl x) (λ x. inr (inr x)) (on Lawful lawful))
+    (λ long. ⊎_elim (λ x. inr (inl (long.0, x))) (λ x. inr (inr x)) (on (Steps long.0) long.1))
+    (judged options g trace entries stop end ranges run log)

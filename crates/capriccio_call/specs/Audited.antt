@@ -1,0 +1,64 @@
+-- What the audit of a lawful log answers: where a log is the lawful log of a run that the checker accepts, under the policy of the audit's
+-- words and on its trace, it isn't said to be unlawful.
+use Rattle.std.specs.Prelude.{ℕ, ◌≡◌, ◌⊎◌, List, Some}
+use Rattle.std.specs.Io.KnownBytes.{Appends}
+use Rattle.audited_logs.specs.Audited.{read_policy}
+use Rattle.c_tree.specs.Trees.{ProgramTree}
+use Rattle.cap_io.specs.Files.{Files}
+use Rattle.chunk_pool.specs.Pool.{IsPool}
+use Rattle.command_words.specs.WordList.{IsWordList, Audit}
+use Rattle.command_words.specs.declared.options.Audit.{Audit as AuditOptions}
+use Rattle.lawful_log.specs.Lawful.{IsLawfulLog}
+use Rattle.lawful_log.specs.Setup.{Setup, start_areas}
+use Rattle.machine_world.specs.Threads.{World}
+use Rattle.schedule_log.specs.EntryText.{log_text}
+use Rattle.schedule_log.specs.declared.entries.Entry.{Entry}
+use Rattle.schedule_log.specs.declared.entries.StopLine.{StopLine}
+use Rattle.command_outcomes.specs.declared.documents.Document.TheVariants as document
+use Rattle.command_outcomes.specs.declared.faults.Fault.TheVariants.{Memory}
+use Rattle.command_outcomes.specs.Done.{Outside, NoFault}
+use Rattle.command_outcomes.specs.FaultLines.{fault_status}
+use Rattle.command_outcomes.specs.Loads.{IsSourceText}
+use Rattle.command_outcomes.specs.Steps.{IsLoaded}
+use Rattle.capriccio_commands.specs.Audits.{judgement_line, judgement_status, reading_policy}
+use Rattle.capriccio_commands.specs.Runs.{IsAccepted}
+use Rattle.capriccio_commands.specs.declared.audit_command.Judgement.{Judgement}
+use Rattle.capriccio_commands.specs.declared.audit_command.Judgement.TheVariants.{Lawful, Steps}
+
+-- The words ask for the audit of this log of this program, on this trace: the shelf tells its files, and the trace its bytes; the file of the
+-- source is read as the program, and that of the log holds just these bytes, which are no more than a log may have (67,108,864).
+pub record AsksForAudit (words : List (List ℕ)) (before : Outside) (options : AuditOptions) (program : ProgramTree) (trace log : List ℕ) : Type 0 where
+  pub source_name : List ℕ
+  pub log_name : List ℕ
+  pub asked : IsWordList words (Audit source_name log_name options)
+  pub files : Files
+  pub files_told : before.files ≡ Some files
+  pub trace_told : before.left ≡ Some trace
+  pub source : List ℕ
+  pub source_there : IsLoaded document.Source (Some files) source_name source
+  pub reads : IsSourceText source program
+  pub log_there : IsLoaded document.Log (Some files) log_name log
+
+-- A run is made under the policy of an audit: the checker accepts its pair, its chunks make a pool, and of its policy the audit's words say
+-- all but the sizes of the chunks and how many there are of each size: only how many there are of both together. The rule is the one by the graph.
+pub record IsRunUnder (options : AuditOptions) (g : Setup) : Type 0 where
+  pub accepted : IsAccepted g
+  pub pool : IsPool (start_areas g).pool
+  pub policy : read_policy g.policy ≡ reading_policy options
+
+-- the output took the line of this judgement, and the status is its
+abbrev pub SaysOf : Judgement → (before after : Outside) → (status : ℕ) → Type 0
+SaysOf is before after status = (status ≡ judgement_status is) × Appends before.taken after.taken (judgement_line is)
+
+-- `lawful` with status 0, or `steps LINE` with 16, or there was no memory
+abbrev pub SaysLawfulOrSteps : (before after : Outside) → (status : ℕ) → Type 0
+SaysLawfulOrSteps before after status =
+    SaysOf Lawful before after status
+    ⊎ (((line : ℕ) × SaysOf (Steps line) before after status) ⊎ (status ≡ fault_status Memory))
+
+-- Of the text of each lawful log of each such run of the program, on the trace, that is what an audit says where no count rose.
+abbrev pub IsAudited : (words : List (List ℕ)) → (before after : Outside) → (status : ℕ) → Type 0
+IsAudited words before after status =
+    (options : AuditOptions) (g : Setup) (trace : List ℕ) (entries : List Entry) (stop : StopLine) (end : World) →
+    AsksForAudit words before options g.program trace (log_text entries) → IsRunUnder options g → IsLawfulLog g trace entries stop end →
+    NoFault before after → SaysLawfulOrSteps before after status

@@ -1,0 +1,200 @@
+// The command `audit`.
+use crate::calls::{Fails, Given, NO_FAULT, NONE, Row, Wanted, hold, is_so};
+use crate::checks::PUT_SEVEN;
+use crate::example_rows::{
+    BOUNDED, LIMITER, LOG_OF_BOUNDED, LOG_OF_LIMITER, LOG_OF_PIECES, LOG_OF_POOL, LOG_OF_RECURSION,
+    LOG_OF_STORE, LOG_OF_TIMERS, PIECES, POOL, RECURSION, STORE, TIMERS, TRACE_OF_BOUNDED,
+    TRACE_OF_LIMITER, TRACE_OF_PIECES, TRACE_OF_POOL, TRACE_OF_RECURSION, TRACE_OF_STORE,
+    TRACE_OF_TIMERS,
+};
+use crate::serving::{ENDLESS, LOG_OF_SERVER, LOG_OF_SEVEN, SERVER, SERVER_TRACE};
+use std::alloc::{AllocError, Global};
+use std::process::Abort;
+use std::test::Fail;
+
+const AUDIT: &[&str] = &["audit", "P", "L"];
+
+const AUDIT_OF_SERVER: &[&str] = &["audit", "P", "L", "--caps", "1=1"];
+
+/// The words, the source and the log that they name, the trace, the status, and what the output takes.
+type AuditRow<'a> = (&'a [&'a str], &'a [u8], &'a [u8], &'a [u8], u8, &'a [u8]);
+
+const AUDITS: [AuditRow<'static>; 9] = [
+    (AUDIT, PUT_SEVEN, LOG_OF_SEVEN, NONE, 0, b"lawful\n"),
+    (
+        AUDIT_OF_SERVER,
+        SERVER,
+        LOG_OF_SERVER,
+        SERVER_TRACE,
+        0,
+        b"lawful\n",
+    ),
+    // Another number is put than the source's.
+    (
+        AUDIT_OF_SERVER,
+        SERVER,
+        b"run 0 0 0\nend 0 31 1022\nrun 31 1 0\nblock 1 2 0 16 1022\nrun 47 2 0\nblock 2 2 0 16 1022\nevent 100 arrive 0\nrun 100 1 2\nblock 1 3 1 11 1022\nrun 111 1 3\nblock 1 4 2 5 1022\nevent 150 data 0 7\nrun 150 1 4\nout 1 106\n",
+        SERVER_TRACE,
+        15,
+        b"unlawful 14\n",
+    ),
+    // A thread is chosen that waits where a node stands that was taken from later.
+    (
+        AUDIT_OF_SERVER,
+        SERVER,
+        b"run 0 0 0\nend 0 31 1022\nrun 31 1 0\nblock 1 2 0 16 1022\nrun 47 2 0\nblock 2 2 0 16 1022\nevent 100 arrive 0\nrun 100 1 2\nblock 1 3 1 11 1022\nrun 111 1 3\nblock 1 4 2 5 1022\nevent 150 data 0 7\nrun 150 1 4\nout 1 107\nblock 1 2 0 30 1022\nevent 200 arrive 1\nrun 200 2 2\nblock 2 3 1 11 1022\nevent 211 arrive 2\nrun 211 1 2\n",
+        SERVER_TRACE,
+        15,
+        b"unlawful 20\n",
+    ),
+    // Another cost may be, but the clock goes by it.
+    (
+        AUDIT_OF_SERVER,
+        SERVER,
+        b"run 0 0 0\nend 0 31 1022\nrun 31 1 0\nblock 1 2 0 16 1022\nrun 47 2 0\nblock 2 2 0 16 1022\nevent 100 arrive 0\nrun 100 1 2\nblock 1 3 1 12 1022\nrun 111 1 3\n",
+        SERVER_TRACE,
+        15,
+        b"unlawful 10\n",
+    ),
+    (
+        &["audit", "P", "L", "--steps", "0"],
+        PUT_SEVEN,
+        LOG_OF_SEVEN,
+        NONE,
+        16,
+        b"steps 2\n",
+    ),
+    // A run that stops for want of chunks, which the source alone doesn't do.
+    (
+        &["audit", "P", "L", "--chunks", "2"],
+        ENDLESS,
+        b"run 0 0 0\nout 0 0\nout 0 1\nstop nochunk 0 64 0\n",
+        NONE,
+        0,
+        b"lawful\n",
+    ),
+    (AUDIT, PUT_SEVEN, NONE, NONE, 15, b"unlawful 1\n"),
+    // The last line has no line feed.
+    (
+        AUDIT,
+        PUT_SEVEN,
+        b"run 0 0 0\nout 0 7",
+        NONE,
+        15,
+        b"unlawful 2\n",
+    ),
+];
+
+/// The logs of servers of examples/.
+const EXAMPLES: [AuditRow<'static>; 5] = [
+    (AUDIT, POOL, LOG_OF_POOL, TRACE_OF_POOL, 0, b"lawful\n"),
+    (
+        AUDIT,
+        PIECES,
+        LOG_OF_PIECES,
+        TRACE_OF_PIECES,
+        0,
+        b"lawful\n",
+    ),
+    (
+        &["audit", "P", "L", "--caps", "1=10"],
+        BOUNDED,
+        LOG_OF_BOUNDED,
+        TRACE_OF_BOUNDED,
+        0,
+        b"lawful\n",
+    ),
+    (
+        &["audit", "P", "L", "--chunks", "256"],
+        RECURSION,
+        LOG_OF_RECURSION,
+        TRACE_OF_RECURSION,
+        0,
+        b"lawful\n",
+    ),
+    (
+        AUDIT,
+        TIMERS,
+        LOG_OF_TIMERS,
+        TRACE_OF_TIMERS,
+        0,
+        b"lawful\n",
+    ),
+];
+
+const EXAMPLES_OF_SERVERS: [AuditRow<'static>; 2] = [
+    (AUDIT, STORE, LOG_OF_STORE, TRACE_OF_STORE, 0, b"lawful\n"),
+    (
+        &["audit", "P", "L", "--caps", "1=2"],
+        LIMITER,
+        LOG_OF_LIMITER,
+        TRACE_OF_LIMITER,
+        0,
+        b"lawful\n",
+    ),
+];
+
+const REFUSED: [Row<'static>; 2] = [
+    (AUDIT, PUT_SEVEN, NONE, 9, NONE, b"absent: log\n"),
+    // Both files are loaded before one of them is read.
+    (AUDIT, NONE, NONE, 9, NONE, b"absent: log\n"),
+];
+
+/// Whether the command says this of a log of a source, where these calls fail and standard error takes this.
+fn is_audited(alloc: Global, row: &AuditRow, fails: Fails, err: &[u8]) -> Result<bool, AllocError> {
+    let (words, source, log, trace, status, out) = *row;
+    let given = Given {
+        words,
+        files: &[("P", source), ("L", log)],
+        trace,
+        fails,
+        stored: 0,
+        taken: 10_000,
+    };
+    let wanted = Wanted {
+        status,
+        out,
+        most: None,
+        err,
+        files: &[],
+    };
+    is_so(alloc, &given, &wanted)
+}
+
+/// Holds each row.
+fn hold_audits(rt: &impl Abort, alloc: Global, rows: &[AuditRow]) -> Result<(), Fail> {
+    for row in rows {
+        let out = row.5;
+        assert!(rt; is_audited(alloc, row, NO_FAULT, NONE)?, "{out:?}");
+    }
+    Ok(())
+}
+
+#[test]
+fn audits(rt: HostRuntime) -> Result<(), Fail> {
+    hold_audits(&rt, rt.alloc(), &AUDITS)
+}
+
+#[test]
+fn logs_of_examples_are_lawful(rt: HostRuntime) -> Result<(), Fail> {
+    hold_audits(&rt, rt.alloc(), &EXAMPLES)
+}
+
+#[test]
+fn logs_of_servers_are_lawful(rt: HostRuntime) -> Result<(), Fail> {
+    hold_audits(&rt, rt.alloc(), &EXAMPLES_OF_SERVERS)
+}
+
+#[test]
+fn logs_that_are_not_loaded(rt: HostRuntime) -> Result<(), Fail> {
+    hold(&rt, rt.alloc(), &REFUSED)
+}
+
+/// The trace fails at its first read.
+#[test]
+fn a_trace_that_fails(rt: HostRuntime) -> Result<(), Fail> {
+    let row: AuditRow = (AUDIT, PUT_SEVEN, LOG_OF_SEVEN, NONE, 6, NONE);
+    let is_told = is_audited(rt.alloc(), &row, [0, 1, 0, 0], b"fault: read\n")?;
+    assert!(rt; is_told);
+    Ok(())
+}

@@ -1,0 +1,105 @@
+// Operators one after another, of which some have gone before the statement.
+ghost use Rattle.std.specs.Prelude.{◌≡◌, IfOk};
+ghost use Rattle.c_tree.specs.RawTrees.{RawUnary};
+ghost use Rattle.c_tree.specs.RawViews.{raw_expr_tree, raw_joined};
+ghost use Rattle.hoist_parts.specs.Chains.{chain_tree, branches, condition_by};
+ghost use Rattle.hoist_parts.specs.Expressions.{is_true, is_false};
+
+use crate::new_names::used;
+use c_tree::{BinaryOperator, Infix, RawExpr, UnaryOperator};
+use std::alloc::{AllocError, Global};
+
+/// A first operand, and operators with the operands after it, which group to the left.
+#[derive(Drop)]
+pub struct Chain {
+    pub first: RawExpr,
+    pub rest: Vec<(Infix, RawExpr)>,
+}
+
+impl Chain {
+    /// One operand alone.
+    pub fn of(alloc: Global, first: RawExpr) -> Chain
+        ensures { chain_tree result ≡ raw_expr_tree first }
+    {
+        Chain {
+            first,
+            rest: Vec::new(alloc),
+        }
+    }
+
+    /// One operator and its right operand more.
+    pub fn with(mut self, operator: Infix, operand: RawExpr) -> Result<Chain, AllocError>
+        ensures { IfOk result (λ c. chain_tree c ≡ raw_joined (chain_tree self) operator (raw_expr_tree operand)) }
+    {
+        match self.rest.push((operator, operand)) {
+            Ok(()) => Ok(self),
+            Err(failed) => Err(AllocError::from(failed)),
+        }
+    }
+
+    /// The expression.
+    pub fn whole(self, alloc: Global) -> Result<RawExpr, AllocError>
+        ensures { IfOk result (λ e. raw_expr_tree e ≡ chain_tree self) }
+    {
+        let Chain { first, rest } = self;
+        if rest.is_empty() {
+            Ok(first)
+        } else {
+            Ok(RawExpr::Chain {
+                first: Box::new(alloc, first)?,
+                rest,
+            })
+        }
+    }
+}
+
+/// An operator before its operand.
+pub fn unary(
+    alloc: Global,
+    operator: UnaryOperator,
+    operand: RawExpr,
+) -> Result<RawExpr, AllocError>
+    ensures { IfOk result (λ e. raw_expr_tree e ≡ RawUnary operator (raw_expr_tree operand)) }
+{
+    Ok(RawExpr::Unary {
+        operator,
+        operand: Box::new(alloc, operand)?,
+    })
+}
+
+/// `e != 0`
+pub fn is_true(alloc: Global, e: RawExpr) -> Result<RawExpr, AllocError>
+    ensures { IfOk result (λ c. raw_expr_tree c ≡ is_true (raw_expr_tree e)) }
+{
+    let zero = RawExpr::Number(0);
+    let chain = Chain::of(alloc, e).with(Infix::Binary(BinaryOperator::NotEqual), zero)?;
+    chain.whole(alloc)
+}
+
+/// `!e`
+pub fn is_false(alloc: Global, e: RawExpr) -> Result<RawExpr, AllocError>
+    ensures { IfOk result (λ c. raw_expr_tree c ≡ is_false (raw_expr_tree e)) }
+{
+    Ok(unary(alloc, UnaryOperator::Not, e)?)
+}
+
+/// Whether the right operand is evaluated in a branch, where it holds a call or not: that of `&&` and `||`.
+pub fn is_branching(operator: Infix, is_calling: bool) -> bool
+    ensures { result ≡ branches operator is_calling }
+{
+    match operator {
+        Infix::Binary(_) => false,
+        Infix::LogicalAnd | Infix::LogicalOr => is_calling,
+    }
+}
+
+/// The condition under which the right operand of a logical operator is evaluated, by the new name of the left one's truth.
+pub fn condition_by(alloc: Global, operator: Infix, number: u32) -> Result<RawExpr, AllocError>
+    ensures { IfOk result (λ c. raw_expr_tree c ≡ condition_by operator number) }
+{
+    let truth = used(alloc, number)?;
+    match operator {
+        Infix::LogicalOr => Ok(is_false(alloc, truth)?),
+        Infix::LogicalAnd | Infix::Binary(_) => Ok(truth),
+    }
+}

@@ -1,6 +1,0 @@
-use Rattle.c_tree.specs.RawViews.{raw_expr_tree}
-use Rattle.hoist_rules.proofs.ChainLemmas.{chained_more}
-use Rattle.hoist_rules.proofs.chains.Chain.with.Goals as goal
-
-pub returns-in-Ok : goal.returns-in-Ok
-returns-in-Ok c = rw c.in-Ok.ensures.items (chained_more (raw_expr_tree c.args.self.first) c.args.self.rest.items c.args.operator c.args.operand)

@@ -1,7 +1,0 @@
-use Rattle.std.proofs.Common.{◌≡◌, ◌||◌, drop}
-use Rattle.c_tree.specs.RawViews.{raw_expr_trees}
-use Rattle.hoist_rules.specs.Calls.{hold_call}
-use Rattle.hoist_rules.proofs.held_calls.hold_call.Given as goal
-
-abbrev pub invariant-loop-expr : goal.invariant-loop-expr
-invariant-loop-expr l = (l.held || hold_call (raw_expr_trees (drop l.expr-index l.exprs))) ≡ hold_call (raw_expr_trees l.exprs)

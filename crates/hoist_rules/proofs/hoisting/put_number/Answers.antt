@@ -1,7 +1,0 @@
-use Rattle.hoist_rules.proofs.Decimals.{widened}
-use Rattle.hoist_rules.proofs.hoisting.put_number.Goals as goal
-
-pub returns : goal.returns
-returns c =
-    let text = widened c.from.result c.args.number c.ranges.number.fits c.from.ensures in
-    rw text at c.put_dec.ensures.ok

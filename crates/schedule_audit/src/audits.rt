@@ -1,0 +1,189 @@
+// The audit of a log.
+ghost use Rattle.std.specs.Prelude.{◌≡◌, ◌≢◌, ◌==◌, ◌⊎◌, None, position};
+ghost use Rattle.c_tree.specs.ProgramView.{program_tree};
+ghost use Rattle.lawful_reading.specs.Given.{Given};
+ghost use Rattle.lawful_reading.specs.State.{State};
+ghost use Rattle.schedule_audit.specs.Judging.{IsJudged, IsNoEnd};
+ghost use Rattle.schedule_audit.specs.Rulings.{CountsReads};
+ghost use Rattle.schedule_audit.specs.Verdicts.{IsVerdict, MayAudit, given_of};
+ghost use Rattle.schedule_audit.specs.declared.verdicts.Verdict.{Verdict as VerdictOf};
+
+use crate::ends::Shown;
+use crate::policy::AuditPolicy;
+use crate::reading::{End, Reading, Under};
+use crate::verdicts::{Failure, Ruling, Verdict};
+use c_tree::Program;
+use cap_io::Source;
+use resource_monitor::{Measure, Monitor};
+use schedule_log::{Entry, LogError, read_entry};
+use std::alloc::Global;
+
+/// Judges a log: whether each of its lines is allowed after those before it, and the last is a stop. The lines of choice points
+/// are those of the priority rule over the printed costs, outputs and blocking points those of the source's own run, edges those
+/// of all segments. The answer is
+///
+/// - `Lawful` exactly where every line is allowed and the last is a stop;
+/// - `Unlawful` at the first line that isn't, or at one more than there are where none is a stop;
+/// - `Steps` at the first line that needs, with those before it, more steps of the source than may be taken;
+/// - `ReadFault` where a read of the trace failed: its count of faults rose, or stands at its end;
+/// - `Memory` where there was no memory.
+///
+/// The limits are in their ranges, and the monitor is new, with the policy's caps and the number of chunks as that of resource 0.
+pub fn audit<S: Source, C: Measure + Drop>(
+    alloc: Global,
+    program: &Program,
+    policy: AuditPolicy,
+    monitor: Monitor<C>,
+    trace: &mut S,
+    log: &[u8],
+) -> Verdict
+    requires { MayAudit policy monitor }
+    ensures verdict { IsVerdict (given_of (program_tree program.now) policy monitor) (S.left trace.old) log.now (S.faults trace.old) (S.faults trace.new) result }
+    ensures faults { S.faults trace.new ≢ S.faults trace.old → (result ≡ VerdictOf.ReadFault) ⊎ (result ≡ VerdictOf.Memory) }
+{
+    match judge(alloc, program, policy, monitor, trace, log) {
+        Ok(verdict) => verdict,
+        Err(Failure::Read) => Verdict::ReadFault,
+        Err(Failure::Memory) => Verdict::Memory,
+    }
+}
+
+fn judge<S: Source, C: Measure + Drop>(
+    alloc: Global,
+    program: &Program,
+    policy: AuditPolicy,
+    monitor: Monitor<C>,
+    trace: &mut S,
+    log: &[u8],
+) -> Result<Verdict, Failure>
+    requires { MayAudit policy monitor }
+    ensures judged { IsJudged (given_of (program_tree program.now) policy monitor) (S.left trace.old) log.now result }
+    ensures counts { CountsReads result (S.faults trace.old) (S.faults trace.new) }
+{
+    let mut reading = match Reading::new(alloc, program, policy, monitor) {
+        Ok(reading) => reading,
+        Err(_) => return Err(Failure::Memory),
+    };
+    let mut rest = log;
+    let mut line: u64 = 1;
+    while let Some(end) = line_end(rest) {
+        match reading.line(trace, &rest[..end])? {
+            Ruling::Allowed => (),
+            Ruling::Refused => return Ok(Verdict::Unlawful { line }),
+            Ruling::OutOfSteps => return Ok(Verdict::Steps { line }),
+        }
+        rest = &rest[end + 1..];
+        line += 1;
+    }
+    if rest.is_empty() && matches!(reading.end, End::Stopped) {
+        Ok(Verdict::Lawful)
+    } else {
+        Ok(Verdict::Unlawful { line })
+    }
+}
+
+// The place of the first line feed.
+fn line_end(bytes: &[u8]) -> Option<usize>
+    ensures { result ≡ position (λ byte. byte == 10) bytes.now }
+{
+    bytes.iter().position(|byte| *byte == b'\n')
+}
+
+impl<'a, C: Measure + Drop> Reading<'a, C> {
+    ghost use Rattle.schedule_audit.specs.Closing.{RulesWithin, WithinSomehow};
+    ghost use Rattle.schedule_audit.specs.Rulings.{Rules, RulesLine, StandsBetweenSomehow};
+    ghost use Rattle.schedule_audit.specs.Stands.{IsEnd, Stands, StandsSomehow, StandsWithin};
+    ghost use Rattle.schedule_audit.specs.declared.reading.End.TheVariants.{Stopped};
+
+    /// Takes one line, without its line feed.
+    fn line<S: Source>(&mut self, trace: &mut S, line: &[u8]) -> Result<Ruling, Failure>
+        requires { StandsSomehow self.old }
+        ensures rules { (g : Given) (state : State) → Stands g state self.old → RulesLine g state self.old line.now (S.left trace.old) self.new (S.left trace.new) result }
+        ensures counts { CountsReads result (S.faults trace.old) (S.faults trace.new) }
+    {
+        if matches!(self.end, End::Stopped) {
+            return Ok(Ruling::Refused);
+        }
+        match read_entry(line) {
+            Ok(entry) => self.entry(trace, entry),
+            Err(LogError::Line) => Ok(Ruling::Refused),
+        }
+    }
+
+    /// Takes one entry, before the stop.
+    fn entry<S: Source>(&mut self, trace: &mut S, entry: Entry) -> Result<Ruling, Failure>
+        requires stands { StandsSomehow self.old }
+        requires going { self.old.end ≡ Stopped → ⊥ }
+        ensures rules { (g : Given) (state : State) → Stands g state self.old → Rules g state self.old entry (S.left trace.old) self.new (S.left trace.new) result }
+        ensures counts { CountsReads result (S.faults trace.old) (S.faults trace.new) }
+    {
+        match entry {
+            Entry::Edge {
+                from,
+                to,
+                count,
+                cost,
+                changes,
+            } => {
+                let shown = Shown {
+                    from,
+                    to,
+                    count,
+                    cost,
+                    changes,
+                };
+                self.edge(trace, &shown)
+            }
+            Entry::Stop(stop) => self.stop(trace, stop),
+            _ => match self.under.take() {
+                None => self.between(trace, entry),
+                Some(under) => self.within(under, entry),
+            },
+        }
+    }
+
+    /// A line of a choice point.
+    fn between<S: Source>(&mut self, trace: &mut S, entry: Entry) -> Result<Ruling, Failure>
+        requires between { StandsBetweenSomehow self.old }
+        requires under { self.old.under ≡ None }
+        requires going { self.old.end ≡ Stopped → ⊥ }
+        requires line { IsNoEnd entry }
+        ensures rules { (g : Given) (state : State) → Stands g state self.old → Rules g state self.old entry (S.left trace.old) self.new (S.left trace.new) result }
+        ensures counts { CountsReads result (S.faults trace.old) (S.faults trace.new) }
+    {
+        if !self.is_before_end() {
+            return Ok(Ruling::Refused);
+        }
+        match entry {
+            Entry::Event { clock, item } => self.delivery(trace, clock, item, false),
+            Entry::Dropped { clock, item } => self.delivery(trace, clock, item, true),
+            Entry::Run {
+                clock,
+                thread,
+                node,
+            } => self.choice(trace, clock, thread, node),
+            _ => Ok(Ruling::Refused),
+        }
+    }
+
+    /// A line of a segment.
+    fn within(&mut self, under: Under<'a>, entry: Entry) -> Result<Ruling, Failure>
+        requires under { self.old.under ≡ None }
+        requires within { WithinSomehow self.old.core under }
+        requires line { IsNoEnd entry }
+        ensures { (g : Given) (state : State) → StandsWithin g state self.old.core under.entry → IsEnd g state self.old.end → RulesWithin g state self.old entry self.new result }
+    {
+        match entry {
+            Entry::Out { thread, value } => self.out(under, thread, value),
+            Entry::Block {
+                thread,
+                node,
+                key,
+                cost,
+                free,
+            } => self.block(under, thread, node, &key, cost, free),
+            Entry::End { thread, cost, free } => self.end_line(under, thread, cost, free),
+            _ => Ok(Ruling::Refused),
+        }
+    }
+}

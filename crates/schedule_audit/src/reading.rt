@@ -1,0 +1,139 @@
+// Where the reading of a log has come to.
+ghost use Rattle.std.specs.Prelude.{◌≡◌, [], IfOk, List, None, ℕ};
+ghost use Rattle.c_tree.specs.ProgramView.{program_tree};
+ghost use Rattle.lawful_reading.specs.State.{start_of};
+
+use crate::policy::AuditPolicy;
+use crate::threads::Threads;
+use blocking_graph::{EdgeLine, Graph};
+use c_tree::Program;
+use event_trace::{Event, TraceReader};
+use resource_monitor::{Measure, Monitor};
+use scheduler::{Choice, Scheduler};
+use source_runs::{Interpreter, Thread};
+use std::alloc::{AllocError, Global};
+use std::marker::Model;
+
+/// A segment that is under way: the choice that took its thread, the uses then, and the thread.
+#[derive(Drop)]
+pub(crate) struct Under<'a> {
+    pub(crate) choice: Choice,
+    pub(crate) before: [u32; 8],
+    pub(crate) thread: Thread<'a>,
+}
+
+/// The next line of the trace.
+#[derive(Clone, Copy)]
+pub(crate) enum Next {
+    /// It hasn't been looked at.
+    Unread,
+    /// It is that of an event.
+    Event(Event),
+    /// There is none.
+    Over,
+    /// It is refused; its number.
+    Refused(u64),
+}
+
+/// The end of a log, where it has begun: the edges, and how many of them have been read; or the stop, after which nothing
+/// comes.
+#[derive(Drop)]
+pub(crate) enum End {
+    NotYet,
+    Edges { edges: Vec<EdgeLine>, read: usize },
+    Stopped,
+}
+
+/// What the lines so far lead to.
+#[derive(Drop)]
+pub(crate) struct Reading<'a, C: Measure> {
+    pub(crate) policy: AuditPolicy,
+    pub(crate) interpreter: Interpreter<'a>,
+    pub(crate) globals: Vec<u32>,
+    pub(crate) threads: Threads<'a>,
+    pub(crate) scheduler: Scheduler,
+    pub(crate) graph: Graph,
+    pub(crate) monitor: Monitor<C>,
+    pub(crate) reader: TraceReader,
+    pub(crate) next: Next,
+    /// The chunks that were free last, and the printed costs of all segments.
+    pub(crate) free: u32,
+    pub(crate) cost: u64,
+    /// The steps of the source that may still be taken.
+    pub(crate) left: u64,
+    pub(crate) under: Option<Under<'a>>,
+    pub(crate) end: End,
+}
+
+impl<'a, C: Measure> Model for Reading<'a, C> {
+    ghost use Rattle.c_tree.specs.contracts.programs.Program as whole;
+    ghost use Rattle.c_tree.specs.contracts.statements.Stmt as stmt;
+    ghost use Rattle.std.specs.Coded.{codes};
+    ghost use Rattle.schedule_audit.specs.Kept.{Kept};
+
+    ghost Value = { Kept };
+
+    ghost coded = { Prim.hlevel (codes, stmt.the_row.coded, whole.the_row.coded) };
+
+    ghost view = { λ r. record {
+      core = record {
+        policy = r.policy;
+        interpreter = r.interpreter;
+        words = r.globals.items;
+        threads = r.threads;
+        scheduler = r.scheduler;
+        graph = r.graph;
+        monitor = r.monitor;
+        free = r.free;
+        cost = r.cost;
+        left = r.left;
+      };
+      reader = r.reader;
+      next = r.next;
+      under = r.under;
+      end = r.end;
+    } };
+}
+
+impl<'a, C: Measure + Drop> Reading<'a, C> {
+    ghost use Rattle.schedule_audit.specs.Stands.{Stands};
+    ghost use Rattle.schedule_audit.specs.Verdicts.{MayAudit, given_of};
+    ghost use Rattle.schedule_audit.specs.declared.reading.Next.TheVariants.{Unread};
+
+    /// Before the first line: thread 0 waits at node 0, and one chunk is held.
+    pub(crate) fn new(
+        alloc: Global,
+        program: &'a Program,
+        policy: AuditPolicy,
+        monitor: Monitor<C>,
+    ) -> Result<Reading<'a, C>, AllocError>
+        requires { MayAudit policy monitor }
+        ensures stands { (trace : List ℕ) → IfOk result (Stands (given_of (program_tree program.now) policy monitor) (start_of (given_of (program_tree program.now) policy monitor) trace)) }
+        ensures reader { IfOk result (λ reading. reading.reader ≡ record { held = []; lines = 0; last = 0; refused = None }) }
+        ensures unread { IfOk result (λ reading. reading.next ≡ Unread) }
+    {
+        let interpreter = Interpreter::new(alloc, program)?;
+        let globals = interpreter.start_globals()?;
+        let mut threads = Threads::new(alloc, policy.backlog, policy.caps)?;
+        let mut scheduler = Scheduler::new(alloc);
+        let main = threads.add(program.main_number(), None)?;
+        scheduler.enqueue(0, main)?;
+        let reader = TraceReader::new(alloc)?;
+        Ok(Reading {
+            policy,
+            interpreter,
+            globals,
+            threads,
+            scheduler,
+            graph: Graph::new(alloc),
+            monitor,
+            reader,
+            next: Next::Unread,
+            free: policy.chunks - 1,
+            cost: 0,
+            left: policy.steps,
+            under: None,
+            end: End::NotYet,
+        })
+    }
+}
