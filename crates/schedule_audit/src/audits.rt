@@ -179,7 +179,7 @@ impl<'a, C: Measure + Drop> Reading<'a, C> {
     }
 
     /// A line of a segment.
-    fn within(&mut self, under: Under<'a>, entry: Entry) -> Result<Ruling, Failure>
+    fn within(&mut self, mut under: Under<'a>, entry: Entry) -> Result<Ruling, Failure>
         requires under { self.old.under ≡ None }
         requires within { WithinSomehow self.old.core under }
         requires line { IsNoEnd entry }
@@ -194,8 +194,15 @@ impl<'a, C: Measure + Drop> Reading<'a, C> {
                 cost,
                 free,
             } => self.block(under, thread, node, &key, cost, free),
-            Entry::End { thread, cost, free } => self.end_line(under, thread, cost, free),
-            _ => Ok(Ruling::Refused),
+            Entry::End { thread, cost, free } => {
+                let ruling = self.end_line(&mut under, thread, cost, free);
+                drop(under);
+                ruling
+            }
+            _ => {
+                drop(under);
+                Ok(Ruling::Refused)
+            }
         }
     }
 }
