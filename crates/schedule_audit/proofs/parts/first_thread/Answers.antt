@@ -1,4 +1,4 @@
-use Rattle.std.proofs.Common.{ℕ, None, subst, arith}
+use Rattle.std.proofs.Common.{arith}
 use Rattle.schedule_audit.proofs.Starting.{none_vacant}
 use Rattle.schedule_audit.proofs.parts.first_thread.Goals as goal
 

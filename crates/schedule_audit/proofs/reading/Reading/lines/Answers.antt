@@ -1,7 +1,6 @@
 use Rattle.std.proofs.Common.{◌≡◌, ◌∙◌, ◌+◌, ◌-◌, Result, Ok, List, ℕ, Option, ap, arith, drop, length, refl, subst, sym, take}
 use Rattle.std.proofs.lemmas.Bool.{false≢true}
 use Rattle.std.proofs.lemmas.List.{take_rest}
-use Rattle.lawful_reading.specs.Given.{Given}
 use Rattle.schedule_audit.specs.declared.reading.End.TheVariants as end
 use Rattle.schedule_audit.specs.Judging.{IsJudged}
 use Rattle.schedule_audit.specs.Kept.{Kept}
