@@ -21,6 +21,13 @@ use Rattle.schedule_audit.proofs.Judge.{cut, none_left, read_late, read_lawful, 
 pub begun : (g : Given) (left : Option (List ℕ)) (log : List ℕ) (k : Kept) → ((trace : List ℕ) → Stands g (start_of g trace) k) → k.reader ≡ record { held = []; lines = 0; last = 0; refused = None } → k.next ≡ next.Unread → IsReadTo g left log log 1 k left
 begun g left log k stands reader unread = read_start g left log k (stands (trace_in left)) (start_told g left k reader unread)
 
+-- after a line that is allowed what is kept stands beside some state again
+pub still_stands : (k : Kept) (now : Option (List ℕ)) (new : Kept) (now' : Option (List ℕ)) (bytes : List ℕ) (r : Result Ruling Failure) → ((h : Given) (state : State) → Stands h state k → RulesLine h state k bytes now new now' r) → r ≡ Ok ruling.Allowed →
+    StandsSomehow k → StandsSomehow new
+still_stands k now new now' bytes r rules e stands =
+    let ruled : RulesLine stands.0 stands.1 k bytes now new now' (Ok ruling.Allowed) = subst (RulesLine stands.0 stands.1 k bytes now new now') e (rules stands.0 stands.1 stands.2) in
+    (stands.0, ruled.2.after, ruled.2.stands)
+
 module _ (g : Given) (left : Option (List ℕ)) (log rest : List ℕ) (line : ℕ) (k : Kept) (now : Option (List ℕ)) (is : IsReadTo g left log rest line k now) where
   pub stands_read : StandsSomehow k
   stands_read = (g, is.state, is.stands)

@@ -35,6 +35,7 @@ use Rattle.schedule_audit.specs.declared.threads.Rest.TheVariants as rest
 use Rattle.schedule_audit.specs.declared.threads.Slot.{Slot}
 use Rattle.schedule_audit.specs.Changes.{AreNone, AreVacant, HasAdded}
 use Rattle.schedule_audit.specs.Kept.{Core}
+use Rattle.schedule_audit.specs.Starting.{HasFirst, HasSource}
 use Rattle.schedule_audit.specs.Stands.{AreLive, AreThreads, IsOf, IsScheduled, IsSlot, Stands, StandsAt, latest}
 use Rattle.schedule_audit.specs.Told.{ThreadsState, VouchesIn, at_place, wait_of}
 use Rattle.schedule_audit.specs.Verdicts.{MayAudit, given_of}
@@ -245,3 +246,31 @@ module _ (p : ProgramTree) (policy : AuditPolicy) (monitor : MonitorState) (may 
       stands_start graph empty reader is =
           subst (λ (x : GraphState). Stands g state (record { core = record core { graph = x }; reader = reader; next = next.Unread; under = None; end = end.NotYet })) (sym empty)
           (record { end_is = refl; stands = (stands_first, ap (λ (r : ReaderState). r.refused) is) })
+
+-- ---- what is made before the first line
+
+pub stands_made : (p : ProgramTree) (policy : AuditPolicy) (monitor : MonitorState) (may : MayAudit policy monitor) (scoped : IsWellScoped p) (interpreter : Interpreter) (words : List ℕ) (source : HasSource p interpreter words)
+    (threads : ThreadsState) (scheduler : SchedulerState) (first : HasFirst policy.backlog policy.caps p.main threads scheduler) (trace : List ℕ) (graph : GraphState) → graph ≡ empty_graph →
+    (reader : ReaderState) → reader ≡ record { held = []; lines = 0; last = 0; refused = None } →
+    Stands (given_of p policy monitor) (start_of (given_of p policy monitor) trace)
+    (record {
+      core = record {
+        policy = policy;
+        interpreter = interpreter;
+        words = words;
+        threads = threads;
+        scheduler = scheduler;
+        graph = graph;
+        monitor = monitor;
+        free = policy.chunks - 1;
+        cost = 0;
+        left = policy.steps;
+      };
+      reader = reader;
+      next = next.Unread;
+      under = None;
+      end = end.NotYet;
+    })
+stands_made p policy monitor may scoped interpreter words source threads scheduler first trace graph empty reader is =
+    stands_start p policy monitor may scoped first.there.none threads first.thread first.there.were_none first.there.added started scheduler refl first.queued.joined first.queued.told
+    interpreter source.program_is source.ready words source.rows source.full trace graph empty reader is

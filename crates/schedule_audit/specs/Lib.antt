@@ -1,5 +1,6 @@
 pub mod Told
 pub mod Changes
+pub mod Starting
 pub mod Waiting
 pub mod Kept
 pub mod Stands

@@ -3,7 +3,7 @@ ghost use Rattle.std.specs.Prelude.{◌≡◌, ◌≢◌, ◌==◌, ◌⊎◌, N
 ghost use Rattle.c_tree.specs.ProgramView.{program_tree};
 ghost use Rattle.lawful_reading.specs.Given.{Given};
 ghost use Rattle.lawful_reading.specs.State.{State};
-ghost use Rattle.schedule_audit.specs.Judging.{IsJudged, IsNoEnd};
+ghost use Rattle.schedule_audit.specs.Judging.{IsJudged, IsNoEnd, IsReadTo};
 ghost use Rattle.schedule_audit.specs.Rulings.{CountsReads};
 ghost use Rattle.schedule_audit.specs.Verdicts.{IsVerdict, MayAudit, given_of};
 ghost use Rattle.schedule_audit.specs.declared.verdicts.Verdict.{Verdict as VerdictOf};
@@ -60,25 +60,13 @@ fn judge<S: Source, C: Measure + Drop>(
     ensures judged { IsJudged (given_of (program_tree program.now) policy monitor) (S.left trace.old) log.now result }
     ensures counts { CountsReads result (S.faults trace.old) (S.faults trace.new) }
 {
-    let mut reading = match Reading::new(alloc, program, policy, monitor) {
-        Ok(reading) => reading,
-        Err(_) => return Err(Failure::Memory),
-    };
-    let mut rest = log;
-    let mut line: u64 = 1;
-    while let Some(end) = line_end(rest) {
-        match reading.line(trace, &rest[..end])? {
-            Ruling::Allowed => (),
-            Ruling::Refused => return Ok(Verdict::Unlawful { line }),
-            Ruling::OutOfSteps => return Ok(Verdict::Steps { line }),
+    match Reading::new(alloc, program, policy, monitor) {
+        Ok(mut reading) => {
+            let judged = reading.lines(trace, log);
+            drop(reading);
+            judged
         }
-        rest = &rest[end + 1..];
-        line += 1;
-    }
-    if rest.is_empty() && matches!(reading.end, End::Stopped) {
-        Ok(Verdict::Lawful)
-    } else {
-        Ok(Verdict::Unlawful { line })
+        Err(_) => Err(Failure::Memory),
     }
 }
 
@@ -94,6 +82,30 @@ impl<'a, C: Measure + Drop> Reading<'a, C> {
     ghost use Rattle.schedule_audit.specs.Rulings.{Rules, RulesLine, StandsBetweenSomehow};
     ghost use Rattle.schedule_audit.specs.Stands.{IsEnd, Stands, StandsSomehow, StandsWithin};
     ghost use Rattle.schedule_audit.specs.declared.reading.End.TheVariants.{Stopped};
+
+    /// Takes the lines of a log, one after another.
+    fn lines<S: Source>(&mut self, trace: &mut S, log: &[u8]) -> Result<Verdict, Failure>
+        requires { StandsSomehow self.old }
+        ensures judged { (g : Given) → IsReadTo g (S.left trace.old) log.now log.now 1 self.old (S.left trace.old) → IsJudged g (S.left trace.old) log.now result }
+        ensures counts { CountsReads result (S.faults trace.old) (S.faults trace.new) }
+    {
+        let mut rest = log;
+        let mut line: u64 = 1;
+        while let Some(end) = line_end(rest) {
+            match self.line(trace, &rest[..end])? {
+                Ruling::Allowed => (),
+                Ruling::Refused => return Ok(Verdict::Unlawful { line }),
+                Ruling::OutOfSteps => return Ok(Verdict::Steps { line }),
+            }
+            rest = &rest[end + 1..];
+            line += 1;
+        }
+        if rest.is_empty() && matches!(self.end, End::Stopped) {
+            Ok(Verdict::Lawful)
+        } else {
+            Ok(Verdict::Unlawful { line })
+        }
+    }
 
     /// Takes one line, without its line feed.
     fn line<S: Source>(&mut self, trace: &mut S, line: &[u8]) -> Result<Ruling, Failure>
@@ -167,7 +179,7 @@ impl<'a, C: Measure + Drop> Reading<'a, C> {
     }
 
     /// A line of a segment.
-    fn within(&mut self, under: Under<'a>, entry: Entry) -> Result<Ruling, Failure>
+    fn within(&mut self, mut under: Under<'a>, entry: Entry) -> Result<Ruling, Failure>
         requires under { self.old.under ≡ None }
         requires within { WithinSomehow self.old.core under }
         requires line { IsNoEnd entry }
@@ -182,8 +194,15 @@ impl<'a, C: Measure + Drop> Reading<'a, C> {
                 cost,
                 free,
             } => self.block(under, thread, node, &key, cost, free),
-            Entry::End { thread, cost, free } => self.end_line(under, thread, cost, free),
-            _ => Ok(Ruling::Refused),
+            Entry::End { thread, cost, free } => {
+                let ruling = self.end_line(&mut under, thread, cost, free);
+                drop(under);
+                ruling
+            }
+            _ => {
+                drop(under);
+                Ok(Ruling::Refused)
+            }
         }
     }
 }

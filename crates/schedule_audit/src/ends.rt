@@ -196,8 +196,9 @@ impl<'a, C: Measure + Drop> Reading<'a, C> {
             return Ok(Ruling::Refused);
         };
         let told = self.tells(&under, thread, cost, free);
-        let ruling = self.cut_cause(&mut under, stop, cost)?;
+        let caused = self.cut_cause(&mut under, stop, cost);
         self.under = Some(under);
+        let ruling = caused?;
         match ruling {
             Ruling::Allowed => Ok(ruling_of(told)),
             Ruling::Refused => Ok(Ruling::Refused),

@@ -12,6 +12,8 @@ mod audits;
 mod choosing;
 mod ends;
 mod events;
+mod held;
+mod parts;
 mod points;
 mod policy;
 mod reading;

@@ -3,6 +3,8 @@ ghost use Rattle.std.specs.Prelude.{◌≡◌, [], IfOk, List, None, ℕ};
 ghost use Rattle.c_tree.specs.ProgramView.{program_tree};
 ghost use Rattle.lawful_reading.specs.State.{start_of};
 
+use crate::held::all;
+use crate::parts::{first_of, source_of};
 use crate::policy::AuditPolicy;
 use crate::threads::Threads;
 use blocking_graph::{EdgeLine, Graph};
@@ -112,28 +114,36 @@ impl<'a, C: Measure + Drop> Reading<'a, C> {
         ensures reader { IfOk result (λ reading. reading.reader ≡ record { held = []; lines = 0; last = 0; refused = None }) }
         ensures unread { IfOk result (λ reading. reading.next ≡ Unread) }
     {
-        let interpreter = Interpreter::new(alloc, program)?;
-        let globals = interpreter.start_globals()?;
-        let mut threads = Threads::new(alloc, policy.backlog, policy.caps)?;
-        let mut scheduler = Scheduler::new(alloc);
-        let main = threads.add(program.main_number(), None)?;
-        scheduler.enqueue(0, main)?;
-        let reader = TraceReader::new(alloc)?;
-        Ok(Reading {
-            policy,
-            interpreter,
-            globals,
-            threads,
-            scheduler,
-            graph: Graph::new(alloc),
-            monitor,
-            reader,
-            next: Next::Unread,
-            free: policy.chunks - 1,
-            cost: 0,
-            left: policy.steps,
-            under: None,
-            end: End::NotYet,
-        })
+        let parts = all(
+            source_of(alloc, program),
+            first_of(alloc, policy.backlog, policy.caps, program.main_number()),
+            TraceReader::new(alloc),
+        );
+        match parts {
+            Ok((source, first, reader)) => {
+                let (interpreter, globals) = source;
+                let (threads, scheduler) = first;
+                Ok(Reading {
+                    policy,
+                    interpreter,
+                    globals,
+                    threads,
+                    scheduler,
+                    graph: Graph::new(alloc),
+                    monitor,
+                    reader,
+                    next: Next::Unread,
+                    free: policy.chunks - 1,
+                    cost: 0,
+                    left: policy.steps,
+                    under: None,
+                    end: End::NotYet,
+                })
+            }
+            Err(error) => {
+                drop(monitor);
+                Err(error)
+            }
+        }
     }
 }

@@ -126,22 +126,22 @@ impl<'a, C: Measure + Drop> Reading<'a, C> {
     /// A line `end`.
     pub(crate) fn end_line(
         &mut self,
-        mut under: Under<'a>,
+        under: &mut Under<'a>,
         thread: u32,
         cost: u64,
         free: u32,
     ) -> Result<Ruling, Failure>
         requires under { self.old.under ≡ None }
-        requires within { WithinSomehow self.old.core under }
-        ensures { (g : Given) (state : State) → StandsWithin g state self.old.core under.entry → IsEnd g state self.old.end → RulesWithin g state self.old (Entry.End thread cost free) self.new result }
+        requires within { WithinSomehow self.old.core under.old }
+        ensures { (g : Given) (state : State) → StandsWithin g state self.old.core under.old → IsEnd g state self.old.end → RulesWithin g state self.old (Entry.End thread cost free) self.new result }
     {
-        match self.proceed(&mut under)? {
+        match self.proceed(under)? {
             Happening::OutOfSteps => Ok(Ruling::OutOfSteps),
             Happening::Ends => {
                 if !self.ends_segment(under.choice.thread.number, thread, cost, free) {
                     return Ok(Ruling::Refused);
                 }
-                self.close(&under, END, cost, free)?;
+                self.close(under, END, cost, free)?;
                 self.threads.end(under.choice.thread);
                 Ok(Ruling::Allowed)
             }

@@ -1,22 +1,16 @@
-use Rattle.std.proofs.Common.{ℕ, None, subst, arith}
+use Rattle.std.proofs.Common.{◌≡◌, ℕ, [], None, subst}
+use Rattle.std.proofs.lemmas.Result.{IfOk-at_ok}
 use Rattle.c_tree.specs.ProgramView.{program_tree}
-use Rattle.schedule_audit.specs.Changes.{HasAdded}
-use Rattle.schedule_audit.proofs.Starting.{none_vacant, stands_start}
+use Rattle.schedule_audit.specs.Starting.{HasFirst, HasSource}
+use Rattle.schedule_audit.proofs.Starting.{stands_made}
 use Rattle.schedule_audit.proofs.reading.Reading.new.Goals as goal
 
-pub add-requires-clause-live : goal.add-requires-clause-live
-add-requires-clause-live g c = let none = c.in_ok-threads.ensures.live in omega (arith, none)
-
-pub add-requires-clause-next : goal.add-requires-clause-next
-add-requires-clause-next g c = let none = c.in_ok-threads.ensures.next in omega (arith, none)
-
-pub add-requires-clause-vacant : goal.add-requires-clause-vacant
-add-requires-clause-vacant g c = none_vacant c.args.policy.backlog c.args.policy.caps c.in_ok-threads.threads c.in_ok-threads.ensures
-
-pub returns-clause-stands : goal.returns-clause-stands
-returns-clause-stands g c = λ trace.
-    stands_start (program_tree c.args.program.now) c.args.policy c.args.monitor c.requires c.args.program.now.well_scoped c.in_ok-threads.threads c.add.new.self c.in_ok-main.main c.in_ok-threads.ensures
-    (subst (λ (n : ℕ). HasAdded c.in_ok-threads.threads n None c.add.new.self c.in_ok-main.main) c.main_number.ensures c.in_ok-main.ensures)
-    c.new-scheduler.result c.enqueue.new.self c.new-scheduler.ensures c.in_ok-enqueue.ensures.ok c.in_ok-enqueue.ensures.told
-    c.in_ok-interpreter.interpreter c.in_ok-interpreter.ensures.program c.in_ok-interpreter.ensures.ready c.in_ok-globals.globals.items c.in_ok-globals.ensures.rows c.in_ok-globals.ensures.count trace
-    c.new-4.result c.new-4.ensures c.in_ok-reader.reader c.in_ok-reader.ensures
+pub returns-in-Ok-clause-stands : goal.returns-in-Ok-clause-stands
+returns-in-Ok-clause-stands g c = λ trace.
+    let program = program_tree c.args.program.now in
+    let source = IfOk-at_ok (λ made. HasSource program made.0 made.1.items) c.in-Ok.ensures.first c.source_of.ensures in
+    let first = IfOk-at_ok (λ made. HasFirst c.args.policy.backlog c.args.policy.caps c.main_number.result made.0 made.1) c.in-Ok.ensures.second c.first_of.ensures in
+    let of_main = subst (λ (n : ℕ). HasFirst c.args.policy.backlog c.args.policy.caps n c.in-Ok.first.0 c.in-Ok.first.1) c.main_number.ensures first in
+    let reader = IfOk-at_ok (λ reader. reader ≡ record { held = []; lines = 0; last = 0; refused = None }) c.in-Ok.ensures.third c.new.ensures in
+    stands_made program c.args.policy c.args.monitor c.requires c.args.program.now.well_scoped c.in-Ok.source.0 c.in-Ok.source.1.items source c.in-Ok.first.0 c.in-Ok.first.1 of_main trace
+    c.new-in-Ok.result c.new-in-Ok.ensures c.in-Ok.reader reader

@@ -14,7 +14,7 @@ pub returns-in-Block : goal.returns-in-Block
 returns-in-Block g c = λ s state stands is. within_as s state c.args.self.now c.args.entry _ c.block.new.self c.block.result c.in-Block.is (c.block.ensures s state stands is)
 
 pub returns-in-End : goal.returns-in-End
-returns-in-End g c = λ s state stands is. within_as s state c.args.self.now c.args.entry _ c.end_line.new.self c.end_line.result c.in-End.is (c.end_line.ensures s state stands is)
+returns-in-End g c = λ s state stands is. within_as s state c.args.self.now c.args.entry _ c.end_line-ruling.new.self c.end_line-ruling.result c.in-End.is (c.end_line-ruling.ensures s state stands is)
 
 pub returns-in_default : goal.returns-in_default
 returns-in_default g c = λ s state stands is. refused_within s state c.args.self.now.core c.args.under stands c.args.entry c.requires.line c.in_default.not-Out c.in_default.not-Block c.in_default.not-End
