@@ -28,11 +28,7 @@ pub both_fact : {S T E : Type 0} (F : Type 0) (r : Result T E) (b : Result (S ×
 both_fact F r (Ok p) e h = rw e at h
 both_fact F r (Err y) e h = tt
 
--- what follows from what holds where there was room
-pub then_holds : {T E : Type 0} (F G : Type 0) (r : Result T E) → (F → G) → OnOk r F → OnOk r G
-then_holds F G (Ok v) f h = f h
-then_holds F G (Err x) f h = tt
-
+-- what follows from two facts that hold where there was room
 pub both_hold : {T E : Type 0} (F G H : Type 0) (r : Result T E) → (F → G → H) → OnOk r F → OnOk r G → OnOk r H
 both_hold F G H (Ok v) f g h = f g h
 both_hold F G H (Err x) f g h = tt

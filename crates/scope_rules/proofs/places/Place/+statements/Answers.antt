@@ -1,6 +1,7 @@
 use Rattle.std.proofs.Common.{◌≡◌, ◌++◌, ◌∷◌, ◌+◌, ◌∙◌, sym, ap, subst, map, drop, append_assoc}
 use Rattle.std.specs.Prelude.{option_map}
 use Rattle.std.proofs.lemmas.List.{append-nil}
+use Rattle.std.proofs.lemmas.Result.{on_ok_weaker}
 use Rattle.std.proofs.Math.ListN.{drop_of_length-le}
 use Rattle.c_tree.specs.RawViews.{raw_expr_tree, raw_simple_tree, raw_stmt_tree, raw_stmt_trees}
 use Rattle.c_tree.specs.Views.{stmt_tree, in_order}
@@ -12,7 +13,7 @@ use Rattle.scope_rules.specs.Statements.{inside, left, stmt_after, stmts_after, 
 use Rattle.scope_rules.proofs.Cuts.{drop_at}
 use Rattle.scope_rules.proofs.Least.{least_of_append, least_of_then}
 use Rattle.scope_rules.proofs.Scopes.{Extends, stmt_extends, stmts_extends, leaves}
-use Rattle.scope_rules.proofs.HeldValues.{boxed_fact, both_fact, pushed_view, pushed_fact, then_holds}
+use Rattle.scope_rules.proofs.HeldValues.{boxed_fact, both_fact, pushed_view, pushed_fact}
 use Rattle.scope_rules.proofs.StmtLists.{stmts_list, stmts_listed}
 use Rattle.scope_rules.proofs.ForLoops.{for_place, for_faults}
 use Rattle.scope_rules.proofs.places.Place.+statements.Goals as goal
@@ -23,7 +24,7 @@ block-returns-clause-place t c =
     let raw = raw_stmt_trees c.args.raw.now in
     let m = spot_of c.stmts-stmts.new.self in
     let e = spot_of c.leave.new.self in
-    then_holds (m ≡ stmts_after (inside s) raw) (e ≡ left s (stmts_after (inside s) raw)) c.stmts-stmts.result
+    on_ok_weaker {P = m ≡ stmts_after (inside s) raw} {Q = e ≡ left s (stmts_after (inside s) raw)} c.stmts-stmts.result
     (λ h. leaves s m e c.enter-scope.result.count c.enter-scope.result.outer c.enter-scope.ensures.count c.enter-scope.ensures.outer
     (subst (λ x. Extends x.names s.names) (sym h) (stmts_extends (inside s) raw)) c.leave.ensures.place
     ∙ ap (λ x. left s x) h) (rw c.enter-scope.ensures.place at c.stmts-stmts.ensures.place)
@@ -34,7 +35,7 @@ body-returns-clause-place t c =
     let raw = raw_stmt_tree c.args.raw.now in
     let m = spot_of c.stmt.new.self in
     let e = spot_of c.leave.new.self in
-    then_holds (m ≡ stmt_after (inside s) raw) (e ≡ left s (stmt_after (inside s) raw)) c.boxed-stmt.result
+    on_ok_weaker {P = m ≡ stmt_after (inside s) raw} {Q = e ≡ left s (stmt_after (inside s) raw)} c.boxed-stmt.result
     (λ h. leaves s m e c.enter-scope.result.count c.enter-scope.result.outer c.enter-scope.ensures.count c.enter-scope.ensures.outer
     (subst (λ x. Extends x.names s.names) (sym h) (stmt_extends (inside s) raw)) c.leave.ensures.place
     ∙ ap (λ x. left s x) h) (boxed_fact _ c.stmt.result c.boxed-stmt.result c.boxed-stmt.ensures (rw c.enter-scope.ensures.place at c.stmt.ensures.place))
@@ -46,7 +47,7 @@ guarded-returns-clause-faults t c =
     let fb = stmt_faults c.args.gives c.args.loops (inside s) (raw_stmt_tree c.args.raw.now) in
     let old = c.args.self.now.least in
     let new = c.body.new.self.least in
-    then_holds (new ≡ least_of c.expr.new.least fb) (new ≡ least_of old (fc ++ fb)) c.both.result
+    on_ok_weaker {P = new ≡ least_of c.expr.new.least fb} {Q = new ≡ least_of old (fc ++ fb)} c.both.result
     (λ h. least_of_then old c.expr.new.least new fc fb c.in_ok-condition.ensures.faults h) (both_fact _ c.body.result c.both.result c.both.ensures.next c.body.ensures.faults)
 
 pub stmt-returns-in-Ok-both-clause-faults : goal.stmt-returns-in-Ok-both-clause-faults

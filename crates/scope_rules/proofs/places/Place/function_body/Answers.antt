@@ -1,10 +1,11 @@
 use Rattle.std.proofs.Common.{◌≡◌, ◌∙◌, ap, map, false}
+use Rattle.std.proofs.lemmas.Result.{on_ok_weaker}
 use Rattle.c_tree.specs.RawViews.{name_tree, raw_stmt_trees}
 use Rattle.scope_rules.specs.Faults.{least_of}
 use Rattle.scope_rules.specs.Places.{spot_of}
 use Rattle.scope_rules.specs.Statements.{inside, stmts_after, stmts_faults}
 use Rattle.scope_rules.specs.Items.{unsized}
-use Rattle.scope_rules.proofs.HeldValues.{then_holds, both_hold}
+use Rattle.scope_rules.proofs.HeldValues.{both_hold}
 use Rattle.scope_rules.proofs.FunctionScopes.{function_place, function_faults}
 use Rattle.scope_rules.proofs.places.Place.function_body.Goals as goal
 
@@ -15,7 +16,7 @@ returns-clause-place c =
     let ea : a ≡ unsized s = c.enter-scope.ensures.place ∙ ap (λ z. record (inside s) { sizes = z }) c.clear.ensures.items in
     let stmts = raw_stmt_trees c.deref-2.result.now in
     let new = spot_of c.stmts-body.new.self in
-    then_holds (new ≡ stmts_after (spot_of c.params.new.self) stmts) _ c.stmts-body.result
+    on_ok_weaker {P = new ≡ stmts_after (spot_of c.params.new.self) stmts} c.stmts-body.result
     (λ h. rw (← c.deref.ensures.value, ← c.deref-2.ensures.value)
     (function_place s a (spot_of c.params.new.self) new (map name_tree c.deref.result.now) stmts ea c.in_ok-params.ensures.place h
     (spot_of c.leave.new.self) c.enter-scope.result.count c.enter-scope.result.outer c.enter-scope.ensures.count c.enter-scope.ensures.outer c.leave.ensures.place)) c.stmts-body.ensures.place
