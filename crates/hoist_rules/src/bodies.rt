@@ -50,7 +50,7 @@ impl Hoisting {
         ensures next { self.new.next ≡ self.old.next }
     {
         let body = as_body(self.leave(outer));
-        Ok(self.push(body)?)
+        self.push(body)
     }
 
     /// `while (1) { .. }` around the statements since `enter` handed out `outer`, after those of `outer`.
@@ -62,6 +62,6 @@ impl Hoisting {
         let turn = RawStmt::Block(self.leave(outer));
         let body = Box::new(alloc, turn)?;
         let condition = RawExpr::Number(1);
-        Ok(self.push(RawStmt::While { condition, body })?)
+        self.push(RawStmt::While { condition, body })
     }
 }

@@ -78,7 +78,7 @@ impl Hoisting {
         let alloc = self.alloc;
         let then = Box::new(alloc, block)?;
         match condition_by(alloc, operator, number) {
-            Ok(condition) => Ok(self.push(RawStmt::If { condition, then })?),
+            Ok(condition) => self.push(RawStmt::If { condition, then }),
             Err(error) => {
                 drop(then);
                 Err(error)
@@ -133,7 +133,7 @@ impl Hoisting {
                     then,
                     otherwise,
                 })?;
-                Ok(used(alloc, number)?)
+                used(alloc, number)
             }
             Err(error) => {
                 drop(condition);

@@ -1,5 +1,5 @@
 // Expressions that are built again from their parts, and values that are held while memory may run out.
-ghost use Rattle.std.specs.Prelude.{◌≡◌, IfOk};
+ghost use Rattle.std.specs.Prelude.{◌≡◌, [], ◌∷◌, ◌++◌, Ok, IfOk, MatchResult};
 ghost use Rattle.c_tree.specs.RawTrees.{RawElement, RawParenthesized, RawConditional, RawCall, RawTableCall};
 ghost use Rattle.c_tree.specs.RawViews.{name_tree, raw_expr_tree, raw_expr_trees};
 
@@ -23,6 +23,28 @@ pub(crate) fn named<T: Drop>(alloc: Global, name: &Name, held: T) -> Result<(Nam
 {
     let name = copied(alloc, name)?;
     Ok((name, held))
+}
+
+/// A value that is held, and the next one, if there was room for it.
+pub(crate) fn both<T: Drop, U>(held: T, next: Result<U, AllocError>) -> Result<(T, U), AllocError>
+    ensures held { IfOk result (λ pair. pair.0 ≡ held) }
+    ensures next { IfOk result (λ pair. next ≡ Ok pair.1) }
+{
+    match next {
+        Ok(next) => Ok((held, next)),
+        Err(error) => Err(error),
+    }
+}
+
+/// A list with one more, if there was room for it.
+pub(crate) fn with_next<T: Drop>(
+    mut list: Vec<T>,
+    next: Result<T, AllocError>,
+) -> Result<Vec<T>, AllocError>
+    ensures { IfOk result (λ longer. MatchResult next (λ value. longer.items ≡ list.items ++ (value ∷ [])) (λ _. ⊥)) }
+{
+    list.push(next?)?;
+    Ok(list)
 }
 
 /// Two values in boxes.

@@ -41,7 +41,7 @@ impl Hoisting {
         if !is_named {
             return Ok(part);
         }
-        Ok(self.name_part(part)?)
+        self.name_part(part)
     }
 }
 
@@ -59,15 +59,15 @@ impl Hoisting {
             RawExpr::Name(name) => Ok(RawExpr::Name(copied(alloc, name)?)),
             RawExpr::Element { name, index } => {
                 let index = self.expression(index)?;
-                Ok(element(alloc, name, index)?)
+                element(alloc, name, index)
             }
             RawExpr::Unary { operator, operand } => {
                 let operand = self.expression(operand)?;
-                Ok(unary(alloc, *operator, operand)?)
+                unary(alloc, *operator, operand)
             }
             RawExpr::Parenthesized(inner) => {
                 let inner = self.expression(inner)?;
-                Ok(parenthesized(alloc, inner)?)
+                parenthesized(alloc, inner)
             }
             RawExpr::Chain { first, rest } => {
                 let operand = self.expression(first)?;
@@ -98,7 +98,7 @@ impl Hoisting {
                         }
                     };
                     match self.branch(number, otherwise) {
-                        Ok(second) => Ok(self.choose(number, condition, first, second)?),
+                        Ok(second) => self.choose(number, condition, first, second),
                         Err(error) => {
                             drop(condition);
                             drop(first);
@@ -186,7 +186,7 @@ impl Hoisting {
             let number = self.declare_truth(left)?;
             let outer = self.enter();
             return match self.expression(right) {
-                Ok(value) => Ok(self.decide(outer, operator, number, value)?),
+                Ok(value) => self.decide(outer, operator, number, value),
                 Err(error) => {
                     drop(outer);
                     Err(error)
@@ -212,7 +212,7 @@ impl Hoisting {
     {
         let outer = self.enter();
         match self.expression(e) {
-            Ok(value) => Ok(self.set_in_block(outer, number, value)?),
+            Ok(value) => self.set_in_block(outer, number, value),
             Err(error) => {
                 drop(outer);
                 Err(error)
@@ -239,7 +239,7 @@ impl Hoisting {
         ensures next { OnOk result (self.new.next ≡ part_after self.old.next is_later_call (raw_expr_tree raw.now)) }
     {
         let part = self.expression(raw)?;
-        Ok(self.named_part(part, needs_name(is_later_call, is_left_alone(raw)))?)
+        self.named_part(part, needs_name(is_later_call, is_left_alone(raw)))
     }
 
     /// The arguments of a call, of which the first may stay where it is.
@@ -278,12 +278,12 @@ impl Hoisting {
         ensures next { OnOk result (self.new.next ≡ passed_after stays is_later_call self.old.next (raw_expr_tree raw.now)) }
     {
         if !stays {
-            return Ok(self.part(is_later_call, raw)?);
+            return self.part(is_later_call, raw);
         }
         if holds_call(raw) {
             Ok(RawExpr::Number(0))
         } else {
-            Ok(self.kept(raw)?)
+            self.kept(raw)
         }
     }
 }
@@ -297,6 +297,6 @@ impl Hoisting {
     {
         let alloc = self.alloc;
         let arguments = self.arguments(is_spawn(name), arguments)?;
-        Ok(call_of(alloc, name, arguments)?)
+        call_of(alloc, name, arguments)
     }
 }

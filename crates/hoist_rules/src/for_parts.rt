@@ -4,6 +4,7 @@ ghost use Rattle.c_tree.specs.RawTrees.{RawFor};
 ghost use Rattle.c_tree.specs.RawViews.{raw_expr_tree, raw_simple_tree, raw_stmt_tree};
 ghost use Rattle.c_tree.specs.WholeCalls.{IsSimpleWhole, AreSimplesWhole, IsConditionWhole, IsStepWhole};
 
+use crate::built::with_next;
 use crate::hoisting::Hoisting;
 use c_tree::{RawExpr, RawSimple, RawStmt};
 use std::alloc::AllocError;
@@ -92,7 +93,7 @@ impl Hoisting {
     {
         let mut kept = Vec::new(self.alloc);
         for simple in raw {
-            kept.push(self.kept_simple(simple)?)?;
+            kept = with_next(kept, self.kept_simple(simple))?;
         }
         Ok(kept)
     }

@@ -6,7 +6,7 @@ ghost use Rattle.hoist_parts.specs.Calls.{holds_call, holds_nested, is_named};
 ghost use Rattle.hoist_parts.specs.Expressions.{names_in, part_after, part_or, part_named, left_of, before, index_left, argument_left};
 ghost use Rattle.hoist_parts.specs.Statements.{returned_names, returned_before, returned_left, value_names, value_left, value_before, table_before, simple_names, simple_left, simple_before};
 
-use crate::built::{copied, named, table_call_of};
+use crate::built::{both, copied, table_call_of};
 use crate::hoisting::Hoisting;
 use c_tree::{RawExpr, RawSimple, RawStmt};
 use hoist_parts::{holds_call, holds_nested, is_spawn};
@@ -28,7 +28,7 @@ impl Hoisting {
                 argument,
             } => {
                 let (index, argument) = self.index_and_argument(index, argument)?;
-                Ok(table_call_of(alloc, name, index, argument)?)
+                table_call_of(alloc, name, index, argument)
             }
             RawExpr::Chain { first, rest } => {
                 if rest.is_empty() {
@@ -53,13 +53,7 @@ impl Hoisting {
         ensures next { OnOk result (self.new.next ≡ part_after self.old.next (holds_nested (raw_expr_tree value.now)) (raw_expr_tree index.now) + value_names (raw_expr_tree value.now)) }
     {
         let index = self.part(holds_nested(value), index)?;
-        match self.value(value) {
-            Ok(value) => Ok((index, value)),
-            Err(error) => {
-                drop(index);
-                Err(error)
-            }
-        }
+        both(index, self.value(value))
     }
 
     // Of a table's index and the argument after it.
@@ -74,13 +68,7 @@ impl Hoisting {
         ensures next { OnOk result (self.new.next ≡ part_after self.old.next (holds_call (raw_expr_tree argument.now)) (raw_expr_tree index.now) + names_in (raw_expr_tree argument.now)) }
     {
         let index = self.part(holds_call(argument), index)?;
-        match self.expression(argument) {
-            Ok(argument) => Ok((index, argument)),
-            Err(error) => {
-                drop(index);
-                Err(error)
-            }
-        }
+        both(index, self.expression(argument))
     }
 
     /// What is left of a declaration, an assignment or a call.
@@ -99,37 +87,47 @@ impl Hoisting {
                 words: *words,
             }),
             RawSimple::DeclareWith { name, value } => {
-                let value = self.value(value)?;
-                let (name, value) = named(alloc, name, value)?;
-                Ok(RawSimple::DeclareWith { name, value })
+                let name = copied(alloc, name)?;
+                match both(name, self.value(value)) {
+                    Ok((name, value)) => Ok(RawSimple::DeclareWith { name, value }),
+                    Err(error) => Err(error),
+                }
             }
             RawSimple::Set { name, value } => {
-                let value = self.value(value)?;
-                let (name, value) = named(alloc, name, value)?;
-                Ok(RawSimple::Set { name, value })
+                let name = copied(alloc, name)?;
+                match both(name, self.value(value)) {
+                    Ok((name, value)) => Ok(RawSimple::Set { name, value }),
+                    Err(error) => Err(error),
+                }
             }
             RawSimple::SetElement { name, index, value } => {
-                let (index, value) = self.index_and_value(index, value)?;
-                let (name, (index, value)) = named(alloc, name, (index, value))?;
-                Ok(RawSimple::SetElement { name, index, value })
+                let name = copied(alloc, name)?;
+                match both(name, self.index_and_value(index, value)) {
+                    Ok((name, (index, value))) => Ok(RawSimple::SetElement { name, index, value }),
+                    Err(error) => Err(error),
+                }
             }
             RawSimple::Call { name, arguments } => {
-                let arguments = self.arguments(is_spawn(name), arguments)?;
-                let (name, arguments) = named(alloc, name, arguments)?;
-                Ok(RawSimple::Call { name, arguments })
+                let called = copied(alloc, name)?;
+                match both(called, self.arguments(is_spawn(name), arguments)) {
+                    Ok((name, arguments)) => Ok(RawSimple::Call { name, arguments }),
+                    Err(error) => Err(error),
+                }
             }
             RawSimple::TableCall {
                 name,
                 index,
                 argument,
             } => {
-                let (index, argument) = self.index_and_argument(index, argument)?;
-                let (name, (index, argument)) = named(alloc, name, (index, argument))?;
-                Ok(RawSimple::TableCall {
-                    name,
-                    index,
-                    argument,
-                })
+                let name = copied(alloc, name)?;
+                match both(name, self.index_and_argument(index, argument)) {
+                    Ok((name, (index, argument))) => Ok(RawSimple::TableCall {
+                        name,
+                        index,
+                        argument,
+                    }),
+                    Err(error) => Err(error),
+                }
             }
         }
     }

@@ -24,17 +24,17 @@ impl Hoisting {
         match raw {
             RawStmt::Simple(simple) => {
                 let simple = self.simple(simple)?;
-                Ok(self.push(RawStmt::Simple(simple))?)
+                self.push(RawStmt::Simple(simple))
             }
-            RawStmt::Empty => Ok(self.push(RawStmt::Empty)?),
+            RawStmt::Empty => self.push(RawStmt::Empty),
             RawStmt::Block(stmts) => {
                 let stmts = self.block(stmts)?;
-                Ok(self.push(RawStmt::Block(stmts))?)
+                self.push(RawStmt::Block(stmts))
             }
             RawStmt::If { condition, then } => {
                 let condition = self.expression(condition)?;
                 match self.body(then) {
-                    Ok(then) => Ok(self.push(RawStmt::If { condition, then })?),
+                    Ok(then) => self.push(RawStmt::If { condition, then }),
                     Err(error) => {
                         drop(condition);
                         Err(error)
@@ -55,11 +55,11 @@ impl Hoisting {
                     }
                 };
                 match self.body(otherwise) {
-                    Ok(otherwise) => Ok(self.push(RawStmt::IfElse {
+                    Ok(otherwise) => self.push(RawStmt::IfElse {
                         condition,
                         then,
                         otherwise,
-                    })?),
+                    }),
                     Err(error) => {
                         drop(condition);
                         drop(then);
@@ -69,9 +69,9 @@ impl Hoisting {
             }
             RawStmt::While { condition, body } => {
                 if holds_call(condition) {
-                    Ok(self.while_calling(body, condition)?)
+                    self.while_calling(body, condition)
                 } else {
-                    Ok(self.while_loop(body, condition)?)
+                    self.while_loop(body, condition)
                 }
             }
             RawStmt::For {
@@ -82,18 +82,18 @@ impl Hoisting {
             } => {
                 let parts = self.kept_parts(init, condition, step)?;
                 match self.body(body) {
-                    Ok(body) => Ok(self.push(parts.with(body))?),
+                    Ok(body) => self.push(parts.with(body)),
                     Err(error) => {
                         drop(parts);
                         Err(error)
                     }
                 }
             }
-            RawStmt::Break { at } => Ok(self.push(RawStmt::Break { at: *at })?),
-            RawStmt::Continue { at } => Ok(self.push(RawStmt::Continue { at: *at })?),
+            RawStmt::Break { at } => self.push(RawStmt::Break { at: *at }),
+            RawStmt::Continue { at } => self.push(RawStmt::Continue { at: *at }),
             RawStmt::Return { at, value } => {
                 let returned = self.returned(*at, value)?;
-                Ok(self.push(returned)?)
+                self.push(returned)
             }
         }
     }
@@ -129,7 +129,7 @@ impl Hoisting {
     {
         let outer = self.enter();
         match self.statement(raw) {
-            Ok(()) => Ok(self.leave_body(outer)?),
+            Ok(()) => self.leave_body(outer),
             Err(error) => {
                 drop(outer);
                 Err(error)
@@ -165,7 +165,7 @@ impl Hoisting {
     {
         let outer = self.enter();
         match self.turn(body, condition) {
-            Ok(()) => Ok(self.push_loop(outer)?),
+            Ok(()) => self.push_loop(outer),
             Err(error) => {
                 drop(outer);
                 Err(error)
@@ -186,7 +186,7 @@ impl Hoisting {
         self.push(test)?;
         let outer = self.enter();
         match self.statement(body) {
-            Ok(()) => Ok(self.push_body(outer)?),
+            Ok(()) => self.push_body(outer),
             Err(error) => {
                 drop(outer);
                 Err(error)

@@ -1,9 +1,11 @@
 -- Operators one after another, against the tree that leans to the left.
-use Rattle.std.proofs.Common.{◌≡◌, refl, sym, ap, ◌∙◌, List, [], ◌∷◌, ◌++◌, map, Option}
+use Rattle.std.proofs.Common.{◌≡◌, refl, sym, ap, ◌∙◌, List, [], ◌∷◌, ◌++◌, map, Option, Result, Ok, Err}
+use Rattle.std.specs.Prelude.{IfOk, MatchResult}
 use Rattle.c_tree.specs.declared.operators.Infix.{Infix}
 use Rattle.c_tree.specs.declared.expressions.Expr.{Expr}
 use Rattle.c_tree.specs.declared.raw_expressions.RawExpr.{RawExpr}
 use Rattle.c_tree.specs.RawTrees.{RawExprTree}
+use Rattle.c_tree.specs.Trees.{ExprTree}
 use Rattle.c_tree.specs.RawViews.{raw_joined, raw_chained, raw_expr_tree}
 use Rattle.c_tree.specs.Views.{joined, chained, expr_tree}
 use Rattle.c_tree.proofs.RawExprEquations.{raw_operand_tree}
@@ -45,3 +47,12 @@ chain_faults names o l (p ∷ ps) =
     ∙ (ap (λ x. least_of (least_of o x) (operands_faults names ps)) (joined_faults names l p.0 r)
     ∙ (ap (λ x. least_of x (operands_faults names ps)) (least_of_append o (expr_faults names l) (expr_faults names r))
     ∙ sym (least_of_append (least_of o (expr_faults names l)) (expr_faults names r) (operands_faults names ps))))
+
+-- an operand that was put behind others, with its operator
+pub operand_pushed : {E : Type 0} (r : Result Expr E) (b : Result (Infix × Expr) E) (ps qs : List (Infix × Expr)) (o : Infix) (e : ExprTree)
+    → MatchResult b (λ p. qs ≡ ps ++ (p ∷ [])) (λ _. ⊥) → IfOk b (λ p. p.0 ≡ o) → IfOk b (λ p. r ≡ Ok p.1) → IfOk r (λ x. expr_tree x ≡ e)
+    → operand_trees qs ≡ operand_trees ps ++ ((o, e) ∷ [])
+operand_pushed r (Ok (o1, x)) ps qs o e m h k t =
+    let x1 : expr_tree x ≡ e = rw k at t in
+    rw (m, operand_trees_push ps o1 x, h, x1) refl
+operand_pushed r (Err x) ps qs o e m h k t = absurd m

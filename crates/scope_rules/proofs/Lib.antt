@@ -33,3 +33,4 @@ pub mod OneOutcome
 pub mod MappedLists
 pub mod NumberedLists
 pub mod Made
+pub mod HeldValues

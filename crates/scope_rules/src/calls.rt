@@ -2,15 +2,16 @@
 
 ghost use Rattle.std.specs.Prelude.{◌≡◌, ◌∷◌, List, IfOk, OnOk, map};
 ghost use Rattle.c_tree.specs.RawViews.{name_tree, raw_expr_tree};
-ghost use Rattle.c_tree.specs.Views.{call_tree, right_tree};
+ghost use Rattle.c_tree.specs.Views.{call_tree, expr_tree, right_tree};
 ghost use Rattle.scope_rules.specs.Names.{find};
 ghost use Rattle.scope_rules.specs.Faults.{least_of};
-ghost use Rattle.scope_rules.specs.Calls.{call_name_faults, table_name_faults, spawned_faults, spawn_faults, call_faults, table_call_faults, right_faults, spawned_function, spawn_of, call_of, table_call_of, right_of, right_after, next};
+ghost use Rattle.scope_rules.specs.Calls.{call_name_faults, table_name_faults, spawned_faults, spawn_faults, call_faults, table_call_faults, right_faults, spawned_function, first_value, spawn_of, call_of, table_call_of, right_of, right_after, next};
 ghost use Rattle.scope_rules.specs.Places.{spot_of, called};
 
 use crate::expressions::{expr, exprs, then_expr};
 use crate::faults::{Fault, Rule, note, note_if};
 use crate::forms::{Form, form_of};
+use crate::held::both;
 use crate::meanings::{Callee, Found, callee_of, function_of, table_of};
 use crate::names::Names;
 use crate::places::Place;
@@ -76,10 +77,28 @@ fn spawned(
         }
         Form::Call(..) | Form::TableCall(..) | Form::Neither => {
             note(least, at, Rule::Kind);
-            drop(expr(alloc, names, least, raw)?);
-            Ok(0)
+            match expr(alloc, names, least, raw) {
+                Ok(unused) => {
+                    drop(unused);
+                    Ok(0)
+                }
+                Err(error) => Err(error),
+            }
         }
     }
+}
+
+// The first of the values, or the number 0 where there is none.
+fn first_value(mut values: Vec<Expr>) -> Expr
+    ensures { expr_tree result ≡ first_value (map expr_tree values.items) }
+{
+    let first = if values.is_empty() {
+        Expr::Number(0)
+    } else {
+        values.remove(0)
+    };
+    drop(values);
+    first
 }
 
 // A call of `spawn`, which stands at `at`.
@@ -102,17 +121,14 @@ fn spawn(
         }),
         Some((first, rest)) => {
             let function = spawned(alloc, names, least, at, first)?;
-            let mut values = exprs(alloc, names, least, rest)?;
-            let argument = if values.is_empty() {
-                Expr::Number(0)
-            } else {
-                values.remove(0)
-            };
-            Ok(Call::Spawn {
-                site,
-                function,
-                argument,
-            })
+            match exprs(alloc, names, least, rest) {
+                Ok(values) => Ok(Call::Spawn {
+                    site,
+                    function,
+                    argument: first_value(values),
+                }),
+                Err(error) => Err(error),
+            }
         }
     }
 }
@@ -144,16 +160,26 @@ impl<'a> Place<'a> {
         let found = self.names.find(&name.text);
         check_call_name(&mut self.least, used, found, name.at, arguments.len());
         match callee_of(found) {
-            Callee::Function(function) => Ok(Call::Function {
-                site,
-                function,
-                arguments: exprs(alloc, &self.names, &mut self.least, arguments)?,
-            }),
-            Callee::Modelled(call) => Ok(Call::Modelled {
-                site,
-                call,
-                arguments: exprs(alloc, &self.names, &mut self.least, arguments)?,
-            }),
+            Callee::Function(function) => {
+                match exprs(alloc, &self.names, &mut self.least, arguments) {
+                    Ok(arguments) => Ok(Call::Function {
+                        site,
+                        function,
+                        arguments,
+                    }),
+                    Err(error) => Err(error),
+                }
+            }
+            Callee::Modelled(call) => {
+                match exprs(alloc, &self.names, &mut self.least, arguments) {
+                    Ok(arguments) => Ok(Call::Modelled {
+                        site,
+                        call,
+                        arguments,
+                    }),
+                    Err(error) => Err(error),
+                }
+            }
             Callee::Spawn => {
                 spawn(
                     alloc,
@@ -183,13 +209,15 @@ impl<'a> Place<'a> {
         let found = self.names.find(&name.text);
         check_table_name(&mut self.least, found, name.at);
         let index = expr(alloc, &self.names, &mut self.least, index)?;
-        let (index, argument) = then_expr(index, alloc, &self.names, &mut self.least, argument)?;
-        Ok(Call::Table {
-            site,
-            table: table_of(found),
-            index,
-            argument,
-        })
+        match then_expr(index, alloc, &self.names, &mut self.least, argument) {
+            Ok((index, argument)) => Ok(Call::Table {
+                site,
+                table: table_of(found),
+                index,
+                argument,
+            }),
+            Err(error) => Err(error),
+        }
     }
 
     /// A right side or a returned value.
@@ -199,18 +227,22 @@ impl<'a> Place<'a> {
         ensures faults { OnOk result (self.new.least ≡ least_of self.old.least (right_faults self.old.names (raw_expr_tree raw.now))) }
     {
         match form_of(raw) {
-            Form::Call(name, arguments) => {
-                Ok(RightSide::Call(self.call(true, name, arguments)?))
-            }
+            Form::Call(name, arguments) => match self.call(true, name, arguments) {
+                Ok(call) => Ok(RightSide::Call(call)),
+                Err(error) => Err(error),
+            },
             Form::TableCall(name, index, argument) => {
-                Ok(RightSide::Call(self.table_call(name, index, argument)?))
+                match self.table_call(name, index, argument) {
+                    Ok(call) => Ok(RightSide::Call(call)),
+                    Err(error) => Err(error),
+                }
             }
-            Form::Name(_) | Form::Neither => Ok(RightSide::Expr(expr(
-                self.alloc,
-                &self.names,
-                &mut self.least,
-                raw,
-            )?)),
+            Form::Name(_) | Form::Neither => {
+                match expr(self.alloc, &self.names, &mut self.least, raw) {
+                    Ok(value) => Ok(RightSide::Expr(value)),
+                    Err(error) => Err(error),
+                }
+            }
         }
     }
 
@@ -225,7 +257,6 @@ impl<'a> Place<'a> {
         ensures place { OnOk result (spot_of self.new ≡ record (spot_of self.old) { site = right_after self.old.site (raw_expr_tree raw.now) }) }
         ensures faults { OnOk result (self.new.least ≡ least_of self.old.least (right_faults self.old.names (raw_expr_tree raw.now))) }
     {
-        let value = self.right(raw)?;
-        Ok((before, value))
+        both(before, self.right(raw))
     }
 }

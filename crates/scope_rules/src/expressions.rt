@@ -6,10 +6,11 @@ ghost use Rattle.c_tree.specs.Views.{expr_tree};
 ghost use Rattle.scope_rules.specs.Names.{find};
 ghost use Rattle.scope_rules.specs.Faults.{least_of};
 ghost use Rattle.scope_rules.specs.Meanings.{variable_of};
-ghost use Rattle.scope_rules.specs.Expressions.{scalar_faults, array_faults, expr_faults, exprs_faults, expr_of, exprs_of};
+ghost use Rattle.scope_rules.specs.Expressions.{scalar_faults, array_faults, expr_faults, exprs_faults, scalar_value, element_value, expr_of, exprs_of};
 ghost use Rattle.scope_rules.specs.Operands.{operand_trees, operands_of, operands_faults};
 
 use crate::faults::{Fault, Rule, note, note_if};
+use crate::held::{both, boxed, with_next};
 use crate::meanings::{Variable, variable_of};
 use crate::names::Names;
 use c_tree::{Expr, Infix, Name, RawExpr};
@@ -41,6 +42,26 @@ pub fn array(names: &Names, least: &mut Option<Fault>, name: &Name) -> Variable
     variable_of(found)
 }
 
+// The value of a variable or a global of one word.
+fn scalar_value(scalar: Variable) -> Expr
+    ensures { expr_tree result ≡ scalar_value scalar }
+{
+    match scalar {
+        Variable::Local(variable) => Expr::Local(variable),
+        Variable::Global(global) => Expr::Global(global),
+    }
+}
+
+// The value of a word of an array.
+fn element_value(array: Variable, index: Box<Expr>) -> Expr
+    ensures { expr_tree result ≡ element_value array (expr_tree index.value) }
+{
+    match array {
+        Variable::Local(array) => Expr::LocalElement { array, index },
+        Variable::Global(array) => Expr::GlobalElement { array, index },
+    }
+}
+
 /// An expression, with numbers for names.
 #[cycle(expressions)]
 pub fn expr(
@@ -54,49 +75,49 @@ pub fn expr(
 {
     match raw {
         RawExpr::Number(value) => Ok(Expr::Number(*value)),
-        RawExpr::Name(name) => {
-            match scalar(names, least, name) {
-                Variable::Local(variable) => Ok(Expr::Local(variable)),
-                Variable::Global(global) => Ok(Expr::Global(global)),
-            }
-        }
+        RawExpr::Name(name) => Ok(scalar_value(scalar(names, least, name))),
         RawExpr::Element { name, index } => {
             let array = array(names, least, name);
-            let index = boxed(alloc, names, least, index)?;
-            match array {
-                Variable::Local(array) => Ok(Expr::LocalElement { array, index }),
-                Variable::Global(array) => Ok(Expr::GlobalElement { array, index }),
+            match boxed_expr(alloc, names, least, index) {
+                Ok(index) => Ok(element_value(array, index)),
+                Err(error) => Err(error),
             }
         }
         RawExpr::Unary { operator, operand } => {
-            let operand = boxed(alloc, names, least, operand)?;
-            Ok(Expr::Unary {
-                operator: *operator,
-                operand,
-            })
+            match boxed_expr(alloc, names, least, operand) {
+                Ok(operand) => Ok(Expr::Unary {
+                    operator: *operator,
+                    operand,
+                }),
+                Err(error) => Err(error),
+            }
         }
-        RawExpr::Parenthesized(inner) => {
-            let inner = boxed(alloc, names, least, inner)?;
-            Ok(Expr::Parenthesized(inner))
-        }
+        RawExpr::Parenthesized(inner) => match boxed_expr(alloc, names, least, inner) {
+            Ok(inner) => Ok(Expr::Parenthesized(inner)),
+            Err(error) => Err(error),
+        },
         RawExpr::Chain { first, rest } => {
-            let first = boxed(alloc, names, least, first)?;
-            let rest = operands(alloc, names, least, rest)?;
-            Ok(Expr::Chain { first, rest })
+            let first = boxed_expr(alloc, names, least, first)?;
+            match both(first, operands(alloc, names, least, rest)) {
+                Ok((first, rest)) => Ok(Expr::Chain { first, rest }),
+                Err(error) => Err(error),
+            }
         }
         RawExpr::Conditional {
             condition,
             then,
             otherwise,
         } => {
-            let condition = boxed(alloc, names, least, condition)?;
-            let then = boxed(alloc, names, least, then)?;
-            let otherwise = boxed(alloc, names, least, otherwise)?;
-            Ok(Expr::Conditional {
-                condition,
-                then,
-                otherwise,
-            })
+            let condition = boxed_expr(alloc, names, least, condition)?;
+            let before = both(condition, boxed_expr(alloc, names, least, then))?;
+            match both(before, boxed_expr(alloc, names, least, otherwise)) {
+                Ok(((condition, then), otherwise)) => Ok(Expr::Conditional {
+                    condition,
+                    then,
+                    otherwise,
+                }),
+                Err(error) => Err(error),
+            }
         }
         RawExpr::Call { .. } | RawExpr::TableCall { .. } => Ok(Expr::Number(0)),
     }
@@ -104,7 +125,7 @@ pub fn expr(
 
 // An expression in a box.
 #[cycle(expressions)]
-fn boxed(
+fn boxed_expr(
     alloc: Global,
     names: &Names,
     least: &mut Option<Fault>,
@@ -113,7 +134,7 @@ fn boxed(
     ensures tree { IfOk result (λ e. expr_tree e.value ≡ expr_of names.now (raw_expr_tree raw.now)) }
     ensures faults { OnOk result (least.new ≡ least_of least.old (expr_faults names.now (raw_expr_tree raw.now))) }
 {
-    Ok(Box::new(alloc, expr(alloc, names, least, raw)?)?)
+    boxed(alloc, expr(alloc, names, least, raw))
 }
 
 // The operators after the first operand of a chain, with their operands.
@@ -129,7 +150,8 @@ fn operands(
 {
     let mut operands = Vec::new(alloc);
     for (operator, operand) in rest {
-        operands.push((*operator, expr(alloc, names, least, operand)?))?;
+        let next = both(*operator, expr(alloc, names, least, operand));
+        operands = with_next(operands, next)?;
     }
     Ok(operands)
 }
@@ -146,8 +168,7 @@ pub fn then_expr<T: Drop>(
     ensures tree { IfOk result (λ p. expr_tree p.1 ≡ expr_of names.now (raw_expr_tree raw.now)) }
     ensures faults { OnOk result (least.new ≡ least_of least.old (expr_faults names.now (raw_expr_tree raw.now))) }
 {
-    let value = expr(alloc, names, least, raw)?;
-    Ok((before, value))
+    both(before, expr(alloc, names, least, raw))
 }
 
 /// Arguments, with numbers for names.
@@ -162,7 +183,7 @@ pub fn exprs(
 {
     let mut exprs = Vec::new(alloc);
     for argument in raw {
-        exprs.push(expr(alloc, names, least, argument)?)?;
+        exprs = with_next(exprs, expr(alloc, names, least, argument))?;
     }
     Ok(exprs)
 }

@@ -13,6 +13,7 @@ ghost use Rattle.scope_rules.specs.Items.{outer_faults, differ, repeated_faults,
 ghost use Rattle.scope_rules.specs.ItemViews.{sofar_of, IsCounted};
 
 use crate::faults::{Fault, Rule, note, note_if};
+use crate::held::both;
 use crate::limits::{declared_words, larger};
 use crate::meanings::{Found, Meaning, function_of};
 use crate::names::Names;
@@ -237,9 +238,9 @@ impl<'a> Place<'a> {
         self.sizes.clear();
         let scope = self.enter();
         self.params(&raw.params)?;
-        let body = self.stmts(raw.gives, false, &raw.body)?;
+        let body = self.stmts(raw.gives, false, &raw.body);
         self.leave(scope);
-        Ok(body)
+        body
     }
 }
 
@@ -423,11 +424,12 @@ impl<'a> Items<'a> {
             defined: true,
         };
         bind(&mut self.place.names, &name.text, meaning)?;
-        let body = self.place.function_body(raw)?;
+        let text = Vec::from_slice(alloc, &name.text)?;
+        let (text, body) = both(text, self.place.function_body(raw))?;
         let sizes = mem::replace(&mut self.place.sizes, Vec::new(alloc));
         self.locals = larger(self.locals, declared_words(&sizes, params));
         self.functions.push(Function {
-            name: Vec::from_slice(alloc, &name.text)?,
+            name: text,
             params: number(params),
             gives: raw.gives,
             sizes,

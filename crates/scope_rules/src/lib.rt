@@ -14,6 +14,7 @@ mod errors;
 mod expressions;
 mod faults;
 mod forms;
+mod held;
 mod items;
 mod limits;
 mod meanings;

@@ -1,21 +1,22 @@
 // Declarations, assignments and calls.
 
 ghost use Rattle.std.specs.Prelude.{◌≡◌, ◌∷◌, IfOk, OnOk, map, false, if◌then◌else◌};
-ghost use Rattle.c_tree.specs.RawTrees.{RawDeclareWith};
+ghost use Rattle.c_tree.specs.RawTrees.{RawDeclareWith, RawSetElement};
 ghost use Rattle.c_tree.specs.RawViews.{name_tree, raw_expr_tree, raw_simple_tree};
-ghost use Rattle.c_tree.specs.Views.{simple_tree};
+ghost use Rattle.c_tree.specs.Views.{expr_tree, right_tree, simple_tree};
 ghost use Rattle.c_tree.specs.Temporaries.{capped};
 ghost use Rattle.scope_rules.specs.Names.{find};
 ghost use Rattle.scope_rules.specs.Faults.{least_of};
 ghost use Rattle.scope_rules.specs.Places.{spot_of};
-ghost use Rattle.scope_rules.specs.Simples.{declared_faults, declare_faults, size_faults, bound, is_fixed, next_variable, with_variable, simple_faults, simple_of, simple_after, simples_faults, simples_of, simples_after};
+ghost use Rattle.scope_rules.specs.Simples.{declared_faults, declare_faults, size_faults, bound, is_fixed, next_variable, with_variable, set_scalar, set_element, simple_faults, simple_of, simple_after, simples_faults, simples_of, simples_after};
 
 use crate::expressions::{array, expr, scalar};
 use crate::faults::{Fault, Rule, note_if};
+use crate::held::{both, with_next};
 use crate::meanings::{Found, Meaning, Variable};
 use crate::names::Names;
 use crate::places::Place;
-use c_tree::{Name, RawExpr, RawSimple, Simple};
+use c_tree::{Expr, Name, RawExpr, RawSimple, RightSide, Simple};
 use std::alloc::AllocError;
 
 /// What is wrong with the declaration of a name that is this already.
@@ -54,6 +55,34 @@ pub fn number(count: usize) -> u32
     if count < 65_537 { count as u32 } else { 65_537 }
 }
 
+// An assignment to a variable or a global of one word.
+fn scalar_set(scalar: Variable, value: RightSide) -> Simple
+    ensures { simple_tree result ≡ set_scalar scalar (right_tree value) }
+{
+    match scalar {
+        Variable::Local(variable) => Simple::SetLocal { variable, value },
+        Variable::Global(global) => Simple::SetGlobal { global, value },
+    }
+}
+
+// An assignment to a word of an array.
+fn element_set(array: Variable, index: Expr, value: RightSide) -> Simple
+    ensures { simple_tree result ≡ set_element array (expr_tree index) (right_tree value) }
+{
+    match array {
+        Variable::Local(array) => Simple::SetLocalElement {
+            array,
+            index,
+            value,
+        },
+        Variable::Global(array) => Simple::SetGlobalElement {
+            array,
+            index,
+            value,
+        },
+    }
+}
+
 impl<'a> Place<'a> {
     // Declares a variable of so many words, and gives its number.
     pub fn declare(&mut self, name: &'a Name, array: bool, words: u32) -> Result<u32, AllocError>
@@ -78,8 +107,7 @@ impl<'a> Place<'a> {
         ensures place { OnOk result (spot_of self.new ≡ with_variable (spot_of self.old) (name_tree name.now) false 1) }
         ensures faults { self.new.least ≡ self.old.least }
     {
-        let variable = self.declare(name, false, 1)?;
-        Ok((before, variable))
+        both(before, self.declare(name, false, 1))
     }
 
     // What is wrong with a name that is declared here.
@@ -99,8 +127,29 @@ impl<'a> Place<'a> {
     {
         self.check_declare(name);
         let value = self.right(initial)?;
-        let (value, variable) = self.then_declare(value, name)?;
-        Ok(Simple::DeclareWith { variable, value })
+        match self.then_declare(value, name) {
+            Ok((value, variable)) => Ok(Simple::DeclareWith { variable, value }),
+            Err(error) => Err(error),
+        }
+    }
+
+    // An assignment to a word of an array.
+    fn set_element(
+        &mut self,
+        name: &Name,
+        index: &RawExpr,
+        value: &RawExpr,
+    ) -> Result<Simple, AllocError>
+        ensures tree { IfOk result (λ s. simple_tree s ≡ simple_of (spot_of self.old) (RawSetElement (name_tree name.now) (raw_expr_tree index.now) (raw_expr_tree value.now))) }
+        ensures place { OnOk result (spot_of self.new ≡ simple_after (spot_of self.old) (RawSetElement (name_tree name.now) (raw_expr_tree index.now) (raw_expr_tree value.now))) }
+        ensures faults { OnOk result (self.new.least ≡ least_of self.old.least (simple_faults (spot_of self.old) (RawSetElement (name_tree name.now) (raw_expr_tree index.now) (raw_expr_tree value.now)))) }
+    {
+        let array = array(&self.names, &mut self.least, name);
+        let index = expr(self.alloc, &self.names, &mut self.least, index)?;
+        match self.then_right(index, value) {
+            Ok((index, value)) => Ok(element_set(array, index, value)),
+            Err(error) => Err(error),
+        }
     }
 
     /// A declaration of one name, an assignment, or a call.
@@ -112,52 +161,43 @@ impl<'a> Place<'a> {
         match raw {
             RawSimple::DeclareScalar { name } => {
                 self.check_declare(name);
-                Ok(Simple::DeclareScalar {
-                    variable: self.declare(name, false, 1)?,
-                })
+                match self.declare(name, false, 1) {
+                    Ok(variable) => Ok(Simple::DeclareScalar { variable }),
+                    Err(error) => Err(error),
+                }
             }
             RawSimple::DeclareArray { name, words } => {
                 self.check_declare(name);
                 check_size(&mut self.least, name, *words);
-                Ok(Simple::DeclareArray {
-                    variable: self.declare(name, true, *words)?,
-                    words: *words,
-                })
+                match self.declare(name, true, *words) {
+                    Ok(variable) => Ok(Simple::DeclareArray {
+                        variable,
+                        words: *words,
+                    }),
+                    Err(error) => Err(error),
+                }
             }
             RawSimple::DeclareWith { name, value } => self.declare_with(name, value),
             RawSimple::Set { name, value } => {
                 let variable = scalar(&self.names, &mut self.least, name);
-                let value = self.right(value)?;
-                match variable {
-                    Variable::Local(variable) => Ok(Simple::SetLocal { variable, value }),
-                    Variable::Global(global) => Ok(Simple::SetGlobal { global, value }),
+                match self.right(value) {
+                    Ok(value) => Ok(scalar_set(variable, value)),
+                    Err(error) => Err(error),
                 }
             }
-            RawSimple::SetElement { name, index, value } => {
-                let array = array(&self.names, &mut self.least, name);
-                let index = expr(self.alloc, &self.names, &mut self.least, index)?;
-                let (index, value) = self.then_right(index, value)?;
-                match array {
-                    Variable::Local(array) => Ok(Simple::SetLocalElement {
-                        array,
-                        index,
-                        value,
-                    }),
-                    Variable::Global(array) => Ok(Simple::SetGlobalElement {
-                        array,
-                        index,
-                        value,
-                    }),
-                }
-            }
-            RawSimple::Call { name, arguments } => {
-                Ok(Simple::Call(self.call(false, name, arguments)?))
-            }
+            RawSimple::SetElement { name, index, value } => self.set_element(name, index, value),
+            RawSimple::Call { name, arguments } => match self.call(false, name, arguments) {
+                Ok(call) => Ok(Simple::Call(call)),
+                Err(error) => Err(error),
+            },
             RawSimple::TableCall {
                 name,
                 index,
                 argument,
-            } => Ok(Simple::Call(self.table_call(name, index, argument)?)),
+            } => match self.table_call(name, index, argument) {
+                Ok(call) => Ok(Simple::Call(call)),
+                Err(error) => Err(error),
+            },
         }
     }
 
@@ -169,7 +209,7 @@ impl<'a> Place<'a> {
     {
         let mut simples = Vec::new(self.alloc);
         for simple in raw {
-            simples.push(self.simple(simple)?)?;
+            simples = with_next(simples, self.simple(simple))?;
         }
         Ok(simples)
     }

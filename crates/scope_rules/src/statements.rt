@@ -1,6 +1,6 @@
 // Statements and the scopes in them.
 
-ghost use Rattle.std.specs.Prelude.{◌≡◌, ◌∷◌, ◌++◌, ◌-◌, Ok, IfOk, OnOk, map, option_map, length, drop};
+ghost use Rattle.std.specs.Prelude.{◌≡◌, ◌∷◌, ◌++◌, ◌-◌, IfOk, OnOk, map, option_map, length, drop};
 ghost use Rattle.c_tree.specs.RawViews.{raw_expr_tree, raw_simple_tree, raw_stmt_tree, raw_stmt_trees};
 ghost use Rattle.c_tree.specs.Views.{expr_tree, right_tree, simple_tree, stmt_tree, stmt_trees};
 ghost use Rattle.scope_rules.specs.Faults.{least_of};
@@ -11,6 +11,7 @@ ghost use Rattle.scope_rules.specs.Statements.{inside, left, condition_faults, s
 
 use crate::expressions::expr;
 use crate::faults::{Fault, Rule, note, note_if};
+use crate::held::{both, boxed, with_next};
 use crate::places::Place;
 use c_tree::{Expr, RawExpr, RawSimple, RawStmt, RightSide, Simple, Stmt};
 use std::alloc::AllocError;
@@ -30,17 +31,6 @@ fn check_step(least: &mut Option<Fault>, raw: &RawSimple)
     }
 }
 
-// What was made before, and the next, if there was room for it.
-fn both<T: Drop, U>(before: T, next: Result<U, AllocError>) -> Result<(T, U), AllocError>
-    ensures before { IfOk result (λ p. p.0 ≡ before) }
-    ensures next { IfOk result (λ p. next ≡ Ok p.1) }
-{
-    match next {
-        Ok(next) => Ok((before, next)),
-        Err(error) => Err(error),
-    }
-}
-
 impl<'a> Place<'a> {
     // The condition of a `for`.
     fn condition(&mut self, raw: &Option<RawExpr>) -> Result<Option<Expr>, AllocError>
@@ -50,7 +40,10 @@ impl<'a> Place<'a> {
     {
         match raw {
             None => Ok(None),
-            Some(raw) => Ok(Some(expr(self.alloc, &self.names, &mut self.least, raw)?)),
+            Some(raw) => match expr(self.alloc, &self.names, &mut self.least, raw) {
+                Ok(condition) => Ok(Some(condition)),
+                Err(error) => Err(error),
+            },
         }
     }
 
@@ -64,7 +57,10 @@ impl<'a> Place<'a> {
             None => Ok(None),
             Some(raw) => {
                 check_step(&mut self.least, raw);
-                Ok(Some(self.simple(raw)?))
+                match self.simple(raw) {
+                    Ok(step) => Ok(Some(step)),
+                    Err(error) => Err(error),
+                }
             }
         }
     }
@@ -80,8 +76,7 @@ impl<'a> Place<'a> {
         ensures place { OnOk result (spot_of self.new ≡ step_after (spot_of self.old) (option_map raw_simple_tree raw.now)) }
         ensures faults { OnOk result (self.new.least ≡ least_of self.old.least (step_faults (spot_of self.old) (option_map raw_simple_tree raw.now))) }
     {
-        let step = self.step(raw)?;
-        Ok((before, step))
+        both(before, self.step(raw))
     }
 
     // What a function that gives a result or not returns at `at`.
@@ -102,7 +97,10 @@ impl<'a> Place<'a> {
             }
             Some(raw) => {
                 note_if(&mut self.least, !gives, at, Rule::Kind);
-                Ok(Some(self.right(raw)?))
+                match self.right(raw) {
+                    Ok(value) => Ok(Some(value)),
+                    Err(error) => Err(error),
+                }
             }
         }
     }
@@ -146,30 +144,39 @@ impl<'a> Place<'a> {
         ensures faults { OnOk result (self.new.least ≡ least_of self.old.least (stmt_faults gives loops (spot_of self.old) (raw_stmt_tree raw.now))) }
     {
         match raw {
-            RawStmt::Simple(simple) => Ok(Stmt::Simple(self.simple(simple)?)),
+            RawStmt::Simple(simple) => match self.simple(simple) {
+                Ok(simple) => Ok(Stmt::Simple(simple)),
+                Err(error) => Err(error),
+            },
             RawStmt::Empty => Ok(Stmt::Empty),
-            RawStmt::Block(stmts) => Ok(Stmt::Block(self.block(gives, loops, stmts)?)),
-            RawStmt::If { condition, then } => {
-                let (condition, then) = self.guarded(gives, loops, then, condition)?;
-                Ok(Stmt::If { condition, then })
-            }
+            RawStmt::Block(stmts) => match self.block(gives, loops, stmts) {
+                Ok(stmts) => Ok(Stmt::Block(stmts)),
+                Err(error) => Err(error),
+            },
+            RawStmt::If { condition, then } => match self.guarded(gives, loops, then, condition) {
+                Ok((condition, then)) => Ok(Stmt::If { condition, then }),
+                Err(error) => Err(error),
+            },
             RawStmt::IfElse {
                 condition,
                 then,
                 otherwise,
             } => {
                 let before = self.guarded(gives, loops, then, condition)?;
-                let otherwise = self.body(gives, loops, otherwise);
-                let ((condition, then), otherwise) = both(before, otherwise)?;
-                Ok(Stmt::IfElse {
-                    condition,
-                    then,
-                    otherwise,
-                })
+                match both(before, self.body(gives, loops, otherwise)) {
+                    Ok(((condition, then), otherwise)) => Ok(Stmt::IfElse {
+                        condition,
+                        then,
+                        otherwise,
+                    }),
+                    Err(error) => Err(error),
+                }
             }
             RawStmt::While { condition, body } => {
-                let (condition, body) = self.guarded(gives, true, body, condition)?;
-                Ok(Stmt::While { condition, body })
+                match self.guarded(gives, true, body, condition) {
+                    Ok((condition, body)) => Ok(Stmt::While { condition, body }),
+                    Err(error) => Err(error),
+                }
             }
             RawStmt::For {
                 init,
@@ -179,17 +186,19 @@ impl<'a> Place<'a> {
             } => {
                 let scope = self.enter();
                 let init = self.simples(init)?;
-                let condition = self.condition(condition)?;
-                let (condition, step) = self.then_step(condition, step)?;
-                let body = self.body(gives, true, body);
-                let ((condition, step), body) = both((condition, step), body)?;
+                let before = both(init, self.condition(condition))?;
+                let before = self.then_step(before, step)?;
+                let made = both(before, self.body(gives, true, body));
                 self.leave(scope);
-                Ok(Stmt::For {
-                    init,
-                    condition,
-                    step,
-                    body,
-                })
+                match made {
+                    Ok((((init, condition), step), body)) => Ok(Stmt::For {
+                        init,
+                        condition,
+                        step,
+                        body,
+                    }),
+                    Err(error) => Err(error),
+                }
             }
             RawStmt::Break { at } => {
                 note_if(&mut self.least, !loops, *at, Rule::Kind);
@@ -199,7 +208,10 @@ impl<'a> Place<'a> {
                 note_if(&mut self.least, !loops, *at, Rule::Kind);
                 Ok(Stmt::Continue)
             }
-            RawStmt::Return { at, value } => { Ok(Stmt::Return(self.returned(gives, *at, value)?)) }
+            RawStmt::Return { at, value } => match self.returned(gives, *at, value) {
+                Ok(value) => Ok(Stmt::Return(value)),
+                Err(error) => Err(error),
+            },
         }
     }
 
@@ -218,9 +230,7 @@ impl<'a> Place<'a> {
         ensures faults { OnOk result (self.new.least ≡ least_of self.old.least (expr_faults self.old.names (raw_expr_tree condition.now) ++ stmt_faults gives loops (inside (spot_of self.old)) (raw_stmt_tree raw.now))) }
     {
         let condition = expr(self.alloc, &self.names, &mut self.least, condition)?;
-        let body = self.body(gives, loops, raw);
-        let (condition, body) = both(condition, body)?;
-        Ok((condition, body))
+        both(condition, self.body(gives, loops, raw))
     }
 
     // A body, which is a scope of its own.
@@ -231,10 +241,9 @@ impl<'a> Place<'a> {
         ensures faults { OnOk result (self.new.least ≡ least_of self.old.least (stmt_faults gives loops (inside (spot_of self.old)) (raw_stmt_tree raw.now))) }
     {
         let scope = self.enter();
-        let stmt = self.stmt(gives, loops, raw)?;
-        let stmt = Box::new(self.alloc, stmt)?;
+        let stmt = boxed(self.alloc, self.stmt(gives, loops, raw));
         self.leave(scope);
-        Ok(stmt)
+        stmt
     }
 
     // A block, which is a scope of its own.
@@ -250,9 +259,9 @@ impl<'a> Place<'a> {
         ensures faults { OnOk result (self.new.least ≡ least_of self.old.least (stmts_faults gives loops (inside (spot_of self.old)) (raw_stmt_trees raw.now))) }
     {
         let scope = self.enter();
-        let stmts = self.stmts(gives, loops, raw)?;
+        let stmts = self.stmts(gives, loops, raw);
         self.leave(scope);
-        Ok(stmts)
+        stmts
     }
 
     /// Statements one after another, in a function that gives a result or not and in a loop or not.
@@ -269,7 +278,7 @@ impl<'a> Place<'a> {
     {
         let mut stmts = Vec::new(self.alloc);
         for stmt in raw {
-            stmts.push(self.stmt(gives, loops, stmt)?)?;
+            stmts = with_next(stmts, self.stmt(gives, loops, stmt))?;
         }
         Ok(stmts)
     }

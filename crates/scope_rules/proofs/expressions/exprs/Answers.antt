@@ -1,10 +1,10 @@
-use Rattle.std.proofs.Common.{◌≡◌, ◌∷◌, [], ◌+◌, map, drop, append_assoc}
-use Rattle.std.proofs.lemmas.List.{map-append}
+use Rattle.std.proofs.Common.{◌≡◌, ◌∷◌, ◌+◌, map, drop, append_assoc}
 use Rattle.c_tree.specs.RawViews.{raw_expr_tree}
 use Rattle.c_tree.specs.Views.{expr_tree}
 use Rattle.scope_rules.specs.Expressions.{expr_faults, exprs_faults}
 use Rattle.scope_rules.proofs.Least.{least_of_append}
 use Rattle.scope_rules.proofs.Cuts.{drop_at}
+use Rattle.scope_rules.proofs.HeldValues.{pushed_view, pushed_fact}
 use Rattle.scope_rules.proofs.expressions.exprs.Goals as goal
 
 pub loop-argument-preserved : goal.loop-argument-preserved
@@ -15,6 +15,6 @@ loop-argument-preserved c =
     let names = c.args.names.now in
     let cut : drop i rest ≡ item ∷ drop (i + 1) rest = drop_at rest i item c.loop-argument-test.true c.argument-item.is in
     record {
-      trees = rw (c.in_ok-push.ensures.items, map-append expr_tree c.loop-argument.exprs.items (c.in_ok-expr.field-0 ∷ []), c.in_ok-expr.ensures.tree, append_assoc) (rw cut at c.loop-argument.invariant.trees);
-      faults = rw (c.in_ok-expr.ensures.faults, ← least_of_append c.loop-argument.least (expr_faults names (raw_expr_tree item)) (exprs_faults names (map raw_expr_tree (drop (i + 1) rest)))) (rw cut at c.loop-argument.invariant.faults);
+      trees = rw (pushed_view expr_tree c.expr.result c.loop-argument.exprs.items c.in_ok-exprs.exprs.items _ c.in_ok-exprs.ensures c.expr.ensures.tree, append_assoc) (rw cut at c.loop-argument.invariant.trees);
+      faults = rw (pushed_fact _ _ c.expr.result c.in_ok-exprs.ensures c.expr.ensures.faults, ← least_of_append c.loop-argument.least (expr_faults names (raw_expr_tree item)) (exprs_faults names (map raw_expr_tree (drop (i + 1) rest)))) (rw cut at c.loop-argument.invariant.faults);
     }

@@ -47,7 +47,8 @@ returns-clause-faults c =
     let e1 : o1 ≡ least_of old fb = c.check_function.ensures ∙ (ap (λ x. least_of old (function_faults true g x n.at c.find-found.result)) k1 ∙ ap (λ x. least_of old (function_faults true g k n.at x)) f1) in
     let e2 : o2 ≡ least_of o1 fc = c.check_main.ensures ∙ ap (λ x. least_of o1 (main_faults n x)) k1 in
     let names3 = with_function defs names g n k true in
-    let e3 : o3 ≡ least_of o2 (fd names3) = c.in_ok-body.ensures.faults ∙ ap (λ x. least_of o2 (fd x)) b1 in
+    let made = rw c.in_ok-text-2.ensures.next at c.function_body.ensures.faults in
+    let e3 : o3 ≡ least_of o2 (fd names3) = made ∙ ap (λ x. least_of o2 (fd x)) b1 in
     least_of_then old o1 o3 fb (fc ++ fd names3) e1 (least_of_then o1 o2 o3 fc (fd names3) e2 e3)
 
 pub returns-clause-counted : goal.returns-clause-counted
@@ -57,11 +58,13 @@ returns-clause-counted c = λ h.
     let body = raw_stmt_trees c.args.raw.now.body.items in
     let b = params_after (unsized s) ps in
     let ws = words (stmts_names (stmts_of b body)) in
-    let z : c.function_body.new.self.sizes.items ≡ (stmts_after b body).sizes = ap (λ x. x.sizes) c.in_ok-body.ensures.place in
+    let place = rw c.in_ok-text-2.ensures.next at c.function_body.ensures.place in
+    let tree = rw c.in_ok-text-2.ensures.next at c.function_body.ensures.tree in
+    let z : c.function_body.new.self.sizes.items ≡ (stmts_after b body).sizes = ap (λ x. x.sizes) place in
     let k : c.len-params.result ≡ length c.args.raw.now.params.items = search rules in
     let l : c.len-params.result ≡ length ps = k ∙ sym (length-map c.args.raw.now.params.items name_tree) in
-    let d : c.deref-4.result.now ≡ c.function_body.new.self.sizes.items = c.deref-4.ensures.value ∙ ap (λ v. v.items) c.replace-sizes.ensures.value in
-    let e : drop c.len-params.result c.deref-4.result.now ≡ ws = ap (λ n. drop n c.deref-4.result.now) l ∙ (ap (drop (length ps)) (d ∙ z) ∙ body_words s ps body) in
-    let f : words (stmts_names (stmt_trees c.in_ok-body.body.items)) ≡ ws = ap (λ x. words (stmts_names x)) c.in_ok-body.ensures.tree in
-    let here : c.declared_words.result ≡ capped (sum (words (stmts_names (stmt_trees c.in_ok-body.body.items)))) = c.declared_words.ensures ∙ ap (λ x. capped (sum x)) (e ∙ sym f) in
+    let d : c.deref-5.result.now ≡ c.function_body.new.self.sizes.items = c.deref-5.ensures.value ∙ ap (λ v. v.items) c.replace-sizes.ensures.value in
+    let e : drop c.len-params.result c.deref-5.result.now ≡ ws = ap (λ n. drop n c.deref-5.result.now) l ∙ (ap (drop (length ps)) (d ∙ z) ∙ body_words s ps body) in
+    let f : words (stmts_names (stmt_trees c.in_ok-text-2.body.items)) ≡ ws = ap (λ x. words (stmts_names x)) tree in
+    let here : c.declared_words.result ≡ capped (sum (words (stmts_names (stmt_trees c.in_ok-text-2.body.items)))) = c.declared_words.ensures ∙ ap (λ x. capped (sum x)) (e ∙ sym f) in
     counted_push c.args.self.now.functions.items _ c.push.new.self.items c.args.self.now.locals c.declared_words.result c.larger-self.result c.in_ok-push.ensures.items h here c.larger-self.ensures

@@ -1,11 +1,11 @@
-use Rattle.std.proofs.Common.{◌≡◌, ◌∷◌, [], ◌+◌, map, drop, append_assoc}
-use Rattle.std.proofs.lemmas.List.{map-append}
+use Rattle.std.proofs.Common.{◌≡◌, ◌∷◌, ◌+◌, map, drop, append_assoc}
 use Rattle.c_tree.specs.RawViews.{raw_simple_tree}
 use Rattle.c_tree.specs.Views.{simple_tree}
 use Rattle.scope_rules.specs.Places.{spot_of}
 use Rattle.scope_rules.specs.Simples.{simple_faults, simple_after, simples_faults}
 use Rattle.scope_rules.proofs.Least.{least_of_append}
 use Rattle.scope_rules.proofs.Cuts.{drop_at}
+use Rattle.scope_rules.proofs.HeldValues.{pushed_view, pushed_fact}
 use Rattle.scope_rules.proofs.places.Place.simples.Goals as goal
 
 pub loop-simple-preserved : goal.loop-simple-preserved
@@ -15,8 +15,9 @@ loop-simple-preserved c =
     let i = c.loop-simple.simple-index in
     let s = spot_of c.loop-simple.self in
     let cut : drop i raw ≡ item ∷ drop (i + 1) raw = drop_at raw i item c.loop-simple-test.true c.simple-item.is in
+    let place = pushed_fact _ _ c.simple.result c.in_ok-simples.ensures c.simple.ensures.place in
     record {
-      trees = rw (c.in_ok-push.ensures.items, map-append simple_tree c.loop-simple.simples.items (c.in_ok-simple.field-0 ∷ []), c.in_ok-simple.ensures.tree, append_assoc, c.in_ok-simple.ensures.place) (rw cut at c.loop-simple.invariant.trees);
-      place = rw c.in_ok-simple.ensures.place (rw cut at c.loop-simple.invariant.place);
-      faults = rw (c.in_ok-simple.ensures.place, c.in_ok-simple.ensures.faults, ← least_of_append c.loop-simple.self.least (simple_faults s (raw_simple_tree item)) (simples_faults (simple_after s (raw_simple_tree item)) (map raw_simple_tree (drop (i + 1) raw)))) (rw cut at c.loop-simple.invariant.faults);
+      trees = rw (pushed_view simple_tree c.simple.result c.loop-simple.simples.items c.in_ok-simples.simples.items _ c.in_ok-simples.ensures c.simple.ensures.tree, append_assoc, place) (rw cut at c.loop-simple.invariant.trees);
+      place = rw place (rw cut at c.loop-simple.invariant.place);
+      faults = rw (place, pushed_fact _ _ c.simple.result c.in_ok-simples.ensures c.simple.ensures.faults, ← least_of_append c.loop-simple.self.least (simple_faults s (raw_simple_tree item)) (simples_faults (simple_after s (raw_simple_tree item)) (map raw_simple_tree (drop (i + 1) raw)))) (rw cut at c.loop-simple.invariant.faults);
     }
