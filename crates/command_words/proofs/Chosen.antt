@@ -3,12 +3,14 @@ use Rattle.std.proofs.Common.{◌≡◌, ◌∙◌, ℕ, ◌+◌, ◌-◌, ◌*�
 use Rattle.std.specs.Str.{bytes_eq}
 use Rattle.std.proofs.lemmas.Slice.Eq.{bytes_eq-Decides}
 use Rattle.cap_text.proofs.DecimalLaws.{decimal_unique}
+use Rattle.command_words.specs.declared.option_values.Marks.{Marks}
 use Rattle.command_words.specs.declared.options.Audit.{Audit as AuditOptions}
 use Rattle.command_words.specs.declared.options.Placement.{Placement}
 use Rattle.command_words.specs.declared.options.Policy.{Policy}
 use Rattle.command_words.specs.declared.options.Rule.{Rule}
 use Rattle.command_words.specs.declared.options.Rule.TheVariants.{Graph, Stride}
 use Rattle.command_words.specs.declared.options.Tickets.{Tickets}
+use Rattle.command_words.specs.Shared.{AreMarks, IsRoom}
 use Rattle.command_words.specs.Values.{IsAudit, IsChosen, IsNumber, IsPlacement, IsPolicy, AreCaps, AreCapsAbove, cap_text, caps_of, default_max_path, AreTickets, IsRule, rule_name, ticket_text, tickets_of}
 use Rattle.command_words.specs.WordList.{Request, Serve, Run, Build, Check, Graph, Demo, Audit, Budget}
 use Rattle.command_words.specs.Asked.{Texts, IsAsked, HasThree, HasTwo}
@@ -134,16 +136,27 @@ no_path given chunk chosen none p is =
 
 -- a high mark is chosen, and no low one below it
 pub no_low : (given : Texts) (high : ℕ) → IsNumber (given (codes "--high")) 900 1 1000 high
-    → ((n : ℕ) → IsNumber (given (codes "--low")) 700 0 (high - 1) n → ⊥) → (p : Policy) → IsPolicy given p → ⊥
-no_low given high chosen none p is =
-    let same = one_chosen (given (codes "--high")) 900 p.high high is.high.chosen chosen.chosen in
-    none p.low (subst (λ (c : ℕ). IsNumber (given (codes "--low")) 700 0 (c - 1) p.low) same is.low)
+    → ((n : ℕ) → IsNumber (given (codes "--low")) 700 0 (high - 1) n → ⊥) → (m : Marks) → AreMarks given m → ⊥
+no_low given high chosen none m is =
+    let same = one_chosen (given (codes "--high")) 900 m.high high is.high.chosen chosen.chosen in
+    none m.low (subst (λ (c : ℕ). IsNumber (given (codes "--low")) 700 0 (c - 1) m.low) same is.low)
 
-pub no_audit_low : (given : Texts) (high : ℕ) → IsNumber (given (codes "--high")) 900 1 1000 high
-    → ((n : ℕ) → IsNumber (given (codes "--low")) 700 0 (high - 1) n → ⊥) → (a : AuditOptions) → IsAudit given a → ⊥
-no_audit_low given high chosen none a is =
-    let same = one_chosen (given (codes "--high")) 900 a.high high is.high.chosen chosen.chosen in
-    none a.low (subst (λ (c : ℕ). IsNumber (given (codes "--low")) 700 0 (c - 1) a.low) same is.low)
+-- the parts of a run's options, and of an audit's
+pub room_of_policy : (given : Texts) (p : Policy) → IsPolicy given p
+    → IsRoom given (record { chunks = p.chunks; extra = p.extra; fuel = p.fuel; backlog = p.backlog })
+room_of_policy given p is = record { chunks = is.chunks; extra = is.extra; fuel = is.fuel; backlog = is.backlog }
+
+pub marks_of_policy : (given : Texts) (p : Policy) → IsPolicy given p
+    → AreMarks given (record { caps = p.caps; high = p.high; low = p.low; knee = p.knee })
+marks_of_policy given p is = record { caps = is.caps; high = is.high; low = is.low; knee = is.knee }
+
+pub room_of_audit : (given : Texts) (a : AuditOptions) → IsAudit given a
+    → IsRoom given (record { chunks = a.chunks; extra = a.extra; fuel = a.fuel; backlog = a.backlog })
+room_of_audit given a is = record { chunks = is.chunks; extra = is.extra; fuel = is.fuel; backlog = is.backlog }
+
+pub marks_of_audit : (given : Texts) (a : AuditOptions) → IsAudit given a
+    → AreMarks given (record { caps = a.caps; high = a.high; low = a.low; knee = a.knee })
+marks_of_audit given a is = record { caps = is.caps; high = is.high; low = is.low; knee = is.knee }
 
 -- ---- the command's name
 
@@ -179,23 +192,30 @@ no_two given is none (Audit source log options) asked = none (codes "audit") sou
 no_two given is none (Budget source image certificate) asked = other_name given (codes "audit") (codes "budget") is asked.0.0 refl
 
 -- a size of the chunks that are added is chosen that is no multiple of 16
-pub no_extra : (given : Texts) (bytes : ℕ) → IsNumber (given (codes "--extra-size")) 64 32 65536 bytes → (bytes % 16 ≡ 0 → ⊥) → (p : Policy) → IsPolicy given p → ⊥
-no_extra given bytes chosen other p is =
-    let same = one_chosen (given (codes "--extra-size")) 64 p.extra_bytes bytes is.extra_bytes.chosen chosen.chosen in
-    other (subst (λ (b : ℕ). b % 16 ≡ 0) same is.extra_whole)
+pub no_extra : (given : Texts) (bytes : ℕ) → IsNumber (given (codes "--extra-size")) 64 32 65536 bytes → (bytes % 16 ≡ 0 → ⊥)
+    → (n : ℕ) → IsNumber (given (codes "--extra-size")) 64 32 65536 n → n % 16 ≡ 0 → ⊥
+no_extra given bytes chosen other n is whole =
+    let same = one_chosen (given (codes "--extra-size")) 64 n bytes is.chosen chosen.chosen in
+    other (subst (λ (b : ℕ). b % 16 ≡ 0) same whole)
+
+-- the command `serve`, where none is asked for
+pub no_serve : (given : Texts) → given (codes "command") ≡ Some (codes "serve")
+    → ((source : List ℕ) (p : Placement) (q : Policy) → IsAsked given (Serve source p q) → ⊥) → (request : Request) → IsAsked given request → ⊥
+no_serve given is none (Serve source p q) asked = none source p q asked
+no_serve given is none (Run source image certificate q) asked = other_name given (codes "serve") (codes "run") is asked.0.0 refl
+no_serve given is none (Build source image certificate p) asked = other_name given (codes "serve") (codes "build") is asked.0.0 refl
+no_serve given is none (Check source image certificate) asked = other_name given (codes "serve") (codes "check") is asked.0.0 refl
+no_serve given is none (Graph source p) asked = other_name given (codes "serve") (codes "graph") is asked.0.0 refl
+no_serve given is none (Budget source image certificate) asked = other_name given (codes "serve") (codes "budget") is asked.0.0 refl
+no_serve given is none (Audit source log options) asked = other_name given (codes "serve") (codes "audit") is asked.0.0 refl
+no_serve given is none (Demo number) asked = other_name given (codes "serve") (codes "demo") is asked.0.0 refl
 
 -- the pool would be too large
-pub no_pool : (given : Texts) (placement : Placement) (policy : Policy) → given (codes "command") ≡ Some (codes "serve") → IsPlacement given placement → IsPolicy given policy
-    → 67108864 < placement.chunk * policy.chunks + policy.extra_bytes * policy.extra → (request : Request) → IsAsked given request → ⊥
-no_pool given placement policy is placed ruled large (Serve source p q) asked =
+pub no_pool : (given : Texts) (placement : Placement) (policy : Policy) → IsPlacement given placement → IsPolicy given policy
+    → 67108864 < placement.chunk * policy.chunks + policy.extra_bytes * policy.extra
+    → (source : List ℕ) (p : Placement) (q : Policy) → IsAsked given (Serve source p q) → ⊥
+no_pool given placement policy placed ruled large source p q asked =
     let small : placement.chunk * policy.chunks + policy.extra_bytes * policy.extra ≤ 67108864 =
     subst (λ (x : Placement). x.chunk * policy.chunks + policy.extra_bytes * policy.extra ≤ 67108864) (one_placement given p placement asked.1 placed)
     (subst (λ (x : Policy). p.chunk * x.chunks + x.extra_bytes * x.extra ≤ 67108864) (one_policy given q policy asked.2 ruled) asked.3) in
-    absurd (omega arith)
-no_pool given placement policy is placed ruled large (Run source image certificate q) asked = other_name given (codes "serve") (codes "run") is asked.0.0 refl
-no_pool given placement policy is placed ruled large (Build source image certificate p) asked = other_name given (codes "serve") (codes "build") is asked.0.0 refl
-no_pool given placement policy is placed ruled large (Check source image certificate) asked = other_name given (codes "serve") (codes "check") is asked.0.0 refl
-no_pool given placement policy is placed ruled large (Graph source p) asked = other_name given (codes "serve") (codes "graph") is asked.0.0 refl
-no_pool given placement policy is placed ruled large (Budget source image certificate) asked = other_name given (codes "serve") (codes "budget") is asked.0.0 refl
-no_pool given placement policy is placed ruled large (Audit source log options) asked = other_name given (codes "serve") (codes "audit") is asked.0.0 refl
-no_pool given placement policy is placed ruled large (Demo number) asked = other_name given (codes "serve") (codes "demo") is asked.0.0 refl
+    omega arith

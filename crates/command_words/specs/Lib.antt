@@ -3,3 +3,5 @@ pub mod Values
 pub mod WordList
 pub mod Parse
 pub mod Asked
+pub mod Shared
+pub mod Arguments

@@ -1,10 +1,11 @@
 // The words as `clap` reads them: one command without subcommands, whose options and positional words are texts.
-ghost use Rattle.std.specs.Prelude.{ℕ, List, ◌≡◌, ◌^◌, map, Err, IfOk, ◌↔◌, Some, false};
+ghost use Rattle.std.specs.Prelude.{ℕ, List, ◌≡◌, ◌^◌, map, Err, IfOk, ◌↔◌, codes, fold, false, true};
 ghost use Rattle.std.specs.String.{string_bytes};
-ghost use Rattle.clap.specs.Words.{app_of, first_value, found_of, new_rule, rule_of};
-ghost use Rattle.clap.specs.Simple.{App};
+ghost use Rattle.clap.specs.Simple.{new_app, on_top};
+ghost use Rattle.clap.specs.Words.{app_of, first_value, found_of, rule_of};
+ghost use Rattle.command_words.specs.Arguments.{rule_at, with_argument};
 ghost use Rattle.command_words.specs.Said.{Said};
-ghost use Rattle.command_words.specs.Parse.{IsReadable, IsSaid, IsReadAs, words_app, with_positional, with_option, with_positionals, with_placement, with_policy, with_audit};
+ghost use Rattle.command_words.specs.Parse.{IsReadable, IsSaid, IsReadAs, words_app};
 
 use crate::commands::WordsError;
 use clap::error::ErrorKind;
@@ -26,84 +27,70 @@ pub(crate) fn parse<'a>(alloc: Global, words: &'a Vec<String>) -> Result<ArgMatc
     }
 }
 
-/// A parser, or the failure of a step before.
-type Built<'a> = Result<Command<'a>, AllocError>;
+/// The arguments: the command's name and three names of files, which are positional, and the options, each with its name behind
+/// the dashes.
+const ARGUMENTS: [(&str, Option<&str>); 18] = [
+    ("command", None),
+    ("first", None),
+    ("second", None),
+    ("third", None),
+    ("--chunk", Some("chunk")),
+    ("--max-path", Some("max-path")),
+    ("--chunks", Some("chunks")),
+    ("--extra", Some("extra")),
+    ("--extra-size", Some("extra-size")),
+    ("--fuel", Some("fuel")),
+    ("--backlog", Some("backlog")),
+    ("--caps", Some("caps")),
+    ("--high", Some("high")),
+    ("--low", Some("low")),
+    ("--rule", Some("rule")),
+    ("--tickets", Some("tickets")),
+    ("--knee", Some("knee")),
+    ("--steps", Some("steps")),
+];
 
-/// The command with all options, whose name is the first of four positional words.
-fn parser<'a>(alloc: Global) -> Built<'a>
+/// The command with all arguments.
+fn parser<'a>(alloc: Global) -> Result<Command<'a>, AllocError>
     ensures { IfOk result (λ parser. app_of parser ≡ words_app) }
 {
-    let command = Command::new(alloc, "capriccio")
+    with_arguments(alloc, bare(alloc), &ARGUMENTS)
+}
+
+/// The command without arguments.
+fn bare<'a>(alloc: Global) -> Command<'a>
+    ensures { app_of result ≡ on_top (λ top. record top { no_binary_name = true; disable_help_flag = true }) (new_app (codes "capriccio")) }
+{
+    Command::new(alloc, "capriccio")
         .no_binary_name(true)
-        .disable_help_flag(true);
-    let command = with_positionals(alloc, Ok(command));
-    let command = with_placement(alloc, command);
-    let command = with_policy(alloc, command);
-    with_audit(alloc, command)
+        .disable_help_flag(true)
 }
 
-/// Adds the command's name and three names of files.
-fn with_positionals<'a>(alloc: Global, command: Built<'a>) -> Built<'a>
-    ensures { (app : App) → IfOk command.entry (λ old. app_of old ≡ app) → IfOk result (λ new. app_of new ≡ with_positionals app) }
+/// Adds arguments in turn.
+fn with_arguments<'a>(
+    alloc: Global,
+    command: Command<'a>,
+    arguments: &[(&'a str, Option<&'a str>)],
+) -> Result<Command<'a>, AllocError>
+    ensures { IfOk result (λ parser. app_of parser ≡ fold with_argument (app_of command.entry) arguments.now) }
 {
-    let command = with_positional(alloc, command, "command");
-    let command = with_positional(alloc, command, "first");
-    let command = with_positional(alloc, command, "second");
-    with_positional(alloc, command, "third")
+    let mut command = command;
+    for (name, long) in arguments {
+        command = command.arg(argument(alloc, name, *long))?;
+    }
+    Ok(command)
 }
 
-/// Adds the options of placement.
-fn with_placement<'a>(alloc: Global, command: Built<'a>) -> Built<'a>
-    ensures { (app : App) → IfOk command.entry (λ old. app_of old ≡ app) → IfOk result (λ new. app_of new ≡ with_placement app) }
-{
-    let command = with_option(alloc, command, "--chunk", "chunk");
-    with_option(alloc, command, "--max-path", "max-path")
-}
-
-/// Adds the options of a run.
-fn with_policy<'a>(alloc: Global, command: Built<'a>) -> Built<'a>
-    ensures { (app : App) → IfOk command.entry (λ old. app_of old ≡ app) → IfOk result (λ new. app_of new ≡ with_policy app) }
-{
-    let command = with_option(alloc, command, "--chunks", "chunks");
-    let command = with_option(alloc, command, "--extra", "extra");
-    let command = with_option(alloc, command, "--extra-size", "extra-size");
-    let command = with_option(alloc, command, "--fuel", "fuel");
-    let command = with_option(alloc, command, "--backlog", "backlog");
-    let command = with_option(alloc, command, "--caps", "caps");
-    let command = with_option(alloc, command, "--high", "high");
-    let command = with_option(alloc, command, "--low", "low");
-    let command = with_option(alloc, command, "--rule", "rule");
-    let command = with_option(alloc, command, "--tickets", "tickets");
-    with_option(alloc, command, "--knee", "knee")
-}
-
-/// Adds the option of an audit that no run has.
-fn with_audit<'a>(alloc: Global, command: Built<'a>) -> Built<'a>
-    ensures { (app : App) → IfOk command.entry (λ old. app_of old ≡ app) → IfOk result (λ new. app_of new ≡ with_audit app) }
-{
-    with_option(alloc, command, "--steps", "steps")
-}
-
-/// Adds a positional word.
-fn with_positional<'a>(alloc: Global, command: Built<'a>, name: &'a str) -> Built<'a>
-    ensures { (app : App) → IfOk command.entry (λ old. app_of old ≡ app) → IfOk result (λ new. app_of new ≡ with_positional name.entry.now app) }
-{
-    command?.arg(Arg::new(alloc, name))
-}
-
-/// Adds an option.
-fn with_option<'a>(alloc: Global, command: Built<'a>, name: &'a str, long: &'a str) -> Built<'a>
-    ensures { (app : App) → IfOk command.entry (λ old. app_of old ≡ app) → IfOk result (λ new. app_of new ≡ with_option name.entry.now long.entry.now app) }
-{
-    command?.arg(option(alloc, name, long))
-}
-
-/// An option, which takes one text.
-fn option<'a>(alloc: Global, name: &'a str, long: &'a str) -> Arg<'a>
-    ensures rule { rule_of result ≡ record (new_rule name.entry.now) { long = Some long.entry.now } }
+/// A positional word, or an option, which takes one text.
+fn argument<'a>(alloc: Global, name: &'a str, long: Option<&'a str>) -> Arg<'a>
+    ensures rule { rule_of result ≡ rule_at (name.entry, long.entry) }
     ensures local { result.global ≡ false }
 {
-    Arg::new(alloc, name).long(long)
+    let argument = Arg::new(alloc, name);
+    match long {
+        Some(long) => argument.long(long),
+        None => argument,
+    }
 }
 
 /// Why words are refused that are not parsed.

@@ -1,17 +1,12 @@
 // A command out of the texts that were parsed.
 ghost use Rattle.std.specs.Prelude.{ℕ, List, ◌≡◌, ◌≤◌, ◌*◌, ◌↔◌, IsTrue, IfSome, IfNone, Some, None, is_none, codes, option_map};
 ghost use Rattle.clap.specs.Words.{first_value, found_of};
-ghost use Rattle.command_words.specs.declared.options.Audit.{Audit as AuditOptions};
-ghost use Rattle.command_words.specs.declared.options.Placement.{Placement};
-ghost use Rattle.command_words.specs.declared.options.Policy.{Policy};
-ghost use Rattle.command_words.specs.Values.{IsAudit, IsPlacement, IsPolicy};
 ghost use Rattle.command_words.specs.WordList.{Request, Serve, Run, Build, Check, Graph, Demo, Budget, request_of, audit_options, placement_options, policy_options, run_options};
 ghost use Rattle.command_words.specs.Asked.{IsAsked, LacksAll, HasOne, HasThree, HasTwo};
 
 use crate::commands::Command;
-use crate::numbers::{caps, number};
-use crate::options::{Audit, Placement, Policy};
-use crate::ticket_lists::rule;
+use crate::numbers::number;
+use crate::option_values::{audit_given, placement, policy};
 use clap::ArgMatches;
 
 /// The greatest size of the pool, in bytes.
@@ -237,85 +232,4 @@ fn is_absent(matches: &ArgMatches<'_>, option: &str) -> bool
     ensures { IsTrue result ↔ (first_value (found_of matches.now) option.now ≡ None) }
 {
     matches.get_str(option).is_none()
-}
-
-/// The options of placement.
-fn placement(matches: &ArgMatches<'_>) -> Option<Placement>
-    ensures found { IfSome result (λ placement. IsPlacement (λ name. first_value (found_of matches.now) name) placement) }
-    ensures none { IfNone result ((placement : Placement) → IsPlacement (λ name. first_value (found_of matches.now) name) placement → ⊥) }
-{
-    let chunk = number(matches.get_str("--chunk"), 4096, 64, 65_536)? as u32;
-    if chunk % 16 != 0 {
-        return None;
-    }
-    let half = (chunk - 16) / 2 / 16 * 16;
-    let max_path = number(
-        matches.get_str("--max-path"),
-        u64::from(half),
-        16,
-        u64::from(chunk - 16),
-    )?;
-    Some(Placement {
-        chunk,
-        max_path: max_path as u32,
-    })
-}
-
-/// The options of a run.
-fn policy(matches: &ArgMatches<'_>) -> Option<Policy>
-    ensures found { IfSome result (λ policy. IsPolicy (λ name. first_value (found_of matches.now) name) policy) }
-    ensures none { IfNone result ((policy : Policy) → IsPolicy (λ name. first_value (found_of matches.now) name) policy → ⊥) }
-{
-    let chunks = number(matches.get_str("--chunks"), 1024, 1, 65_536)? as u32;
-    let extra = number(matches.get_str("--extra"), 0, 0, 65_536)? as u32;
-    let extra_bytes = number(matches.get_str("--extra-size"), 64, 32, 65_536)? as u32;
-    if extra_bytes % 16 != 0 {
-        return None;
-    }
-    let fuel = number(matches.get_str("--fuel"), 10_000_000, 0, 1_000_000_000)?;
-    let backlog = number(matches.get_str("--backlog"), 64, 1, 4096)? as u32;
-    let caps = caps(matches.get_str("--caps"))?;
-    let high = number(matches.get_str("--high"), 900, 1, 1000)?;
-    let low = number(matches.get_str("--low"), 700, 0, high - 1)?;
-    let rule = rule(matches.get_str("--rule"), matches.get_str("--tickets"))?;
-    let knee = number(matches.get_str("--knee"), 0, 0, 999)? as u32;
-    Some(Policy {
-        chunks,
-        extra,
-        extra_bytes,
-        fuel,
-        backlog,
-        caps,
-        high: high as u32,
-        low: low as u32,
-        rule,
-        knee,
-    })
-}
-
-/// The options of an audit.
-fn audit_given(matches: &ArgMatches<'_>) -> Option<Audit>
-    ensures found { IfSome result (λ options. IsAudit (λ name. first_value (found_of matches.now) name) options) }
-    ensures none { IfNone result ((options : AuditOptions) → IsAudit (λ name. first_value (found_of matches.now) name) options → ⊥) }
-{
-    let chunks = number(matches.get_str("--chunks"), 1024, 1, 65_536)? as u32;
-    let extra = number(matches.get_str("--extra"), 0, 0, 65_536)? as u32;
-    let fuel = number(matches.get_str("--fuel"), 10_000_000, 0, 1_000_000_000)?;
-    let backlog = number(matches.get_str("--backlog"), 64, 1, 4096)? as u32;
-    let caps = caps(matches.get_str("--caps"))?;
-    let high = number(matches.get_str("--high"), 900, 1, 1000)?;
-    let low = number(matches.get_str("--low"), 700, 0, high - 1)?;
-    let knee = number(matches.get_str("--knee"), 0, 0, 999)? as u32;
-    let steps = number(matches.get_str("--steps"), 1_000_000_000, 0, 1_000_000_000)?;
-    Some(Audit {
-        chunks,
-        extra,
-        fuel,
-        backlog,
-        caps,
-        high: high as u32,
-        low: low as u32,
-        knee,
-        steps,
-    })
 }

@@ -1,4 +1,0 @@
-use Rattle.command_words.proofs.parser.with_policy.Goals as goal
-
-pub returns : goal.returns
-returns c app before = c.with_option.ensures _ (c.with_option-command-10.ensures _ (c.with_option-command-9.ensures _ (c.with_option-command-8.ensures _ (c.with_option-command-7.ensures _ (c.with_option-command-6.ensures _ (c.with_option-command-5.ensures _ (c.with_option-command-4.ensures _ (c.with_option-command-3.ensures _ (c.with_option-command-2.ensures _ (c.with_option-command.ensures _ before))))))))))
