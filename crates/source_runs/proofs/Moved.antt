@@ -1,6 +1,6 @@
 -- What steps lead to: values that are used, items that are taken, and silent steps one after another.
 use Rattle.std.proofs.Common.{◌≡◌, ◌≢◌, ℕ, zero, suc, ◌+◌, ◌-◌, ◌<◌, ◌≤◌, List, [], ◌∷◌, ◌++◌, length, map, sym, ap, ◌∙◌, arith, refl, subst}
-use Rattle.std.specs.Prelude.{Bool, true, false, Result, Ok, Err, MatchResult, Option, Some, None, Vec, if◌then◌else◌, nat_eq, reverse, slice_index}
+use Rattle.std.specs.Prelude.{Bool, true, false, Result, Ok, Err, MatchResult, OnOk, Option, Some, None, Vec, if◌then◌else◌, nat_eq, reverse, slice_index}
 use Rattle.std.specs.List.{AllByRecursion}
 use Rattle.std.specs.declared.alloc.Global.{Global}
 use Rattle.std.proofs.lemmas.Bool.{lt-ltb, le-ltb}
@@ -30,6 +30,11 @@ use Rattle.source_runs.specs.declared.halts.Halt.{Halt}
 use Rattle.source_runs.specs.declared.halts.Halt.TheVariants as halt
 use Rattle.source_runs.specs.declared.interpreter.Move.{Move}
 use Rattle.source_runs.specs.declared.interpreter.Move.TheVariants as move
+
+-- what holds of success
+pub on-ok : {A E P Q : Type 0} (r : Result A E) → (P → Q) → OnOk r P → OnOk r Q
+on-ok (Ok a) f h = f h
+on-ok (Err e) f h = tt {0}
 
 module _ (tree : ProgramTree) where
   -- ---- values
@@ -67,6 +72,11 @@ module _ (tree : ProgramTree) where
 
   pub made-so : (made other : SourceMove) (words : List ℕ) (thread : Thread) (r : Result Move Halt) → other ≡ made → HasStepped tree made thread words r → HasStepped tree other thread words r
   made-so made other words thread r e h = subst (λ x. HasStepped tree x thread words r) (sym e) h
+
+  -- what memory was wanted for has led on, where there was some
+  pub went-so : {A E : Type 0} {P Q : Type 0} (made : SourceMove) (words : List ℕ) (thread : Thread) (pushed : Result A E) (r : Result Move Halt) → MatchResult pushed (λ _. r ≡ Ok move.Goes) (λ _. r ≡ Err halt.Memory) → OnOk pushed P → OnOk pushed Q → (P → Q → HasStepped tree made thread words (Ok move.Goes)) → HasStepped tree made thread words r
+  went-so made words thread (Ok a) r is p q goes = subst (λ (x : Result Move Halt). HasStepped tree made thread words x) (sym is) (goes p q)
+  went-so made words thread (Err e) r is p q goes = subst (λ (x : Result Move Halt). HasStepped tree made thread words x) (sym is) (tt {0})
 
   -- ---- branches
 

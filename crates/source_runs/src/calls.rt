@@ -1,5 +1,5 @@
 // Calls: of functions, of tables, and those that the thread package answers.
-ghost use Rattle.std.specs.Prelude.{◌≡◌, ◌∷◌, [], ◌<◌, ◌++◌, ℕ, List, Ok, Err, IfOk, MatchResult, OnOk, length, map, sum};
+ghost use Rattle.std.specs.Prelude.{◌≡◌, ◌∷◌, [], ◌<◌, ℕ, List, Ok, Err, IfOk, MatchResult, OnOk, length, map, sum};
 ghost use Rattle.std.specs.List.{AllByRecursion};
 ghost use Rattle.cap_word.specs.Calls.{call_of};
 ghost use Rattle.c_tree.specs.Modelled.{number_of, parameters_of};
@@ -14,22 +14,15 @@ ghost use Rattle.source_runs.specs.Layouts.{InSomeScope, IsReady, context_at, pa
 ghost use Rattle.source_runs.specs.Steps.{HasHalted, HasStepped, IsCalling};
 ghost use Rattle.source_runs.specs.Threads.{IsFrame, IsPlace, IsThread, below_of, globals_of, place_of, running_of};
 
-use crate::frames::{Place, Thread, WaitingFrame};
+use crate::frames::{Place, Thread, WaitingFrame, push};
 use crate::halts::Halt;
 use crate::interpreter::{Interpreter, Move};
+use crate::steps::went;
 use c_tree::{Call, Expr, ModelledCall};
 use cap_word::{Ask, Block, TrapKind};
 use source_items::{Rows, evaluate};
 use std::alloc::AllocError;
 use std::mem;
-
-/// One word more.
-fn push_word(words: &mut Vec<u32>, word: u32) -> Result<(), AllocError>
-    ensures { OnOk result (words.new.items ≡ words.old.items ++ word ∷ []) }
-{
-    words.push(word)?;
-    Ok(())
-}
 
 /// A modelled call, whose arguments come from left to right.
 fn modelled(
@@ -173,8 +166,7 @@ impl<'a> Interpreter<'a> {
                 arguments,
             } => {
                 let words = self.arguments(thread, globals, *function, arguments)?;
-                self.enter(thread, *site, place, *function, words)?;
-                Ok(Move::Goes)
+                went(self.enter(thread, *site, place, *function, words))
             }
             Call::Table {
                 site,
@@ -190,8 +182,7 @@ impl<'a> Interpreter<'a> {
                 }
                 let function = members[index as usize];
                 let words = self.one_word(function, argument)?;
-                self.enter(thread, *site, place, function, words)?;
-                Ok(Move::Goes)
+                went(self.enter(thread, *site, place, function, words))
             }
             Call::Spawn {
                 site,
@@ -261,7 +252,7 @@ impl<'a> Interpreter<'a> {
         let mut words = Vec::with_capacity(self.alloc, self.layout(function).words)?;
         for argument in arguments {
             let word = self.value(thread, globals, argument)?;
-            push_word(&mut words, word)?;
+            push(&mut words, word)?;
         }
         Ok(words)
     }
@@ -302,7 +293,6 @@ impl<'a> Interpreter<'a> {
         let pushed = self.frame(function, words)?;
         let frame = mem::replace(&mut thread.front, pushed);
         thread.place = Place::Nowhere;
-        thread.below.push(WaitingFrame { frame, site, place })?;
-        Ok(())
+        push(&mut thread.below, WaitingFrame { frame, site, place })
     }
 }

@@ -1,7 +1,10 @@
 // The frames of a thread.
 
+ghost use Rattle.std.specs.Prelude.{◌≡◌, ◌++◌, ◌∷◌, [], OnOk};
+
 use cap_word::{SiteKey, TrapKind};
 use source_items::Item;
+use std::alloc::AllocError;
 
 /// Where a result goes: nowhere, to a name, to an element whose index is already a number, or back to the caller.
 #[derive(Clone, Copy)]
@@ -53,7 +56,6 @@ pub struct Thread<'a> {
 }
 
 impl<'a> Thread<'a> {
-    ghost use Rattle.std.specs.Prelude.{◌≡◌};
     ghost use Rattle.c_mean.specs.Frames.{key_of};
     ghost use Rattle.c_tree.specs.Trees.{ProgramTree};
     ghost use Rattle.source_runs.specs.Threads.{waiting_of};
@@ -72,5 +74,15 @@ impl<'a> Thread<'a> {
             count += 1;
         }
         SiteKey::new(&sites[..count])
+    }
+}
+
+/// One element more.
+pub(crate) fn push<T: Drop>(list: &mut Vec<T>, element: T) -> Result<(), AllocError>
+    ensures { OnOk result (list.new.items ≡ list.old.items ++ element ∷ []) }
+{
+    match list.push(element) {
+        Ok(()) => Ok(()),
+        Err(_) => Err(AllocError),
     }
 }

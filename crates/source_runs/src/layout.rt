@@ -4,6 +4,7 @@ ghost use Rattle.c_tree.specs.Views.{function_tree};
 ghost use Rattle.c_mean.specs.Layout as rows;
 ghost use Rattle.source_runs.specs.Layouts.{AreLayouts, AreSmall, IsLayout};
 
+use crate::frames::push;
 use c_tree::{Function, GlobalFact};
 use std::alloc::{AllocError, Global};
 
@@ -36,7 +37,7 @@ pub(crate) fn layouts_of(alloc: Global, functions: &[Function]) -> Result<Vec<La
     let mut layouts = Vec::with_capacity(alloc, functions.len())?;
     for function in functions {
         let layout = layout_of(alloc, function.sizes.as_slice())?;
-        layouts.push(layout)?;
+        push(&mut layouts, layout)?;
     }
     Ok(layouts)
 }

@@ -1,5 +1,5 @@
 // One step of a source thread.
-ghost use Rattle.std.specs.Prelude.{◌≡◌, option_map};
+ghost use Rattle.std.specs.Prelude.{◌≡◌, Ok, Err, MatchResult, option_map};
 ghost use Rattle.c_tree.specs.Views.{expr_tree, right_tree, simple_tree, stmt_tree};
 ghost use Rattle.c_tree.specs.WellScoped.{IsExprScoped, IsReturnScoped, IsRightScoped, IsSimpleScoped};
 ghost use Rattle.c_mean.specs.Steps.{assigns, branched, does, gives_back, on_value, performs, source_step, valued};
@@ -9,6 +9,8 @@ ghost use Rattle.source_runs.specs.Layouts.{InSomeScope, IsReady, context_at, tr
 ghost use Rattle.source_runs.specs.Steps.{HasStepped, else_tree};
 ghost use Rattle.source_runs.specs.Threads.{IsPlace, IsThread, place_of, running_of};
 ghost use Rattle.source_runs.specs.declared.frames.Next.TheVariants as next;
+ghost use Rattle.source_runs.specs.declared.halts.Halt.TheVariants as halt;
+ghost use Rattle.source_runs.specs.declared.interpreter.Move.TheVariants as move;
 
 use crate::frames::{Next, Place, Thread};
 use crate::halts::Halt;
@@ -18,6 +20,17 @@ use source_items::{
     Item, Part, condition_of, leave, push_body, push_stmt, push_turn, skip, start_of, step_of,
     take_item,
 };
+use std::alloc::AllocError;
+
+/// A step that wanted memory goes on where there was some.
+pub(crate) fn went(pushed: Result<(), AllocError>) -> Result<Move, Halt>
+    ensures { MatchResult pushed (λ _. result ≡ Ok move.Goes) (λ _. result ≡ Err halt.Memory) }
+{
+    match pushed {
+        Ok(()) => Ok(Move::Goes),
+        Err(_) => Err(Halt::Memory),
+    }
+}
 
 impl<'a> Interpreter<'a> {
     /// One step. A function that reaches its end returns 0 if it is an `int` function.
@@ -64,10 +77,7 @@ impl<'a> Interpreter<'a> {
                 Some(simple) => self.simply(thread, globals, simple),
                 None => unreachable!(),
             },
-            Part::Back => {
-                push_turn(&mut thread.front.items, item.stmt)?;
-                Ok(Move::Goes)
-            }
+            Part::Back => { went(push_turn(&mut thread.front.items, item.stmt)) }
         }
     }
 
@@ -98,10 +108,7 @@ impl<'a> Interpreter<'a> {
                 leave(&mut thread.front.items);
                 Ok(Move::Goes)
             }
-            Stmt::Continue => {
-                skip(&mut thread.front.items)?;
-                Ok(Move::Goes)
-            }
+            Stmt::Continue => { went(skip(&mut thread.front.items)) }
             Stmt::Return(value) => self.return_right(thread, globals, value),
             Stmt::Empty => unreachable!(),
             Stmt::Block(_) => unreachable!(),
@@ -129,14 +136,10 @@ impl<'a> Interpreter<'a> {
     {
         let word = self.value(thread, globals, condition)?;
         if word != 0 {
-            push_stmt(&mut thread.front.items, then)?;
-            return Ok(Move::Goes);
+            return went(push_stmt(&mut thread.front.items, then));
         }
         match otherwise {
-            Some(second) => {
-                push_stmt(&mut thread.front.items, second)?;
-                Ok(Move::Goes)
-            }
+            Some(second) => { went(push_stmt(&mut thread.front.items, second)) }
             None => Ok(Move::Goes),
         }
     }
@@ -160,8 +163,7 @@ impl<'a> Interpreter<'a> {
     {
         let word = self.value(thread, globals, condition)?;
         if word != 0 {
-            push_body(&mut thread.front.items, stmt)?;
-            return Ok(Move::Goes);
+            return went(push_body(&mut thread.front.items, stmt));
         }
         Ok(Move::Goes)
     }

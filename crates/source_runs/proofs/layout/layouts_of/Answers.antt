@@ -10,5 +10,5 @@ layout_of-requires c =
 
 pub loop-function-preserved : goal.loop-function-preserved
 loop-function-preserved c =
-    layouts-more c.args.functions.now c.loop-function.function-index c.function-item.result c.loop-function.layouts.items c.push.new.self.items c.in_ok-layout.layout c.loop-function-test.true c.function-item.is c.loop-function.invariant
-    (subst (λ (ns : List ℕ). IsLayout ns c.in_ok-layout.layout) c.as_slice.ensures.value c.in_ok-layout.ensures) c.in_ok-push.ensures.items
+    layouts-more c.args.functions.now c.loop-function.function-index c.function-item.result c.loop-function.layouts.items c.push.new.list.items c.in_ok-layout.layout c.loop-function-test.true c.function-item.is c.loop-function.invariant
+    (subst (λ (ns : List ℕ). IsLayout ns c.in_ok-layout.layout) c.as_slice.ensures.value c.in_ok-layout.ensures) c.in_ok-push.ensures

@@ -24,7 +24,7 @@ loop-argument-preserved c =
     let names = rows_of (sizes_at tree c.args.thread.now.front.function) c.args.thread.now.front.names.items in
     let globals = globals_of tree c.args.globals.now.items in
     let l = c.loop-argument in
-    values-more names globals c.args.arguments.now l.argument-index c.argument-item.result l.words.items c.push_word.new.words.items c.in_ok-word.word c.loop-argument-test.true c.argument-item.is c.in_ok-word.ensures c.in_ok-push_word.ensures l.invariant
+    values-more names globals c.args.arguments.now l.argument-index c.argument-item.result l.words.items c.push.new.list.items c.in_ok-word.word c.loop-argument-test.true c.argument-item.is c.in_ok-word.ensures c.in_ok-push.ensures l.invariant
 
 pub returns : goal.returns
 returns c =
@@ -52,11 +52,11 @@ returns-in_err-word c =
     halted-from tree (of names globals c.args.arguments.now) r p.0 _ p.1 p.2
     (values-trap names globals c.args.arguments.now l.argument-index c.argument-item.result l.words.items _ c.loop-argument-test.true c.argument-item.is c.in_err-word.ensures l.invariant)
 
-pub returns-in_err-push_word : goal.returns-in_err-push_word
-returns-in_err-push_word c =
+pub returns-in_err-push : goal.returns-in_err-push
+returns-in_err-push c =
     let tree = tree_of c.args.self.now in
     let names = rows_of (sizes_at tree c.args.thread.now.front.function) c.args.thread.now.front.names.items in
     let globals = globals_of tree c.args.globals.now.items in
-    let r = c.from_residual-in_err-push_word.result in
-    let p = err_from_is_err_and r c.from_residual-in_err-push_word.ensures.1 in
+    let r = c.from_residual-in_err-push.result in
+    let p = err_from_is_err_and r c.from_residual-in_err-push.ensures.1 in
     halted-from tree (of names globals c.args.arguments.now) r p.0 _ p.1 p.2 (tt {0})

@@ -19,10 +19,116 @@ use Rattle.source_runs.specs.Threads.{IsThread, globals_of, place_of, running_of
 use Rattle.source_runs.specs.declared.frames.Thread.{Thread}
 use Rattle.source_runs.specs.declared.halts.Halt.TheVariants as halt
 use Rattle.source_runs.specs.declared.interpreter.Move.TheVariants as move
-use Rattle.source_runs.proofs.Functions.{signed-count}
-use Rattle.source_runs.proofs.Moved.{asked-so, entered-so, halt-from, made-so, member-entered, memory-from, no-member, trap-from, value-used}
+use Rattle.c_tree.specs.WellScoped.{IsMember, signature_of}
+use Rattle.source_runs.proofs.Functions.{member-at, signed-count}
+use Rattle.source_runs.proofs.Moved.{asked-so, entered-so, halt-from, made-so, member-entered, memory-from, no-member, trap-from, value-used, went-so}
 use Rattle.source_runs.proofs.Ranges.{all-in-range}
 use Rattle.source_runs.proofs.interpreter.Interpreter.call.Goals as goal
+
+pub arguments-requires-clause-ready : goal.arguments-requires-clause-ready
+arguments-requires-clause-ready c = c.requires.ready
+
+pub arguments-requires-clause-frame : goal.arguments-requires-clause-frame
+arguments-requires-clause-frame c = c.requires.thread.front
+
+pub arguments-requires-clause-full : goal.arguments-requires-clause-full
+arguments-requires-clause-full c = c.requires.thread.globals
+
+pub value-requires-clause-ready : goal.value-requires-clause-ready
+value-requires-clause-ready c = c.requires.ready
+
+pub value-requires-clause-frame : goal.value-requires-clause-frame
+value-requires-clause-frame c = c.requires.thread.front
+
+pub value-requires-clause-full : goal.value-requires-clause-full
+value-requires-clause-full c = c.requires.thread.globals
+
+pub enter-requires-clause-ready : goal.enter-requires-clause-ready
+enter-requires-clause-ready c = c.requires.ready
+
+pub enter-requires-clause-frame : goal.enter-requires-clause-frame
+enter-requires-clause-frame c = c.requires.thread.front
+
+pub asked-requires-clause-ready : goal.asked-requires-clause-ready
+asked-requires-clause-ready c = c.requires.ready
+
+pub asked-requires-clause-frame : goal.asked-requires-clause-frame
+asked-requires-clause-frame c = c.requires.thread.front
+
+pub asked-requires-clause-full : goal.asked-requires-clause-full
+asked-requires-clause-full c = c.requires.thread.globals
+
+pub enter-requires-clause-place : goal.enter-requires-clause-place
+enter-requires-clause-place c = c.requires.place
+
+pub value-requires-in-Table-clause-ready : goal.value-requires-in-Table-clause-ready
+value-requires-in-Table-clause-ready c = c.requires.ready
+
+pub value-requires-in-Table-clause-frame : goal.value-requires-in-Table-clause-frame
+value-requires-in-Table-clause-frame c = c.requires.thread.front
+
+pub value-requires-in-Table-clause-full : goal.value-requires-in-Table-clause-full
+value-requires-in-Table-clause-full c = c.requires.thread.globals
+
+pub value-requires-in-Spawn-clause-ready : goal.value-requires-in-Spawn-clause-ready
+value-requires-in-Spawn-clause-ready c = c.requires.ready
+
+pub value-requires-in-Spawn-clause-frame : goal.value-requires-in-Spawn-clause-frame
+value-requires-in-Spawn-clause-frame c = c.requires.thread.front
+
+pub value-requires-in-Spawn-clause-full : goal.value-requires-in-Spawn-clause-full
+value-requires-in-Spawn-clause-full c = c.requires.thread.globals
+
+pub enter-requires-in-Table-clause-ready : goal.enter-requires-in-Table-clause-ready
+enter-requires-in-Table-clause-ready c = c.requires.ready
+
+pub enter-requires-in-Table-clause-frame : goal.enter-requires-in-Table-clause-frame
+enter-requires-in-Table-clause-frame c = c.requires.thread.front
+
+pub enter-requires-in-Table-clause-place : goal.enter-requires-in-Table-clause-place
+enter-requires-in-Table-clause-place c = c.requires.place
+
+pub one_word-requires-clause-ready : goal.one_word-requires-clause-ready
+one_word-requires-clause-ready c = c.requires.ready
+
+pub arguments-requires-clause-there : goal.arguments-requires-clause-there
+arguments-requires-clause-there c = let h = rw c.in-Function.is at c.requires.scoped in signed-count (tree_of c.args.self.now) c.in-Function.function h.scoped.0
+
+pub enter-requires-clause-there : goal.enter-requires-clause-there
+enter-requires-clause-there c = let h = rw c.in-Function.is at c.requires.scoped in signed-count (tree_of c.args.self.now) c.in-Function.function h.scoped.0
+
+pub members-members-requires : goal.members-members-requires
+members-members-requires c = let h = rw c.in-Table.is at c.requires.scoped in h.scoped.0
+
+pub one_word-requires-clause-there : goal.one_word-requires-clause-there
+one_word-requires-clause-there c =
+    let tree = tree_of c.args.self.now in
+    let call = c.in-Table in
+    let index = c.in_ok-index-in-Table.index in
+    let h = rw call.is at c.requires.scoped in
+    let within = subst (λ (ms : List ℕ). index < length ms) c.members-members.ensures c.if-index-members.false in
+    let member = subst (λ (ms : List ℕ). IsMember (map signature_of tree.functions) (slice_index ms index)) (sym c.members-members.ensures) (member-at tree call.table index c.requires.ready.scoped h.scoped.0 within) in
+    signed-count tree (slice_index c.members-members.result.now index) member.0
+
+pub enter-requires-in-Table-clause-there : goal.enter-requires-in-Table-clause-there
+enter-requires-in-Table-clause-there c =
+    let tree = tree_of c.args.self.now in
+    let call = c.in-Table in
+    let index = c.in_ok-index-in-Table.index in
+    let h = rw call.is at c.requires.scoped in
+    let within = subst (λ (ms : List ℕ). index < length ms) c.members-members.ensures c.if-index-members.false in
+    let member = subst (λ (ms : List ℕ). IsMember (map signature_of tree.functions) (slice_index ms index)) (sym c.members-members.ensures) (member-at tree call.table index c.requires.ready.scoped h.scoped.0 within) in
+    signed-count tree (slice_index c.members-members.result.now index) member.0
+
+pub enter-requires-in-Table-clause-fits : goal.enter-requires-in-Table-clause-fits
+enter-requires-in-Table-clause-fits c =
+    let tree = tree_of c.args.self.now in
+    let call = c.in-Table in
+    let index = c.in_ok-index-in-Table.index in
+    let h = rw call.is at c.requires.scoped in
+    let within = subst (λ (ms : List ℕ). index < length ms) c.members-members.ensures c.if-index-members.false in
+    let member = subst (λ (ms : List ℕ). IsMember (map signature_of tree.functions) (slice_index ms index)) (sym c.members-members.ensures) (member-at tree call.table index c.requires.ready.scoped h.scoped.0 within) in
+    member.1 ∙ ap length (sym c.in_ok-words-in-Table.ensures)
 
 pub arguments-requires-clause-in_range : goal.arguments-requires-clause-in_range
 arguments-requires-clause-in_range c =
@@ -66,13 +172,8 @@ returns-in_err-words-in-Function c =
     (ap (λ (k : Call). called tree running place (call_tree k)) call.is ∙ ap (λ (xs : List Expr). on_value running (all_valued running (map expr_tree xs)) (λ arguments. entered tree running call.site place call.function arguments)) (sym c.deref.ensures.value))
     (halt-from tree running words thread (all_valued running (map expr_tree c.deref.result.now)) (λ arguments. entered tree running call.site place call.function arguments) c.from_residual.result p.0 _ p.1 p.2 c.in_err-words-in-Function.ensures refl)
 
-pub returns-in_err-enter-in-Function : goal.returns-in_err-enter-in-Function
-returns-in_err-enter-in-Function c =
-    let p = err_from_is_err_and c.from_residual-in_err-enter-in-Function.result c.from_residual-in_err-enter-in-Function.ensures.1 in
-    memory-from (tree_of c.args.self.now) _ c.args.globals.now.items c.enter.new.thread c.from_residual-in_err-enter-in-Function.result p.0 p.1 p.2
-
-pub returns-in_ok-enter-in-Function : goal.returns-in_ok-enter-in-Function
-returns-in_ok-enter-in-Function c =
+pub returns-in_ok-words-in-Function : goal.returns-in_ok-words-in-Function
+returns-in_ok-words-in-Function c =
     let tree = tree_of c.args.self.now in
     let words = c.args.globals.now.items in
     let thread = c.args.thread.now in
@@ -83,9 +184,10 @@ returns-in_ok-enter-in-Function c =
     let new = c.enter.new.thread in
     let arguments = c.in_ok-words-in-Function.words.items in
     let found : all_valued running es ≡ Ok arguments = ap (λ (xs : List Expr). all_valued running (map expr_tree xs)) (sym c.deref.ensures.value) ∙ c.in_ok-words-in-Function.ensures in
-    made-so tree _ (called tree running place (call_tree c.args.call.now)) words new (Ok move.Goes) (ap (λ (k : Call). called tree running place (call_tree k)) call.is)
-    (value-used tree running words new (all_valued running es) (λ arguments. entered tree running call.site place call.function arguments) arguments (Ok move.Goes) found
-    (entered-so tree running words new call.site place call.function arguments (c.in_ok-enter-in-Function.ensures.entered words) (c.in_ok-enter-in-Function.ensures.thread words c.requires.thread)))
+    made-so tree _ (called tree running place (call_tree c.args.call.now)) words new c.went.result (ap (λ (k : Call). called tree running place (call_tree k)) call.is)
+    (value-used tree running words new (all_valued running es) (λ arguments. entered tree running call.site place call.function arguments) arguments c.went.result found
+    (went-so tree (entered tree running call.site place call.function arguments) words new c.enter.result c.went.result c.went.ensures (c.enter.ensures.entered words) (c.enter.ensures.thread words c.requires.thread)
+    (λ e fits. entered-so tree running words new call.site place call.function arguments e fits)))
 
 -- ---- a table
 
@@ -142,14 +244,8 @@ returns-in_err-words-in-Table c =
     let p = err_from_is_err_and r c.from_residual-in_err-words-in-Table.ensures.1 in
     memory-from (tree_of c.args.self.now) _ c.args.globals.now.items c.args.thread.now r p.0 p.1 p.2
 
-pub returns-in_err-enter-in-Table : goal.returns-in_err-enter-in-Table
-returns-in_err-enter-in-Table c =
-    let r = c.from_residual-in_err-enter-in-Table.result in
-    let p = err_from_is_err_and r c.from_residual-in_err-enter-in-Table.ensures.1 in
-    memory-from (tree_of c.args.self.now) _ c.args.globals.now.items c.enter-in-Table.new.thread r p.0 p.1 p.2
-
-pub returns-in_ok-enter-in-Table : goal.returns-in_ok-enter-in-Table
-returns-in_ok-enter-in-Table c =
+pub returns-in_ok-words-in-Table : goal.returns-in_ok-words-in-Table
+returns-in_ok-words-in-Table c =
     let tree = tree_of c.args.self.now in
     let words = c.args.globals.now.items in
     let thread = c.args.thread.now in
@@ -160,14 +256,15 @@ returns-in_ok-enter-in-Table c =
     let index = c.in_ok-index-in-Table.index in
     let argument = c.in_ok-argument-in-Table.argument in
     let new = c.enter-in-Table.new.thread in
+    let r = c.went-in-Table.result in
     let f = slice_index c.members-members.result.now index in
     let within = subst (λ (ms : List ℕ). index < length ms) c.members-members.ensures c.if-index-members.false in
-    let e = c.in_ok-enter-in-Table.ensures.entered words ∙ ap (λ (ws : List ℕ). record { frame = pushed tree f ws; below = waits_at running call.site place ∷ running.below; globals = running.globals }) c.in_ok-words-in-Table.ensures in
-    made-so tree _ (called tree running place (call_tree c.args.call.now)) words new (Ok move.Goes) (ap (λ (k : Call). called tree running place (call_tree k)) call.is)
-    (value-used tree running words new (valued running (expr_tree call.index)) (λ index. on_value running (valued running (expr_tree call.argument)) (λ argument. entered_by members tree running call.site place index argument)) index (Ok move.Goes) (sym c.in_ok-index-in-Table.ensures)
-    (value-used tree running words new (valued running (expr_tree call.argument)) (λ argument. entered_by members tree running call.site place index argument) argument (Ok move.Goes) (sym c.in_ok-argument-in-Table.ensures)
-    (member-entered tree running words new call.site place members index argument f (Ok move.Goes) within (ap (λ (ms : List ℕ). slice_index ms index) c.members-members.ensures)
-    (entered-so tree running words new call.site place f (argument ∷ []) e (c.in_ok-enter-in-Table.ensures.thread words c.requires.thread)))))
+    made-so tree _ (called tree running place (call_tree c.args.call.now)) words new r (ap (λ (k : Call). called tree running place (call_tree k)) call.is)
+    (value-used tree running words new (valued running (expr_tree call.index)) (λ index. on_value running (valued running (expr_tree call.argument)) (λ argument. entered_by members tree running call.site place index argument)) index r (sym c.in_ok-index-in-Table.ensures)
+    (value-used tree running words new (valued running (expr_tree call.argument)) (λ argument. entered_by members tree running call.site place index argument) argument r (sym c.in_ok-argument-in-Table.ensures)
+    (member-entered tree running words new call.site place members index argument f r within (ap (λ (ms : List ℕ). slice_index ms index) c.members-members.ensures)
+    (went-so tree (entered tree running call.site place f (argument ∷ [])) words new c.enter-in-Table.result r c.went-in-Table.ensures (c.enter-in-Table.ensures.entered words) (c.enter-in-Table.ensures.thread words c.requires.thread)
+    (λ e fits. entered-so tree running words new call.site place f (argument ∷ []) (e ∙ ap (λ (ws : List ℕ). record { frame = pushed tree f ws; below = waits_at running call.site place ∷ running.below; globals = running.globals }) c.in_ok-words-in-Table.ensures) fits)))))
 
 -- ---- what the thread package answers
 

@@ -1,12 +1,12 @@
 use Rattle.std.proofs.Common.{ap, subst, refl}
-use Rattle.std.proofs.lemmas.Result.{err_from_is_err_and}
 use Rattle.c_tree.specs.Views.{expr_tree, simple_tree, stmt_tree}
 use Rattle.c_mean.specs.Steps.{performs}
 use Rattle.source_items.specs.Items.{HasPart, item_of, part_item, to_do}
 use Rattle.source_items.specs.declared.items.Part.{Part}
 use Rattle.source_runs.specs.Layouts.{context_at, tree_of}
 use Rattle.source_runs.specs.Threads.{running_of}
-use Rattle.source_runs.proofs.Moved.{goes-with, memory-from}
+use Rattle.source_runs.specs.declared.frames.Thread.{Thread}
+use Rattle.source_runs.proofs.Moved.{goes-with, went-so}
 use Rattle.source_runs.proofs.Parts.{part-so, start-so, step-so, test-so}
 use Rattle.source_runs.proofs.Scopes.{condition-loop, condition-scoped, start-scoped, step-scoped}
 use Rattle.source_runs.proofs.interpreter.Interpreter.perform.Goals as goal
@@ -77,22 +77,14 @@ returns-in-Enter c =
 pub push_turn-requires : goal.push_turn-requires
 push_turn-requires c = subst (λ (p : Part). HasPart p (stmt_tree c.args.item.stmt.now)) c.in-Back.is c.requires.item.has
 
-pub returns-in_ok-push_turn-in-Back : goal.returns-in_ok-push_turn-in-Back
-returns-in_ok-push_turn-in-Back c =
+pub returns-in-Back : goal.returns-in-Back
+returns-in-Back c =
     let tree = tree_of c.args.self.now in
     let words = c.args.globals.now.items in
     let thread = c.args.thread.now in
     let running = running_of tree thread words in
     let rest = to_do thread.front.items.items in
-    goes-with tree thread words c.push_turn.new.items _ _ (ap (λ (p : Part). performs tree running (part_item p (stmt_tree c.args.item.stmt.now)) rest) c.in-Back.is) c.requires.next c.in_ok-push_turn-in-Back.ensures.next c.requires.thread
-    (c.in_ok-push_turn-in-Back.ensures.fits (context_at tree thread.front.function) c.requires.thread.front.items c.requires.item.scoped)
-
-pub returns-in_err-push_turn-in-Back : goal.returns-in_err-push_turn-in-Back
-returns-in_err-push_turn-in-Back c =
-    let tree = tree_of c.args.self.now in
-    let words = c.args.globals.now.items in
-    let thread = c.args.thread.now in
-    let running = running_of tree thread words in
-    let rest = to_do thread.front.items.items in
-    let p = err_from_is_err_and c.from_residual.result c.from_residual.ensures.1 in
-    memory-from tree (performs tree running (item_of c.args.item) rest) words (record thread { front = record thread.front { items = c.push_turn.new.items } }) c.from_residual.result p.0 p.1 p.2
+    let new : Thread = record thread { front = record thread.front { items = c.push_turn.new.items } } in
+    went-so tree (performs tree running (item_of c.args.item) rest) words new c.push_turn.result c.went.result c.went.ensures c.push_turn.ensures.next
+    (c.push_turn.ensures.fits (context_at tree thread.front.function) c.requires.thread.front.items c.requires.item.scoped)
+    (λ next fits. goes-with tree thread words c.push_turn.new.items _ _ (ap (λ (p : Part). performs tree running (part_item p (stmt_tree c.args.item.stmt.now)) rest) c.in-Back.is) c.requires.next next c.requires.thread fits)

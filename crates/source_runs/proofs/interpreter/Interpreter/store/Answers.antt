@@ -4,7 +4,7 @@ use Rattle.std.specs.Prelude.{slice_index}
 use Rattle.c_mean.specs.Steps.{stored}
 use Rattle.c_mean.specs.Layout.{widths_of}
 use Rattle.c_mean.proofs.LayoutLemmas.{sum_next-le}
-use Rattle.std.proofs.lemmas.List.{get_or_read}
+use Rattle.std.proofs.lemmas.List.{get_or_read, length-set}
 use Rattle.source_runs.specs.Layouts.{sizes_at, tree_of}
 use Rattle.source_runs.specs.Threads.{place_of, running_of}
 use Rattle.source_runs.specs.declared.frames.Place.{Place}
@@ -90,3 +90,86 @@ returns-else-index-clause-stored c =
     let width = width-is c.args.self.now.global_widths.items (widths_of tree.globals) f.array c.index.result.now c.requires.ready.global_widths there c.index.ensures in
     let within : f.index < slice_index (widths_of tree.globals) f.array = omega (arith, width, c.if-index.false) in
     stored-global_element tree thread words c.args.place _ f.array f.index c.global_start-start-in-GlobalElement.result c.args.word f.is refl c.global_start-start-in-GlobalElement.ensures within there c.requires.thread
+
+-- ---- what holds of the thread after it
+
+pub returns-in-Nowhere-clause-thread : goal.returns-in-Nowhere-clause-thread
+returns-in-Nowhere-clause-thread c = c.requires.thread
+
+pub returns-then-index-sizes-clause-thread : goal.returns-then-index-sizes-clause-thread
+returns-then-index-sizes-clause-thread c = c.requires.thread
+
+pub returns-then-index-clause-thread : goal.returns-then-index-clause-thread
+returns-then-index-clause-thread c = c.requires.thread
+
+pub returns-in-Local-clause-thread : goal.returns-in-Local-clause-thread
+returns-in-Local-clause-thread c = let h = c.requires.thread in record { front = record { function = h.front.function; full = length-set c.args.thread.now.front.names.items _ c.args.word ∙ h.front.full; items = h.front.items }; place = h.place; below = h.below; globals = h.globals }
+
+pub returns-else-index-sizes-clause-thread : goal.returns-else-index-sizes-clause-thread
+returns-else-index-sizes-clause-thread c = let h = c.requires.thread in record { front = record { function = h.front.function; full = length-set c.args.thread.now.front.names.items _ c.args.word ∙ h.front.full; items = h.front.items }; place = h.place; below = h.below; globals = h.globals }
+
+pub returns-in-Global-clause-thread : goal.returns-in-Global-clause-thread
+returns-in-Global-clause-thread c = let h = c.requires.thread in record { front = h.front; place = h.place; below = h.below; globals = length-set c.args.globals.now.items _ c.args.word ∙ h.globals }
+
+pub returns-else-index-clause-thread : goal.returns-else-index-clause-thread
+returns-else-index-clause-thread c = let h = c.requires.thread in record { front = h.front; place = h.place; below = h.below; globals = length-set c.args.globals.now.items _ c.args.word ∙ h.globals }
+
+pub returns-in-Returned-clause-thread : goal.returns-in-Returned-clause-thread
+returns-in-Returned-clause-thread c = let h = c.requires.thread in record { front = record { function = h.front.function; full = h.front.full; items = h.front.items }; place = h.place; below = h.below; globals = h.globals }
+
+pub returns-in-Nowhere-clause-kept : goal.returns-in-Nowhere-clause-kept
+returns-in-Nowhere-clause-kept c = tt {0}
+
+pub returns-in-Local-clause-kept : goal.returns-in-Local-clause-kept
+returns-in-Local-clause-kept c = tt {0}
+
+pub returns-in-Global-clause-kept : goal.returns-in-Global-clause-kept
+returns-in-Global-clause-kept c = tt {0}
+
+pub returns-else-index-sizes-clause-kept : goal.returns-else-index-sizes-clause-kept
+returns-else-index-sizes-clause-kept c = tt {0}
+
+pub returns-else-index-clause-kept : goal.returns-else-index-clause-kept
+returns-else-index-clause-kept c = tt {0}
+
+pub returns-in-Returned-clause-kept : goal.returns-in-Returned-clause-kept
+returns-in-Returned-clause-kept c = tt {0}
+
+pub returns-then-index-sizes-clause-kept : goal.returns-then-index-sizes-clause-kept
+returns-then-index-sizes-clause-kept c = refl
+
+pub returns-then-index-clause-kept : goal.returns-then-index-clause-kept
+returns-then-index-clause-kept c = refl
+
+pub local_start-start-requires-clause-ready : goal.local_start-start-requires-clause-ready
+local_start-start-requires-clause-ready c = c.requires.ready
+
+pub local_start-start-requires-clause-there : goal.local_start-start-requires-clause-there
+local_start-start-requires-clause-there c = c.requires.thread.front.function
+
+pub local_start-start-requires-in-LocalElement-clause-ready : goal.local_start-start-requires-in-LocalElement-clause-ready
+local_start-start-requires-in-LocalElement-clause-ready c = c.requires.ready
+
+pub local_start-start-requires-in-LocalElement-clause-there : goal.local_start-start-requires-in-LocalElement-clause-there
+local_start-start-requires-in-LocalElement-clause-there c = c.requires.thread.front.function
+
+pub global_start-start-requires-clause-ready : goal.global_start-start-requires-clause-ready
+global_start-start-requires-clause-ready c = c.requires.ready
+
+pub global_start-start-requires-in-GlobalElement-clause-ready : goal.global_start-start-requires-in-GlobalElement-clause-ready
+global_start-start-requires-in-GlobalElement-clause-ready c = c.requires.ready
+
+pub sizes-requires : goal.sizes-requires
+sizes-requires c = c.requires.thread.front.function
+
+pub local_start-start-requires-clause-named : goal.local_start-start-requires-clause-named
+local_start-start-requires-clause-named c = let h = rw c.in-Local.is at c.requires.place in h.0
+
+pub local_start-start-requires-in-LocalElement-clause-named : goal.local_start-start-requires-in-LocalElement-clause-named
+local_start-start-requires-in-LocalElement-clause-named c = rw c.in-LocalElement.is at c.requires.place
+
+pub global_start-start-requires-clause-named : goal.global_start-start-requires-clause-named
+global_start-start-requires-clause-named c = let h = rw c.in-Global.is at c.requires.place in widths-there (tree_of c.args.self.now) c.in-Global.g h.0
+
+pub global_start-start-requires-in-GlobalElement-clause-named : goal.global_start-start-requires-in-GlobalElement-clause-named
+global_start-start-requires-in-GlobalElement-clause-named c = widths-there (tree_of c.args.self.now) c.in-GlobalElement.array (rw c.in-GlobalElement.is at c.requires.place)

@@ -9,7 +9,8 @@ use Rattle.c_mean.specs.ToDo as todo
 use Rattle.source_items.specs.Items.{loop_of, to_do}
 use Rattle.source_runs.specs.Layouts.{context_at, tree_of}
 use Rattle.source_runs.specs.Threads.{running_of}
-use Rattle.source_runs.proofs.Moved.{first-side, second-side, goes-with, memory-from, trap-from, value-used}
+use Rattle.source_runs.specs.declared.frames.Thread.{Thread}
+use Rattle.source_runs.proofs.Moved.{first-side, second-side, goes-with, trap-from, value-used, went-so}
 use Rattle.source_runs.proofs.interpreter.Interpreter.test.Goals as goal
 
 pub value-requires-clause-in_range : goal.value-requires-clause-in_range
@@ -25,16 +26,6 @@ returns-in_err-word c =
     let p = err_from_is_err_and c.from_residual.result c.from_residual.ensures.1 in
     trap-from tree running words thread (valued running (expr_tree c.args.condition.now)) (branched running (todo.body_before (loop_of (stmt_tree c.args.stmt.now)) rest) rest) _ c.from_residual.result p.0 p.1 p.2 (sym c.in_err-word.ensures) refl
 
-pub returns-in_err-push_body : goal.returns-in_err-push_body
-returns-in_err-push_body c =
-    let tree = tree_of c.args.self.now in
-    let words = c.args.globals.now.items in
-    let thread = c.args.thread.now in
-    let running = running_of tree thread words in
-    let rest = to_do thread.front.items.items in
-    let p = err_from_is_err_and c.from_residual-in_err-push_body.result c.from_residual-in_err-push_body.ensures.1 in
-    memory-from tree (on_value running (valued running (expr_tree c.args.condition.now)) (branched running (todo.body_before (loop_of (stmt_tree c.args.stmt.now)) rest) rest)) words (record thread { front = record thread.front { items = c.push_body.new.items } }) c.from_residual-in_err-push_body.result p.0 p.1 p.2
-
 pub returns-then-word-ne0 : goal.returns-then-word-ne0
 returns-then-word-ne0 c =
     let tree = tree_of c.args.self.now in
@@ -42,8 +33,13 @@ returns-then-word-ne0 c =
     let thread = c.args.thread.now in
     let running = running_of tree thread words in
     let rest = to_do thread.front.items.items in
-    value-used tree running words (record thread { front = record thread.front { items = c.push_body.new.items } }) (valued running (expr_tree c.args.condition.now)) (branched running (todo.body_before (loop_of (stmt_tree c.args.stmt.now)) rest) rest) c.in_ok-word.word (Ok move.Goes) (sym c.in_ok-word.ensures)
-    (goes-with tree thread words c.push_body.new.items _ _ (first-side tree running (todo.body_before (loop_of (stmt_tree c.args.stmt.now)) rest) rest c.in_ok-word.word c.if-word-ne0.true) c.requires.next c.in_ok-push_body.ensures.next c.requires.thread (c.in_ok-push_body.ensures.fits (context_at tree thread.front.function) c.requires.thread.front.items c.requires.is_loop c.requires.scoped))
+    let new : Thread = record thread { front = record thread.front { items = c.push_body.new.items } } in
+    let body = todo.body_before (loop_of (stmt_tree c.args.stmt.now)) rest in
+    let v = valued running (expr_tree c.args.condition.now) in
+    went-so tree (on_value running v (branched running body rest)) words new c.push_body.result c.went.result c.went.ensures c.push_body.ensures.next
+    (c.push_body.ensures.fits (context_at tree thread.front.function) c.requires.thread.front.items c.requires.is_loop c.requires.scoped)
+    (λ next fits. value-used tree running words new v (branched running body rest) c.in_ok-word.word (Ok move.Goes) (sym c.in_ok-word.ensures)
+    (goes-with tree thread words c.push_body.new.items _ _ (first-side tree running body rest c.in_ok-word.word c.if-word-ne0.true) c.requires.next next c.requires.thread fits))
 
 pub returns : goal.returns
 returns c =

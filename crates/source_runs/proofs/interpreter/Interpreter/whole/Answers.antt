@@ -1,5 +1,4 @@
 use Rattle.std.proofs.Common.{ap, sym, ◌∙◌, subst}
-use Rattle.std.proofs.lemmas.Result.{err_from_is_err_and}
 use Rattle.c_tree.proofs.StmtEquations.{stmt_tree-Simple, stmt_tree-If, stmt_tree-IfElse, stmt_tree-While, stmt_tree-Break, stmt_tree-Continue, stmt_tree-Return}
 use Rattle.c_tree.specs.Trees.{StmtTree}
 use Rattle.c_tree.specs.Views.{expr_tree, stmt_tree}
@@ -10,7 +9,8 @@ use Rattle.source_runs.specs.Steps.{HasStepped}
 use Rattle.source_items.specs.Items.{IsLoop, IsScoped, to_do, whole_item}
 use Rattle.source_runs.specs.Layouts.{context_at, tree_of}
 use Rattle.source_runs.specs.Threads.{running_of}
-use Rattle.source_runs.proofs.Moved.{goes-with, memory-from}
+use Rattle.source_runs.specs.declared.frames.Thread.{Thread}
+use Rattle.source_runs.proofs.Moved.{goes-with, went-so}
 use Rattle.source_runs.proofs.Parts.{whole-so, while-so}
 use Rattle.source_runs.proofs.Scopes.{do-scoped, empty-scoped, if-condition, if-first, else-condition, else-first, else-second, while-condition, return-scoped}
 use Rattle.source_runs.proofs.interpreter.Interpreter.whole.Goals as goal
@@ -104,22 +104,14 @@ returns-in-Break c =
     let left = c.leave.ensures (context_at tree thread.front.function) c.requires.thread.front.items in
     goes-with tree thread words c.leave.new.items _ _ (ap (λ (t : StmtTree). performs tree running (whole_item t) rest) (ap stmt_tree c.in-Break.is ∙ stmt_tree-Break)) c.requires.next left.0 c.requires.thread left.1
 
-pub returns-in_ok-skip-in-Continue : goal.returns-in_ok-skip-in-Continue
-returns-in_ok-skip-in-Continue c =
+pub returns-in-Continue : goal.returns-in-Continue
+returns-in-Continue c =
     let tree = tree_of c.args.self.now in
     let words = c.args.globals.now.items in
     let thread = c.args.thread.now in
     let running = running_of tree thread words in
     let rest = to_do thread.front.items.items in
-    let skipped = c.in_ok-skip-in-Continue.ensures (context_at tree thread.front.function) c.requires.thread.front.items in
-    goes-with tree thread words c.skip.new.items _ _ (ap (λ (t : StmtTree). performs tree running (whole_item t) rest) (ap stmt_tree c.in-Continue.is ∙ stmt_tree-Continue)) c.requires.next skipped.0 c.requires.thread skipped.1
-
-pub returns-in_err-skip-in-Continue : goal.returns-in_err-skip-in-Continue
-returns-in_err-skip-in-Continue c =
-    let tree = tree_of c.args.self.now in
-    let words = c.args.globals.now.items in
-    let thread = c.args.thread.now in
-    let running = running_of tree thread words in
-    let rest = to_do thread.front.items.items in
-    let p = err_from_is_err_and c.from_residual.result c.from_residual.ensures.1 in
-    memory-from tree (performs tree running (whole_item (stmt_tree c.args.stmt.now)) rest) words (record thread { front = record thread.front { items = c.skip.new.items } }) c.from_residual.result p.0 p.1 p.2
+    let new : Thread = record thread { front = record thread.front { items = c.skip.new.items } } in
+    let skipped = c.skip.ensures (context_at tree thread.front.function) c.requires.thread.front.items in
+    went-so tree (performs tree running (whole_item (stmt_tree c.args.stmt.now)) rest) words new c.skip.result c.went.result c.went.ensures skipped skipped
+    (λ left _. goes-with tree thread words c.skip.new.items _ _ (ap (λ (t : StmtTree). performs tree running (whole_item t) rest) (ap stmt_tree c.in-Continue.is ∙ stmt_tree-Continue)) c.requires.next left.0 c.requires.thread left.1)
