@@ -8,7 +8,6 @@ use call_graph::{CallGraph, Callees, GraphSite, Target};
 use checkpoint_place::{PlaceError, Plan, place};
 use cycle_break::back_edges;
 use std::alloc::{AllocError, Global};
-use std::test::Fail;
 
 /// Up to the last function each calls the next one at the site of its own number. At any other site the first
 /// calls the table.
@@ -70,15 +69,28 @@ fn is_whole_chain(plan: Result<Plan, PlaceError>) -> bool {
     }
 }
 
-fn is_placed(alloc: Global, graph: &CallGraph) -> Result<bool, AllocError> {
-    let back = back_edges(alloc, graph)?;
-    let plan = place(alloc, graph, back.as_slice(), 65_536);
-    Ok(back.is_empty() && is_whole_chain(plan))
+fn is_placed(alloc: Global, graph: &CallGraph) -> bool {
+    match back_edges(alloc, graph) {
+        Ok(back) => {
+            let plan = place(alloc, graph, back.as_slice(), 65_536);
+            let none = back.is_empty();
+            drop(back);
+            is_whole_chain(plan) && none
+        }
+        Err(_) => false,
+    }
 }
 
 #[test]
-fn a_large_table_is_called_at_many_sites(rt: HostRuntime) -> Result<(), Fail> {
-    let graph = graph_of(rt.alloc(), 4_095, 65_536, 64_095)?;
-    assert!(rt; is_placed(rt.alloc(), &graph)?);
-    Ok(())
+fn a_large_table_is_called_at_many_sites(rt: HostRuntime) {
+    let alloc = rt.alloc();
+    let placed = match graph_of(alloc, 4_095, 65_536, 64_095) {
+        Ok(graph) => {
+            let placed = is_placed(alloc, &graph);
+            drop(graph);
+            placed
+        }
+        Err(_) => false,
+    };
+    assert!(rt; placed);
 }

@@ -1,7 +1,5 @@
 -- Lists of caps and uses, place by place.
-use Rattle.std.proofs.Common.{ℕ, zero, suc, ◌≤◌, nat_le, IsTrue, List, [], ◌∷◌, slice_index, arith}
-use Rattle.std.specs.List.{list_all}
-use Rattle.std.proofs.lemmas.Bool.Decides.{nat_tests}
+use Rattle.std.proofs.Common.{ℕ, zero, suc, ◌≤◌, List, [], ◌∷◌, slice_index, arith}
 
 -- no number is above that of the other list at its place
 pub record IsBelow (xs ys : List ℕ) : Type 0 where
@@ -24,8 +22,19 @@ IsBelow-eight a b c d e f g h a' b' c' d' e' f' g' h' p q r s t u v w =
     IsBelow-cons a a' _ _ p (IsBelow-cons b b' _ _ q (IsBelow-cons c c' _ _ r (IsBelow-cons d d' _ _ s
     (IsBelow-cons e e' _ _ t (IsBelow-cons f f' _ _ u (IsBelow-cons g g' _ _ v (IsBelow-cons h h' _ _ w IsBelow-nil)))))))
 
--- each number of a list that passes the test is small
-pub small_from_test : (xs : List ℕ) → IsTrue (list_all (λ x. nat_le x 1000000) xs) → (k : ℕ) → slice_index xs k ≤ 1000000
-small_from_test [] h k = omega arith
-small_from_test (x ∷ xs) h zero = grind (arith, nat_tests)
-small_from_test (x ∷ xs) h (suc k) = small_from_test xs (grind (arith, nat_tests)) k
+-- no number of five zeroes is large
+pub zeros : (k : ℕ) → slice_index (0 ∷ 0 ∷ 0 ∷ 0 ∷ 0 ∷ []) k ≤ 1000000
+zeros zero = omega arith
+zeros (suc zero) = omega arith
+zeros (suc (suc zero)) = omega arith
+zeros (suc (suc (suc zero))) = omega arith
+zeros (suc (suc (suc (suc zero)))) = omega arith
+zeros (suc (suc (suc (suc (suc k))))) = omega arith
+
+-- eight caps of which two are at most 10 are small
+pub small_eight : (first second : ℕ) → first ≤ 10 → second ≤ 10 →
+    (k : ℕ) → slice_index (0 ∷ first ∷ second ∷ 0 ∷ 0 ∷ 0 ∷ 0 ∷ 0 ∷ []) k ≤ 1000000
+small_eight first second h i zero = omega arith
+small_eight first second h i (suc zero) = omega (arith, h)
+small_eight first second h i (suc (suc zero)) = omega (arith, i)
+small_eight first second h i (suc (suc (suc k))) = zeros k

@@ -1,18 +1,17 @@
 // Threads that wait, and which of them goes on next.
 
-ghost use Rattle.std.specs.Prelude.{◌≡◌, ◌==◌, ◌+◌, ◌^◌, ◌<◌, ◌≤◌, true, OnOk};
-ghost use Rattle.blocking_graph.specs.Graph.{empty_graph, IsSegment};
+ghost use Rattle.std.specs.Prelude.{◌≡◌, ◌==◌, ◌+◌, ◌^◌, ◌<◌, ◌≤◌, true};
+ghost use Rattle.blocking_graph.specs.Graph.{IsSegment};
 ghost use Rattle.scheduler.specs.State.{started};
 ghost use Rattle.resource_monitor.specs.Pressure.{AnswersCurve, IsReading, curve_value};
 ghost use Rattle.resource_monitor.specs.declared.curves.Curve.TheVariants.{Linear};
 
-use crate::monitors::{gate_follows, gauges_of};
+use crate::monitors::{gate_follows, monitor_of};
 use blocking_graph::{Graph, SegmentRecord};
 use cap_word::{Ready, ThreadId};
-use resource_monitor::{Measure, Monitor};
+use resource_monitor::{Curve, Measure, Monitor};
 use scheduler::{Choice, Scheduler};
 use std::alloc::{AllocError, Global};
-use std::test::Fail;
 
 /// A world in which one thread is at `accept`, and every thread is ready.
 #[derive(Clone, Copy)]
@@ -52,10 +51,13 @@ pub(crate) fn full_monitor<C: Measure + Copy>(
 ) -> Result<Monitor<C>, AllocError>
     requires { AnswersCurve (C.can_measure call) (C.measure_gives call) Linear }
 {
-    let gauges = gauges_of(alloc, call)?;
-    let mut monitor = Monitor::new(gauges, [0, 1, 0, 0, 0, 0, 0, 0], 900, 700);
-    monitor.observe([0, 1, 0, 0, 0, 0, 0, 0]);
-    Ok(monitor)
+    match monitor_of(alloc, Curve::Linear, call, 1, 0) {
+        Ok(mut monitor) => {
+            monitor.observe([0, 1, 0, 0, 0, 0, 0, 0]);
+            Ok(monitor)
+        }
+        Err(error) => Err(error),
+    }
 }
 
 fn releasing() -> SegmentRecord
@@ -69,16 +71,61 @@ fn releasing() -> SegmentRecord
     }
 }
 
-fn take_next<C: Measure>(
+// A graph in which a segment from node 4 is expected to release the resource, where there is memory.
+fn releasing_graph(alloc: Global) -> Graph {
+    let mut graph = Graph::new(alloc);
+    let _noted = graph.note(releasing());
+    graph
+}
+
+/// A step of a row: a thread that joins, or a choice, with the thread and the node that it is to be of.
+#[derive(Clone, Copy)]
+enum Step {
+    /// The thread of this number joins the queue of this node.
+    Join(u32, u32),
+    /// This thread at this node is taken, while another is ready elsewhere than at `accept`.
+    Take(u32, u32),
+    /// It would be taken, while another is ready elsewhere or none is.
+    Choose(bool, u32, u32),
+    /// None would be taken, while another is ready elsewhere.
+    None,
+}
+
+// The thread of this number joins the queue of a node, where there is memory.
+fn join(scheduler: &mut Scheduler, number: u32, node: u32) -> bool
+    ensures { scheduler.new.noted ≡ scheduler.old.noted }
+{
+    matches!(scheduler.enqueue(node, thread(number)), Ok(()))
+}
+
+// What is chosen, while another thread is ready elsewhere or none is.
+fn chosen<C: Measure>(
+    scheduler: &Scheduler,
+    graph: &Graph,
+    monitor: &Monitor<C>,
+    elsewhere: bool,
+) -> Option<Choice> {
+    let world = OneArrival {
+        arrival: 9,
+        elsewhere,
+    };
+    scheduler.choose(graph, monitor, &world)
+}
+
+// What is chosen and taken.
+fn taken<C: Measure>(
     scheduler: &mut Scheduler,
     graph: &Graph,
     monitor: &Monitor<C>,
-    world: &OneArrival,
 ) -> Option<Choice>
     requires { scheduler.old.noted < 2 ^ 40 }
     ensures { scheduler.new.noted ≤ scheduler.old.noted + 1 }
 {
-    let choice = scheduler.choose(graph, monitor, world);
+    let world = OneArrival {
+        arrival: 9,
+        elsewhere: true,
+    };
+    let choice = scheduler.choose(graph, monitor, &world);
     if let Some(taken) = &choice {
         scheduler.note_choice(taken);
     }
@@ -87,184 +134,163 @@ fn take_next<C: Measure>(
 
 // Whether the choice is of this thread at this node.
 fn is_of(choice: Option<Choice>, number: u32, node: u32) -> bool {
-    let wanted = Choice {
-        thread: thread(number),
-        node,
-    };
-    choice == Some(wanted)
-}
-
-fn one_arrival(elsewhere: bool) -> OneArrival {
-    OneArrival {
-        arrival: 9,
-        elsewhere,
+    match choice {
+        Some(choice) => choice.thread == thread(number) && choice.node == node,
+        None => false,
     }
 }
 
-// Whether the nodes go by number: node 2 has the lesser one, and is then the one that was taken earlier.
-fn go_by_number<C: Measure>(
+fn goes_so<C: Measure>(
     scheduler: &mut Scheduler,
     graph: &Graph,
     monitor: &Monitor<C>,
-) -> Result<bool, AllocError>
-    requires { scheduler.old ≡ started }
-{
-    let world = one_arrival(true);
-    scheduler.enqueue(4, thread(1))?;
-    scheduler.enqueue(2, thread(0))?;
-    let first = take_next(scheduler, graph, monitor, &world);
-    let second = take_next(scheduler, graph, monitor, &world);
-    let third = scheduler.choose(graph, monitor, &world);
-    Ok(is_of(first, 0, 2) && is_of(second, 1, 4) && third.is_none())
-}
-
-// Whether the arrival of node 2 waits while another thread is ready, and goes first where none is, and whether a segment from
-// node 4 that is expected to release the resource goes before it.
-fn arrivals_wait<C: Measure>(
-    scheduler: &mut Scheduler,
-    graph: &mut Graph,
-    monitor: &Monitor<C>,
-) -> Result<bool, AllocError>
-    requires { graph.old ≡ empty_graph }
-{
-    scheduler.enqueue(2, thread(9))?;
-    scheduler.enqueue(4, thread(3))?;
-    let held = scheduler.choose(graph, monitor, &one_arrival(true));
-    let alone = scheduler.choose(graph, monitor, &one_arrival(false));
-    graph.note(releasing())?;
-    let behind = scheduler.choose(graph, monitor, &one_arrival(false));
-    Ok(is_of(held, 3, 4) && is_of(alone, 9, 2) && is_of(behind, 3, 4))
-}
-
-// Takes the next choice, and tells whether it is of this thread at this node.
-fn takes<C: Measure>(
-    scheduler: &mut Scheduler,
-    graph: &Graph,
-    monitor: &Monitor<C>,
-    number: u32,
-    node: u32,
+    step: Step,
 ) -> bool
     requires { scheduler.old.noted < 2 ^ 40 }
     ensures { scheduler.new.noted ≤ scheduler.old.noted + 1 }
 {
-    let taken = take_next(scheduler, graph, monitor, &one_arrival(true));
-    is_of(taken, number, node)
+    match step {
+        Step::Join(number, node) => join(scheduler, number, node),
+        Step::Take(number, node) => is_of(taken(scheduler, graph, monitor), number, node),
+        Step::Choose(elsewhere, number, node) => {
+            is_of(chosen(scheduler, graph, monitor, elsewhere), number, node)
+        }
+        Step::None => matches!(chosen(scheduler, graph, monitor, true), None),
+    }
 }
 
-// Two threads at each of three nodes, joined in turns: 1 and 2 at node 4, 3 and 4 at node 2, 5 and 6 at node 3.
-fn two_at_each(scheduler: &mut Scheduler) -> Result<(), AllocError>
-    requires { scheduler.old ≡ started }
-    ensures { OnOk result (scheduler.new.noted ≡ 0) }
-{
-    scheduler.enqueue(4, thread(1))?;
-    scheduler.enqueue(2, thread(3))?;
-    scheduler.enqueue(3, thread(5))?;
-    scheduler.enqueue(4, thread(2))?;
-    scheduler.enqueue(3, thread(6))?;
-    scheduler.enqueue(2, thread(4))?;
-    Ok(())
-}
-
-// Whether three nodes of one score go in turns, each queue from its front.
-fn go_in_rounds<C: Measure>(
+// Whether each of at most 20 steps goes as it says.
+fn go_so<C: Measure>(
     scheduler: &mut Scheduler,
     graph: &Graph,
     monitor: &Monitor<C>,
-) -> Result<bool, AllocError>
+    steps: &[Step],
+) -> bool
     requires { scheduler.old ≡ started }
 {
-    two_at_each(scheduler)?;
-    let first = takes(scheduler, graph, monitor, 3, 2)
-        && takes(scheduler, graph, monitor, 5, 3)
-        && takes(scheduler, graph, monitor, 1, 4);
-    let second = takes(scheduler, graph, monitor, 4, 2)
-        && takes(scheduler, graph, monitor, 6, 3)
-        && takes(scheduler, graph, monitor, 2, 4);
-    let none = scheduler.choose(graph, monitor, &one_arrival(true));
-    Ok(first && second && none.is_none())
+    if steps.len() > 20 {
+        return false;
+    }
+    for at in 0..steps.len() {
+        if !goes_so(scheduler, graph, monitor, steps[at]) {
+            return false;
+        }
+    }
+    true
 }
 
-// Whether a node that releases is served before the others until its queue is empty.
-fn releasing_go_first<C: Measure>(
-    scheduler: &mut Scheduler,
-    graph: &mut Graph,
-    monitor: &Monitor<C>,
-) -> Result<bool, AllocError>
-    requires scheduler { scheduler.old ≡ started }
-    requires graph { graph.old ≡ empty_graph }
-{
-    two_at_each(scheduler)?;
-    graph.note(releasing())?;
-    Ok(
-        takes(scheduler, graph, monitor, 1, 4)
-            && takes(scheduler, graph, monitor, 2, 4)
-            && takes(scheduler, graph, monitor, 3, 2)
-            && takes(scheduler, graph, monitor, 5, 3)
-            && takes(scheduler, graph, monitor, 4, 2)
-            && takes(scheduler, graph, monitor, 6, 3),
-    )
+// Whether the steps go as they say, with a scheduler of their own.
+fn hold<C: Measure>(alloc: Global, graph: &Graph, monitor: &Monitor<C>, steps: &[Step]) -> bool {
+    let mut scheduler = Scheduler::new(alloc);
+    let right = go_so(&mut scheduler, graph, monitor, steps);
+    drop(scheduler);
+    right
 }
 
-// Whether an arrival that is held back lets the thread behind it pass, and keeps its place.
-fn arrival_is_passed<C: Measure>(
-    scheduler: &mut Scheduler,
-    graph: &Graph,
-    monitor: &Monitor<C>,
-) -> Result<bool, AllocError>
-    requires { scheduler.old ≡ started }
-{
-    scheduler.enqueue(2, thread(9))?;
-    scheduler.enqueue(2, thread(3))?;
-    let behind = takes(scheduler, graph, monitor, 3, 2);
-    let held = scheduler.choose(graph, monitor, &one_arrival(true));
-    let alone = scheduler.choose(graph, monitor, &one_arrival(false));
-    Ok(behind && held.is_none() && is_of(alone, 9, 2))
+// The nodes go by number: node 2 has the lesser one, and is then the one that was taken earlier.
+const BY_NUMBER: &[Step] = &[
+    Step::Join(1, 4),
+    Step::Join(0, 2),
+    Step::Take(0, 2),
+    Step::Take(1, 4),
+    Step::None,
+];
+
+// The arrival of node 2 waits while another thread is ready, and goes first where none is.
+const ARRIVAL: &[Step] = &[
+    Step::Join(9, 2),
+    Step::Join(3, 4),
+    Step::Choose(true, 3, 4),
+    Step::Choose(false, 9, 2),
+];
+
+// A segment from node 4 that is expected to release the resource goes before it.
+const RELEASING_BEFORE_ARRIVAL: &[Step] = &[
+    Step::Join(9, 2),
+    Step::Join(3, 4),
+    Step::Choose(false, 3, 4),
+];
+
+// Three nodes of one score go in turns, each queue from its front. Two threads are at each, and joined in turns.
+const IN_ROUNDS: &[Step] = &[
+    Step::Join(1, 4),
+    Step::Join(3, 2),
+    Step::Join(5, 3),
+    Step::Join(2, 4),
+    Step::Join(6, 3),
+    Step::Join(4, 2),
+    Step::Take(3, 2),
+    Step::Take(5, 3),
+    Step::Take(1, 4),
+    Step::Take(4, 2),
+    Step::Take(6, 3),
+    Step::Take(2, 4),
+    Step::None,
+];
+
+// A node that releases is served before the others until its queue is empty.
+const RELEASING_FIRST: &[Step] = &[
+    Step::Join(1, 4),
+    Step::Join(3, 2),
+    Step::Join(5, 3),
+    Step::Join(2, 4),
+    Step::Join(6, 3),
+    Step::Join(4, 2),
+    Step::Take(1, 4),
+    Step::Take(2, 4),
+    Step::Take(3, 2),
+    Step::Take(5, 3),
+    Step::Take(4, 2),
+    Step::Take(6, 3),
+];
+
+// An arrival that is held back lets the thread behind it pass, and keeps its place.
+const PASSED: &[Step] = &[
+    Step::Join(9, 2),
+    Step::Join(3, 2),
+    Step::Take(3, 2),
+    Step::None,
+    Step::Choose(false, 9, 2),
+];
+
+// The rows over a graph with no edge.
+fn hold_of_none<C: Measure>(alloc: Global, monitor: &Monitor<C>) -> bool {
+    let graph = Graph::new(alloc);
+    let right = hold(alloc, &graph, monitor, BY_NUMBER)
+        && hold(alloc, &graph, monitor, ARRIVAL)
+        && hold(alloc, &graph, monitor, IN_ROUNDS)
+        && hold(alloc, &graph, monitor, PASSED);
+    drop(graph);
+    right
 }
 
-// The rows on three nodes and on a queue whose front is held back, each with a scheduler of its own.
-fn go_by_queues<C: Measure + Copy>(alloc: Global, call: C) -> Result<bool, AllocError>
+// The rows over the graph with the edge that releases.
+fn hold_of_one<C: Measure>(alloc: Global, monitor: &Monitor<C>) -> bool {
+    let graph = releasing_graph(alloc);
+    let right = hold(alloc, &graph, monitor, RELEASING_BEFORE_ARRIVAL)
+        && hold(alloc, &graph, monitor, RELEASING_FIRST);
+    drop(graph);
+    right
+}
+
+fn go_by_rows<C: Measure + Copy>(alloc: Global, call: C) -> bool
     requires { AnswersCurve (C.can_measure call) (C.measure_gives call) Linear }
 {
-    let monitor = full_monitor(alloc, call)?;
-    let mut graph = Graph::new(alloc);
-    let mut three = Scheduler::new(alloc);
-    let rounds = go_in_rounds(&mut three, &graph, &monitor);
-    let mut one = Scheduler::new(alloc);
-    let passed = arrival_is_passed(&mut one, &graph, &monitor);
-    let mut other = Scheduler::new(alloc);
-    let released = releasing_go_first(&mut other, &mut graph, &monitor);
-    drop(three);
-    drop(one);
-    drop(other);
-    drop(graph);
-    drop(monitor);
-    Ok(rounds? && passed? && released?)
-}
-
-// Both, each with a scheduler of its own.
-fn go_in_turn<C: Measure + Copy>(alloc: Global, call: C) -> Result<bool, AllocError>
-    requires { AnswersCurve (C.can_measure call) (C.measure_gives call) Linear }
-{
-    let monitor = full_monitor(alloc, call)?;
-    let mut graph = Graph::new(alloc);
-    let mut one = Scheduler::new(alloc);
-    let by_number = go_by_number(&mut one, &graph, &monitor);
-    let mut other = Scheduler::new(alloc);
-    let arrivals = arrivals_wait(&mut other, &mut graph, &monitor);
-    drop(one);
-    drop(other);
-    drop(graph);
-    drop(monitor);
-    Ok(by_number? && arrivals?)
+    match full_monitor(alloc, call) {
+        Ok(monitor) => {
+            let right = hold_of_none(alloc, &monitor) && hold_of_one(alloc, &monitor);
+            drop(monitor);
+            right
+        }
+        Err(_) => false,
+    }
 }
 
 #[test]
-fn choices(rt: HostRuntime) -> Result<(), Fail> {
+fn choices(rt: HostRuntime) {
     let linear = |used: u32, cap: u32| -> u32
         requires { IsReading used cap }
         ensures { result ≡ curve_value Linear used cap }
     { 1000 * used / cap };
-    assert!(rt; go_in_turn(rt.alloc(), linear)? && gate_follows(rt.alloc(), linear)?);
-    assert!(rt; go_by_queues(rt.alloc(), linear)?);
-    Ok(())
+    assert!(rt; go_by_rows(rt.alloc(), linear) && gate_follows(rt.alloc(), linear));
 }

@@ -1,29 +1,47 @@
 // Keys and their numbers, records and their edges.
 
-ghost use Rattle.std.specs.Prelude.{◌≡◌, ◌≤◌, ◌<◌, ◌+◌, ◌^◌, unsigned_abs, OnOk};
+ghost use Rattle.std.specs.Prelude.{◌≡◌, ◌≤◌, ◌<◌, ◌+◌, ◌^◌, length, OnOk};
 ghost use Rattle.blocking_graph.specs.Edges.{count_of};
 ghost use Rattle.blocking_graph.specs.Graph.{empty_graph};
 
 use blocking_graph::{EdgeLine, Graph, SegmentRecord};
 use cap_word::SiteKey;
-use std::alloc::{AllocError, Global};
-use std::test::Fail;
+use std::alloc::Global;
 
-// Takes in a segment that changes the use of resource 1.
-fn note(graph: &mut Graph, from: u32, to: u32, cost: u64, change: i64) -> Result<(), AllocError>
-    requires cost { cost < 2 ^ 40 }
-    requires change { unsigned_abs change ≤ 2 ^ 31 }
+/// A segment: the nodes that it leads from and to, its cost, and how it changes the use of resource 1.
+type Segment = (u32, u32, u32, i32);
+
+// Takes in a segment, and tells whether there was memory.
+fn note(graph: &mut Graph, segment: &Segment) -> bool
     requires room { count_of graph.old.edges < 2 ^ 40 }
-    ensures { OnOk result (count_of graph.new.edges ≡ count_of graph.old.edges + 1) }
+    ensures { count_of graph.new.edges ≤ count_of graph.old.edges + 1 }
 {
-    graph.note(SegmentRecord {
+    let (from, to, cost, change) = *segment;
+    let record = SegmentRecord {
         from,
         to,
-        cost,
-        change: [0, change, 0, 0, 0, 0, 0, 0],
-    })
+        cost: u64::from(cost),
+        change: [0, i64::from(change), 0, 0, 0, 0, 0, 0],
+    };
+    matches!(graph.note(record), Ok(()))
 }
 
+// Takes in at most eight segments, one after another.
+fn note_all(graph: &mut Graph, segments: &[Segment]) -> bool
+    requires { graph.old ≡ empty_graph }
+{
+    if segments.len() > 8 {
+        return false;
+    }
+    for at in 0..segments.len() {
+        if !note(graph, &segments[at]) {
+            return false;
+        }
+    }
+    true
+}
+
+// Whether a key has these eight sites, and so many.
 fn keys_are_their_sites() -> bool {
     let full = SiteKey::new(&[1, 2, 3, 4, 5, 6, 7, 8]);
     let key = SiteKey::new(&[7, 0]);
@@ -34,114 +52,145 @@ fn keys_are_their_sites() -> bool {
         && key != SiteKey::new(&[7, 0, 0])
 }
 
-// The numbers of four keys, of which the third is the first.
-fn numbers_in(graph: &mut Graph) -> Result<[u32; 4], AllocError>
-    requires { graph.old ≡ empty_graph }
+// The number of a key, or 0 where memory is wanting.
+fn number_in(graph: &mut Graph, key: &[u32]) -> u32
+    requires room { length graph.old.keys < 2 ^ 31 }
+    requires some { 1 ≤ length key.now }
+    requires fits { length key.now ≤ 8 }
+    ensures { length graph.new.keys ≤ length graph.old.keys + 1 }
 {
-    let first = graph.node_of(&SiteKey::new(&[7, 3]))?;
-    let shorter = graph.node_of(&SiteKey::new(&[7]))?;
-    let again = graph.node_of(&SiteKey::new(&[7, 3]))?;
-    let turned = graph.node_of(&SiteKey::new(&[3, 7]))?;
-    Ok([first, shorter, again, turned])
+    match graph.node_of(&SiteKey::new(key)) {
+        Ok(number) => number,
+        Err(_) => 0,
+    }
 }
 
-// Whether the only edge is that one.
-fn has_edge(graph: &Graph, edge: EdgeLine) -> Result<bool, AllocError> {
-    let edges = graph.edges()?;
-    let is_so = edges.as_slice() == [edge].as_slice();
-    drop(edges);
-    Ok(is_so)
-}
+// Keys and their numbers: the third is the first again.
+const KEYS: &[(&[u32], u32)] = &[(&[7, 3], 2), (&[7], 3), (&[7, 3], 2), (&[3, 7], 4)];
 
-// Whether an edge has its count and averages.
-fn has_averages(graph: &mut Graph) -> Result<bool, AllocError>
+fn are_numbered(graph: &mut Graph, rows: &[(&[u32], u32)]) -> bool
     requires { graph.old ≡ empty_graph }
 {
-    note(graph, 0, 2, 8, -1)?;
-    note(graph, 0, 2, 16, 0)?;
-    let edge = EdgeLine {
-        from: 0,
+    if rows.len() > 8 {
+        return false;
+    }
+    for at in 0..rows.len() {
+        let (key, number) = rows[at];
+        if key.is_empty() || key.len() > 8 || number_in(graph, key) != number {
+            return false;
+        }
+    }
+    true
+}
+
+fn keys_have_numbers(alloc: Global) -> bool {
+    let mut graph = Graph::new(alloc);
+    let right = are_numbered(&mut graph, KEYS);
+    drop(graph);
+    right
+}
+
+// Whether the edges are these.
+fn has_edges(graph: &Graph, wanted: &[EdgeLine]) -> bool {
+    match graph.edges() {
+        Ok(edges) => {
+            let same = edges.as_slice() == wanted;
+            drop(edges);
+            same
+        }
+        Err(_) => false,
+    }
+}
+
+/// A node, a resource, and what a segment from the node is expected to change its use by.
+type Prediction = (u32, u32, i128);
+
+fn predicts(graph: &Graph, rows: &[Prediction]) -> bool {
+    for (node, resource, change) in rows {
+        if *resource >= 8 || graph.predicted(*node, *resource) != *change {
+            return false;
+        }
+    }
+    true
+}
+
+// An edge has its count and averages.
+const OF_ONE: &[Segment] = &[(0, 2, 8, -1), (0, 2, 16, 0)];
+
+const ONE_EDGE: &[EdgeLine] = &[EdgeLine {
+    from: 0,
+    to: 2,
+    count: 2,
+    cost: 2304,
+    change: [0, -224, 0, 0, 0, 0, 0, 0],
+}];
+
+const FROM_ONE: &[Prediction] = &[(0, 1, -224), (2, 1, 0)];
+
+// Predictions are weighted by counts.
+const OF_TWO: &[Segment] = &[(4, 4, 5, 0), (4, 2, 5, -1), (4, 2, 5, -1), (4, 2, 5, -1)];
+
+const FROM_TWO: &[Prediction] = &[(4, 1, -192), (4, 0, 0)];
+
+// Pairs that are met out of order, and met again, stand in order with their averages, and each node's prediction is of its
+// own edges.
+const OF_THREE: &[Segment] = &[
+    (4, 2, 8, -1),
+    (2, 4, 4, 2),
+    (4, 2, 16, 0),
+    (2, 2, 1, 1),
+    (2, 4, 4, -2),
+];
+
+const THREE_EDGES: &[EdgeLine] = &[
+    EdgeLine {
+        from: 2,
+        to: 2,
+        count: 1,
+        cost: 256,
+        change: [0, 256, 0, 0, 0, 0, 0, 0],
+    },
+    EdgeLine {
+        from: 2,
+        to: 4,
+        count: 2,
+        cost: 1024,
+        change: [0, 384, 0, 0, 0, 0, 0, 0],
+    },
+    EdgeLine {
+        from: 4,
         to: 2,
         count: 2,
         cost: 2304,
         change: [0, -224, 0, 0, 0, 0, 0, 0],
-    };
-    let is_edge = has_edge(graph, edge)?;
-    Ok(is_edge && graph.predicted(0, 1) == -224 && graph.predicted(2, 1) == 0)
-}
+    },
+];
 
-// Whether predictions are weighted by counts.
-fn is_weighted(graph: &mut Graph) -> Result<bool, AllocError>
-    requires { graph.old ≡ empty_graph }
-{
-    note(graph, 4, 4, 5, 0)?;
-    note(graph, 4, 2, 5, -1)?;
-    note(graph, 4, 2, 5, -1)?;
-    note(graph, 4, 2, 5, -1)?;
-    Ok(graph.predicted(4, 1) == -192 && graph.predicted(4, 0) == 0)
-}
+const FROM_THREE: &[Prediction] = &[(2, 1, 341), (4, 1, -224), (3, 1, 0)];
 
-// An edge with a change of resource 1.
-fn edge(from: u32, to: u32, count: u64, cost: i128, change: i128) -> EdgeLine {
-    EdgeLine {
-        from,
-        to,
-        count,
-        cost,
-        change: [0, change, 0, 0, 0, 0, 0, 0],
-    }
-}
-
-// Whether the edges are these three.
-fn has_edges(graph: &Graph, wanted: &[EdgeLine; 3]) -> Result<bool, AllocError> {
-    let edges = graph.edges()?;
-    let is_so = edges.as_slice() == wanted.as_slice();
-    drop(edges);
-    Ok(is_so)
-}
-
-// Whether pairs that are met out of order, and met again, stand in order with their averages, and whether each node's
-// prediction is of its own edges.
-fn is_in_order(graph: &mut Graph) -> Result<bool, AllocError>
-    requires { graph.old ≡ empty_graph }
-{
-    note(graph, 4, 2, 8, -1)?;
-    note(graph, 2, 4, 4, 2)?;
-    note(graph, 4, 2, 16, 0)?;
-    note(graph, 2, 2, 1, 1)?;
-    note(graph, 2, 4, 4, -2)?;
-    let wanted = [
-        edge(2, 2, 1, 256, 256),
-        edge(2, 4, 2, 1024, 384),
-        edge(4, 2, 2, 2304, -224),
-    ];
-    let is_so = has_edges(graph, &wanted)?;
-    Ok(
-        is_so
-            && graph.predicted(2, 1) == 341
-            && graph.predicted(4, 1) == -224
-            && graph.predicted(3, 1) == 0,
-    )
-}
-
-fn graphs_are_right(alloc: Global) -> Result<bool, AllocError> {
-    let mut of_keys = Graph::new(alloc);
-    let numbers = numbers_in(&mut of_keys);
-    drop(of_keys);
-    let mut of_one = Graph::new(alloc);
-    let averages = has_averages(&mut of_one);
-    drop(of_one);
-    let mut of_two = Graph::new(alloc);
-    let weighted = is_weighted(&mut of_two);
-    drop(of_two);
-    let mut of_three = Graph::new(alloc);
-    let ordered = is_in_order(&mut of_three);
-    drop(of_three);
-    Ok(numbers? == [2, 3, 2, 4] && averages? && weighted? && ordered?)
+// Whether segments lead to these predictions and, where any are told, to these edges.
+fn lead_to(
+    alloc: Global,
+    segments: &[Segment],
+    edges: &[EdgeLine],
+    predictions: &[Prediction],
+) -> bool {
+    let mut graph = Graph::new(alloc);
+    let right = note_all(&mut graph, segments)
+        && (edges.is_empty() || has_edges(&graph, edges))
+        && predicts(&graph, predictions);
+    drop(graph);
+    right
 }
 
 #[test]
-fn graphs(rt: HostRuntime) -> Result<(), Fail> {
-    assert!(rt; keys_are_their_sites() && graphs_are_right(rt.alloc())?);
-    Ok(())
+fn graphs(rt: HostRuntime) {
+    let alloc = rt.alloc();
+    assert!(rt;
+        keys_are_their_sites()
+            && keys_have_numbers(alloc)
+            && lead_to(alloc, OF_ONE, ONE_EDGE, FROM_ONE)
+            && lead_to(alloc, OF_TWO, &[], FROM_TWO)
+            && lead_to(alloc, OF_THREE, THREE_EDGES, FROM_THREE)
+    );
 }

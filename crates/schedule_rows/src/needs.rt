@@ -1,6 +1,6 @@
 // Threads with their needs, and which of them a choice by needs takes.
 
-ghost use Rattle.std.specs.Prelude.{◌≡◌, ◌+◌, ◌<◌, ◌≤◌, ◌^◌, OnOk};
+ghost use Rattle.std.specs.Prelude.{◌≡◌, ◌+◌, ◌<◌, ◌≤◌, ◌^◌};
 ghost use Rattle.ready_tree.specs.Needs.{is_met, is_arrival};
 ghost use Rattle.resource_monitor.specs.Pressure.{AnswersCurve, IsReading, curve_value};
 ghost use Rattle.resource_monitor.specs.declared.curves.Curve.TheVariants.{Linear};
@@ -13,8 +13,7 @@ use cap_word::{Ready, ThreadId};
 use ready_tree::{Bounded, Bounds, Need};
 use resource_monitor::{Measure, Monitor};
 use scheduler::Scheduler;
-use std::alloc::{AllocError, Global};
-use std::test::Fail;
+use std::alloc::Global;
 
 /// A world in which each thread waits for what its number says.
 #[derive(Clone, Copy)]
@@ -83,14 +82,28 @@ fn need_by(number: u32) -> Need
     }
 }
 
-// The thread joins the queue of node 2 with its need.
-fn join(scheduler: &mut Scheduler, number: u32) -> Result<(), AllocError>
+// The thread joins the queue of node 2 with its need, where there is memory.
+fn join(scheduler: &mut Scheduler, number: u32) -> bool
     requires { KnowsNeeds scheduler.old }
-    ensures known { OnOk result (KnowsNeeds scheduler.new) }
-    ensures noted { OnOk result (scheduler.new.noted ≡ scheduler.old.noted) }
+    ensures known { KnowsNeeds scheduler.new }
+    ensures noted { scheduler.new.noted ≡ scheduler.old.noted }
 {
     let thread = ThreadId { slot: 0, number };
-    scheduler.enqueue_for(2, thread, need_by(number))
+    matches!(scheduler.enqueue_for(2, thread, need_by(number)), Ok(()))
+}
+
+// So many threads join, each of the number below that of the one before.
+fn join_down(scheduler: &mut Scheduler, first: u32, count: u32) -> bool
+    requires started { scheduler.old ≡ started }
+    requires fit { count ≤ first }
+    ensures known { KnowsNeeds scheduler.new }
+    ensures noted { scheduler.new.noted ≡ 0 }
+{
+    let mut joined = true;
+    for before in 0..count {
+        joined = join(scheduler, first - before) && joined;
+    }
+    joined
 }
 
 // The number of the thread that is taken, or 0 where none is.
@@ -111,9 +124,25 @@ fn taken<C: Measure>(
     }
 }
 
-// Whether an arrival waits, the channels that hold a message, the clock, how much of resource 1 is unused, whether a thread elsewhere
-// than at `accept` is ready, and which of threads 6 to 1, in this order of joining, is taken while the gate is closed; 0 for none.
-const TURNS: [(bool, u64, u64, u32, bool, u32); 9] = [
+/// Whether an arrival waits, the channels that hold a message, the clock, how much of resource 1 is unused, whether a thread elsewhere
+/// than at `accept` is ready, and which thread is taken while the gate is closed; 0 for none.
+type Turn = (bool, u64, u64, u32, bool, u32);
+
+fn world_of(turn: &Turn) -> ByNumber {
+    let bounds = Bounds {
+        arrival: turn.0,
+        channels: turn.1,
+        clock: turn.2,
+        unused: [0, turn.3, 0, 0, 0, 0, 0, 0],
+    };
+    ByNumber {
+        bounds,
+        elsewhere: turn.4,
+    }
+}
+
+// Of threads 6 to 1, in this order of joining.
+const TURNS: &[Turn] = &[
     (true, 4, 10, 0, true, 5),
     (true, 4, 10, 0, true, 3),
     (true, 4, 10, 0, true, 1),
@@ -125,117 +154,78 @@ const TURNS: [(bool, u64, u64, u32, bool, u32); 9] = [
     (true, 4, 100, 3, false, 0),
 ];
 
-// Whether each turn takes the thread that it is to take.
-fn takes_in_turn<C: Measure>(scheduler: &mut Scheduler, graph: &Graph, monitor: &Monitor<C>) -> bool
-    requires known { KnowsNeeds scheduler.old }
-    requires noted { scheduler.old.noted ≡ 0 }
-{
-    let mut is_so = true;
-    for turn in 0..9usize {
-        let (arrival, channels, clock, unused, elsewhere, number) = TURNS[turn];
-        let bounds = Bounds {
-            arrival,
-            channels,
-            clock,
-            unused: [0, unused, 0, 0, 0, 0, 0, 0],
-        };
-        let world = ByNumber { bounds, elsewhere };
-        is_so = taken(scheduler, graph, monitor, &world) == number && is_so;
-    }
-    is_so
-}
-
-// A queue of six that wait for different things.
-fn follows_needs<C: Measure>(
-    scheduler: &mut Scheduler,
-    graph: &Graph,
-    monitor: &Monitor<C>,
-) -> Result<bool, AllocError>
-    requires { scheduler.old ≡ started }
-{
-    join(scheduler, 6)?;
-    join(scheduler, 5)?;
-    join(scheduler, 4)?;
-    join(scheduler, 3)?;
-    join(scheduler, 2)?;
-    join(scheduler, 1)?;
-    Ok(takes_in_turn(scheduler, graph, monitor))
-}
-
-// The time of a clock, and which of those who wait until the clock is their number, 139 first and 100 last, is taken.
-const TIMES: [(u64, u32); 7] = [
-    (99, 0),
-    (104, 104),
-    (139, 139),
-    (115, 115),
-    (115, 114),
-    (138, 138),
-    (100, 100),
+// Of those who wait until the clock is their number, 139 first and 100 last.
+const TIMES: &[Turn] = &[
+    (false, 0, 99, 0, true, 0),
+    (false, 0, 104, 0, true, 104),
+    (false, 0, 139, 0, true, 139),
+    (false, 0, 115, 0, true, 115),
+    (false, 0, 115, 0, true, 114),
+    (false, 0, 138, 0, true, 138),
+    (false, 0, 100, 0, true, 100),
 ];
 
-fn takes_at_times<C: Measure>(
+// Whether each of at most ten turns takes the thread that it is to take.
+fn takes_in_turn<C: Measure>(
     scheduler: &mut Scheduler,
     graph: &Graph,
     monitor: &Monitor<C>,
+    turns: &[Turn],
 ) -> bool
     requires known { KnowsNeeds scheduler.old }
     requires noted { scheduler.old.noted ≡ 0 }
 {
-    let mut is_so = true;
-    for turn in 0..7usize {
-        let (clock, number) = TIMES[turn];
-        let bounds = Bounds {
-            arrival: false,
-            channels: 0,
-            clock,
-            unused: [0; 8],
-        };
-        let world = ByNumber {
-            bounds,
-            elsewhere: true,
-        };
-        is_so = taken(scheduler, graph, monitor, &world) == number && is_so;
+    if turns.len() > 10 {
+        return false;
     }
-    is_so
+    for turn in 0..turns.len() {
+        let row = &turns[turn];
+        if taken(scheduler, graph, monitor, &world_of(row)) != row.5 {
+            return false;
+        }
+    }
+    true
 }
 
-// A queue of forty, over several blocks of places.
-fn follows_times<C: Measure>(
-    scheduler: &mut Scheduler,
-    graph: &Graph,
+// Whether a queue of so many goes as the turns say.
+fn goes_in_turn<C: Measure>(
+    alloc: Global,
     monitor: &Monitor<C>,
-) -> Result<bool, AllocError>
-    requires { scheduler.old ≡ started }
+    first: u32,
+    count: u32,
+    turns: &[Turn],
+) -> bool
+    requires { count ≤ first }
 {
-    for before in 0..40u32 {
-        join(scheduler, 139 - before)?;
-    }
-    Ok(takes_at_times(scheduler, graph, monitor))
+    let graph = Graph::new(alloc);
+    let mut scheduler = Scheduler::new(alloc);
+    let joined = join_down(&mut scheduler, first, count);
+    let right = takes_in_turn(&mut scheduler, &graph, monitor, turns);
+    drop(scheduler);
+    drop(graph);
+    joined && right
 }
 
-// Both, each with a scheduler of its own.
-fn go_by_needs<C: Measure + Copy>(alloc: Global, call: C) -> Result<bool, AllocError>
+// A queue of six that wait for different things, and one of forty, over several blocks of places.
+fn go_by_needs<C: Measure + Copy>(alloc: Global, call: C) -> bool
     requires { AnswersCurve (C.can_measure call) (C.measure_gives call) Linear }
 {
-    let monitor = full_monitor(alloc, call)?;
-    let graph = Graph::new(alloc);
-    let mut six = Scheduler::new(alloc);
-    let by_need = follows_needs(&mut six, &graph, &monitor);
-    let mut forty = Scheduler::new(alloc);
-    let by_time = follows_times(&mut forty, &graph, &monitor);
-    drop(six);
-    drop(forty);
-    drop(graph);
-    drop(monitor);
-    Ok(by_need? && by_time?)
+    match full_monitor(alloc, call) {
+        Ok(monitor) => {
+            let right = goes_in_turn(alloc, &monitor, 6, 6, TURNS)
+                && goes_in_turn(alloc, &monitor, 139, 40, TIMES);
+            drop(monitor);
+            right
+        }
+        Err(_) => false,
+    }
 }
 
 #[test]
-fn needs(rt: HostRuntime) -> Result<(), Fail> {
+fn needs(rt: HostRuntime) {
     let linear = |used: u32, cap: u32| -> u32
         requires { IsReading used cap }
         ensures { result ≡ curve_value Linear used cap }
     { 1000 * used / cap };
-    assert!(rt; go_by_needs(rt.alloc(), linear)?);
-    Ok(())
+    assert!(rt; go_by_needs(rt.alloc(), linear));
 }

@@ -4,8 +4,7 @@ ghost use Rattle.std.specs.Prelude.{◌≡◌, ◌==◌, ◌<◌, ◌≤◌, ◌
 ghost use Rattle.stride_rule.specs.State.{new_rule};
 
 use cap_word::{Ready, ThreadId};
-use std::alloc::AllocError;
-use std::test::Fail;
+use std::alloc::{AllocError, Global};
 use stride_rule::StrideRule;
 
 /// A world in which every thread is ready but one.
@@ -60,10 +59,6 @@ fn go_on(rule: &mut StrideRule, world: &AllButOne) -> Option<u32>
     }
 }
 
-// Threads 0, 1 and 2, of which thread 1 has two tickets: the numbers of those that go on, worked out by hand. After eight turns
-// the passes are 2,097,152 for each of them.
-const TURNS: [u32; 8] = [0, 1, 2, 1, 0, 1, 2, 1];
-
 fn start_three(rule: &mut StrideRule) -> Result<(), AllocError>
     requires { rule.old ≡ new_rule ((1, 2) ∷ []) }
     ensures between { OnOk result (rule.new.running ≡ None) }
@@ -74,42 +69,105 @@ fn start_three(rule: &mut StrideRule) -> Result<(), AllocError>
     rule.start(thread(2))
 }
 
-// Whether threads go on in these turns.
-fn go_in_turns(rule: &mut StrideRule, world: &AllButOne) -> bool
+/// A step of the row.
+#[derive(Clone, Copy)]
+enum Step {
+    /// While this thread may not go on, that one does, for one segment.
+    Goes(u32, u32),
+    /// The passes are so far apart.
+    Spread(u64),
+    /// A thread was held back, so nothing is said of the passes.
+    NoSpread,
+}
+
+fn is_spread(rule: &StrideRule, apart: u64) -> bool {
+    match rule.spread() {
+        Some(found) => found == apart,
+        None => false,
+    }
+}
+
+fn goes(rule: &mut StrideRule, kept: u32, number: u32) -> bool
+    requires between { rule.old.running ≡ None }
+    requires room { rule.old.noted < 2 ^ 40 }
+    ensures between { rule.new.running ≡ None }
+    ensures noted { rule.new.noted ≤ rule.old.noted + 1 }
+{
+    match go_on(rule, &AllButOne { kept }) {
+        Some(found) => found == number,
+        None => false,
+    }
+}
+
+fn goes_so(rule: &mut StrideRule, step: Step) -> bool
+    requires between { rule.old.running ≡ None }
+    requires room { rule.old.noted < 2 ^ 40 }
+    ensures between { rule.new.running ≡ None }
+    ensures noted { rule.new.noted ≤ rule.old.noted + 1 }
+{
+    match step {
+        Step::Goes(kept, number) => goes(rule, kept, number),
+        Step::Spread(apart) => is_spread(rule, apart),
+        Step::NoSpread => matches!(rule.spread(), None),
+    }
+}
+
+// Threads 0, 1 and 2, of which thread 1 has two tickets: those that go on, worked out by hand, while each thread may. After
+// eight turns the passes are 2,097,152 for each of them. Then one goes on, and the next time thread 1 is held back.
+const STEPS: &[Step] = &[
+    Step::Goes(9, 0),
+    Step::Goes(9, 1),
+    Step::Goes(9, 2),
+    Step::Goes(9, 1),
+    Step::Goes(9, 0),
+    Step::Goes(9, 1),
+    Step::Goes(9, 2),
+    Step::Goes(9, 1),
+    Step::Spread(0),
+    Step::Goes(9, 0),
+    Step::Spread(1_048_576),
+    Step::Goes(1, 2),
+    Step::NoSpread,
+];
+
+// Whether each of at most 20 steps goes as it says.
+fn go_so(rule: &mut StrideRule, steps: &[Step]) -> bool
     requires between { rule.old.running ≡ None }
     requires noted { rule.old.noted ≡ 0 }
-    ensures between { rule.new.running ≡ None }
-    ensures noted { rule.new.noted ≤ 8 }
 {
-    let mut is_so = true;
-    for turn in 0..8usize {
-        is_so = go_on(rule, world) == Some(TURNS[turn]) && is_so;
+    if steps.len() > 20 {
+        return false;
     }
+    for at in 0..steps.len() {
+        if !goes_so(rule, steps[at]) {
+            return false;
+        }
+    }
+    true
+}
+
+// Whether the passes are together before a thread has started, and the steps go as they say once three have.
+fn follows_rows(rule: &mut StrideRule) -> bool
+    requires { rule.old ≡ new_rule ((1, 2) ∷ []) }
+{
+    let none = is_spread(rule, 0);
+    match start_three(rule) {
+        Ok(()) => none && go_so(rule, STEPS),
+        Err(_) => false,
+    }
+}
+
+fn two_tickets_are_kept(alloc: Global) -> bool {
+    let Ok(tickets) = Vec::from_slice(alloc, &[(1, 2)]) else {
+        return false;
+    };
+    let mut rule = StrideRule::new(alloc, tickets);
+    let is_so = follows_rows(&mut rule);
+    drop(rule);
     is_so
 }
 
-// Whether the passes are as far apart as they are to be: while each thread may go on, and after one has been held back.
-fn follows_rows(rule: &mut StrideRule) -> Result<bool, AllocError>
-    requires { rule.old ≡ new_rule ((1, 2) ∷ []) }
-{
-    let mut is_so = rule.spread() == Some(0);
-    start_three(rule)?;
-    is_so = go_in_turns(rule, &AllButOne { kept: 9 }) && is_so;
-    is_so = rule.spread() == Some(0) && is_so;
-    is_so = go_on(rule, &AllButOne { kept: 9 }) == Some(0) && is_so;
-    is_so = rule.spread() == Some(1_048_576) && is_so;
-    is_so = go_on(rule, &AllButOne { kept: 1 }) == Some(2) && is_so;
-    is_so = rule.spread().is_none() && is_so;
-    Ok(is_so)
-}
-
 #[test]
-fn strides(rt: HostRuntime) -> Result<(), Fail> {
-    let mut tickets = Vec::new(rt.alloc());
-    tickets.push((1, 2))?;
-    let mut rule = StrideRule::new(rt.alloc(), tickets);
-    let is_so = follows_rows(&mut rule);
-    drop(rule);
-    assert!(rt; is_so?);
-    Ok(())
+fn strides(rt: HostRuntime) {
+    assert!(rt; two_tickets_are_kept(rt.alloc()));
 }
