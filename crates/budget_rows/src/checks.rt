@@ -2,14 +2,14 @@
 
 use crate::sources::{LINKED, PLAIN, SMALL, SPAWNING, TABLE, accepted_of};
 use cap_word::Words;
+use certificate_check::Accepted;
 use chunk_budget::BudgetError::{Length, Low, Root, Zero};
 use chunk_budget::{Budget, BudgetError, check_budget};
 use std::alloc::Global;
-use std::test::Fail;
 
 // A source, how many chunks a thread may hold, the heights of its functions, and the answer. Sites are numbered in the order
 // in which they stand in the source.
-const ROWS: [(&[u8], u32, &[u32], Result<(), BudgetError>); 20] = [
+const ROWS: &[(&[u8], u32, &[u32], Result<(), BudgetError>)] = &[
     // A linked call adds a chunk.
     (LINKED, 2, &[0, 1], Ok(())),
     (LINKED, 5, &[3, 4], Ok(())),
@@ -64,6 +64,32 @@ const ROWS: [(&[u8], u32, &[u32], Result<(), BudgetError>); 20] = [
     (SPAWNING, 1, &[0, 1, 1], Err(Root { function: 1 })),
 ];
 
+// What the check of a budget answers; None where memory is wanting.
+fn answer_of(
+    alloc: Global,
+    accepted: &Accepted,
+    per_thread: u32,
+    heights: &[u32],
+) -> Option<Result<(), BudgetError>> {
+    let Ok(heights) = Vec::from_slice(alloc, heights) else {
+        return None;
+    };
+    let budget = Budget {
+        per_thread,
+        heights: Words::new(heights),
+    };
+    let answer = check_budget(accepted, &budget);
+    drop(budget);
+    Some(answer)
+}
+
+fn is_answer(found: Option<Result<(), BudgetError>>, answer: Result<(), BudgetError>) -> bool {
+    match found {
+        Some(found) => found == answer,
+        None => false,
+    }
+}
+
 // Whether the check of a budget of a source answers so.
 fn is_row(
     alloc: Global,
@@ -72,23 +98,26 @@ fn is_row(
     heights: &[u32],
     answer: Result<(), BudgetError>,
 ) -> bool {
-    let Ok(heights) = Vec::from_slice(alloc, heights) else {
-        return false;
-    };
-    let budget = Budget {
-        per_thread,
-        heights: Words::new(heights),
-    };
     match accepted_of(alloc, source, SMALL) {
         None => false,
-        Some(accepted) => check_budget(&accepted, &budget) == answer,
+        Some(accepted) => {
+            let found = answer_of(alloc, &accepted, per_thread, heights);
+            drop(accepted);
+            is_answer(found, answer)
+        }
     }
 }
 
-#[test]
-fn checks(rt: HostRuntime) -> Result<(), Fail> {
-    for (source, per_thread, heights, answer) in ROWS {
-        assert!(rt; is_row(rt.alloc(), source, per_thread, heights, answer));
+fn all_hold(alloc: Global, rows: &[(&[u8], u32, &[u32], Result<(), BudgetError>)]) -> bool {
+    for (source, per_thread, heights, answer) in rows {
+        if !is_row(alloc, source, *per_thread, heights, *answer) {
+            return false;
+        }
     }
-    Ok(())
+    true
+}
+
+#[test]
+fn checks(rt: HostRuntime) {
+    assert!(rt; all_hold(rt.alloc(), ROWS));
 }

@@ -3,12 +3,12 @@
 use crate::sources::{
     LINKED, MUTUAL, PLAIN, RECURSIVE, SMALL, SPAWNING, Sizes, TABLE, accepted_of, workload_of,
 };
-use chunk_budget::{MakeBudgetError, check_budget, make_budget};
+use certificate_check::Accepted;
+use chunk_budget::{Budget, MakeBudgetError, check_budget, make_budget};
 use std::alloc::Global;
-use std::test::Fail;
 
 // A source, and the least budget of it: the chunks of a thread and the heights of its functions.
-const ROWS: [(&[u8], u32, &[u32]); 4] = [
+const ROWS: &[(&[u8], u32, &[u32])] = &[
     // `main` is one higher than what it calls at a linked site.
     (LINKED, 2, &[0, 1]),
     (PLAIN, 1, &[0, 0]),
@@ -19,7 +19,7 @@ const ROWS: [(&[u8], u32, &[u32]); 4] = [
 ];
 
 // A source whose calls lead back, and the least function from which they do.
-const CYCLES: [(&[u8], u32); 2] = [(RECURSIVE, 0), (MUTUAL, 1)];
+const CYCLES: &[(&[u8], u32)] = &[(RECURSIVE, 0), (MUTUAL, 1)];
 
 /// The workload of number 1000, with the sizes that the words give where they say none.
 const USUAL: Sizes = Sizes {
@@ -27,60 +27,127 @@ const USUAL: Sizes = Sizes {
     max_path: 2032,
 };
 
-// Whether that is the budget that is made of a source, and the check accepts it.
+// The budget that is made of a program, where one is.
+fn budget_of(alloc: Global, accepted: &Accepted) -> Option<Budget> {
+    match make_budget(alloc, accepted) {
+        Ok(budget) => Some(budget),
+        Err(_) => None,
+    }
+}
+
+fn is_accepted(accepted: &Accepted, budget: &Budget) -> bool {
+    matches!(check_budget(accepted, budget), Ok(()))
+}
+
+// Whether that is the budget that is made of a program, and the check accepts it.
+fn is_budget(alloc: Global, accepted: &Accepted, per_thread: u32, heights: &[u32]) -> bool {
+    match budget_of(alloc, accepted) {
+        None => false,
+        Some(budget) => {
+            let right = budget.per_thread == per_thread
+                && budget.heights.as_slice() == heights
+                && is_accepted(accepted, &budget);
+            drop(budget);
+            right
+        }
+    }
+}
+
 fn is_row(alloc: Global, source: &[u8], per_thread: u32, heights: &[u32]) -> bool {
     match accepted_of(alloc, source, SMALL) {
         None => false,
-        Some(accepted) => match make_budget(alloc, &accepted) {
-            Err(_) => false,
-            Ok(budget) => {
-                budget.per_thread == per_thread
-                    && budget.heights.as_slice() == heights
-                    && check_budget(&accepted, &budget).is_ok()
-            }
-        },
+        Some(accepted) => {
+            let right = is_budget(alloc, &accepted, per_thread, heights);
+            drop(accepted);
+            right
+        }
     }
 }
 
-// The function that is named where no budget is made of a source.
-fn cycle_of(alloc: Global, source: &[u8]) -> Option<u32> {
+fn all_hold(alloc: Global, rows: &[(&[u8], u32, &[u32])]) -> bool {
+    for (source, per_thread, heights) in rows {
+        if !is_row(alloc, source, *per_thread, heights) {
+            return false;
+        }
+    }
+    true
+}
+
+// The function that is named where no budget is made of a program.
+fn cycle_in(alloc: Global, accepted: &Accepted) -> Option<u32> {
+    match make_budget(alloc, accepted) {
+        Err(MakeBudgetError::Cycle { function }) => Some(function),
+        Err(MakeBudgetError::Memory) => None,
+        Ok(budget) => {
+            drop(budget);
+            None
+        }
+    }
+}
+
+fn is_cycle(alloc: Global, source: &[u8], function: u32) -> bool {
     match accepted_of(alloc, source, SMALL) {
-        None => None,
-        Some(accepted) => match make_budget(alloc, &accepted) {
-            Err(MakeBudgetError::Cycle { function }) => Some(function),
-            _ => None,
-        },
+        None => false,
+        Some(accepted) => {
+            let found = cycle_in(alloc, &accepted);
+            drop(accepted);
+            match found {
+                Some(found) => found == function,
+                None => false,
+            }
+        }
     }
 }
 
-// How many chunks a thread of the workload of number 1000 may hold.
-fn chunks_of_workload(alloc: Global) -> Option<u32> {
-    let source = workload_of(alloc)?;
-    let accepted = accepted_of(alloc, source.as_slice(), USUAL)?;
-    match make_budget(alloc, &accepted) {
-        Err(_) => None,
-        Ok(budget) => Some(budget.per_thread),
+fn all_are_cycles(alloc: Global, rows: &[(&[u8], u32)]) -> bool {
+    for (source, function) in rows {
+        if !is_cycle(alloc, source, *function) {
+            return false;
+        }
+    }
+    true
+}
+
+// How many chunks a thread of a program may hold, or 0.
+fn chunks_in(alloc: Global, accepted: &Accepted) -> u32 {
+    match budget_of(alloc, accepted) {
+        None => 0,
+        Some(budget) => {
+            let chunks = budget.per_thread;
+            drop(budget);
+            chunks
+        }
+    }
+}
+
+fn chunks_of(alloc: Global, source: &[u8]) -> u32 {
+    match accepted_of(alloc, source, USUAL) {
+        None => 0,
+        Some(accepted) => {
+            let chunks = chunks_in(alloc, &accepted);
+            drop(accepted);
+            chunks
+        }
+    }
+}
+
+// How many chunks a thread of the workload of number 1000 may hold, or 0.
+fn chunks_of_workload(alloc: Global) -> u32 {
+    match workload_of(alloc) {
+        None => 0,
+        Some(source) => {
+            let chunks = chunks_of(alloc, &source);
+            drop(source);
+            chunks
+        }
     }
 }
 
 #[test]
-fn made(rt: HostRuntime) -> Result<(), Fail> {
-    for (source, per_thread, heights) in ROWS {
-        assert!(rt; is_row(rt.alloc(), source, per_thread, heights));
-    }
-    Ok(())
-}
-
-#[test]
-fn cycles(rt: HostRuntime) -> Result<(), Fail> {
-    for (source, function) in CYCLES {
-        assert!(rt; cycle_of(rt.alloc(), source) == Some(function));
-    }
-    Ok(())
-}
-
-#[test]
-fn workload(rt: HostRuntime) -> Result<(), Fail> {
-    assert!(rt; chunks_of_workload(rt.alloc()) == Some(16));
-    Ok(())
+fn made(rt: HostRuntime) {
+    let alloc = rt.alloc();
+    let right = all_hold(alloc, ROWS)
+        && all_are_cycles(alloc, CYCLES)
+        && chunks_of_workload(alloc) == 16;
+    assert!(rt; right);
 }

@@ -5,7 +5,7 @@ ghost use Rattle.codegen_link.specs.Plans.{AreInRange};
 use crate::{Outcome, accepted_of, begin, run_on};
 use certificate_check::Accepted;
 use codegen_link::Options;
-use std::alloc::{AllocError, Global};
+use std::alloc::Global;
 
 /// A recursion of 100 calls, which puts 100.
 pub(crate) const DEEP: &[u8] =
@@ -36,7 +36,7 @@ pub(crate) fn comes_to(
     options: Options,
     chunks: u32,
     want: Outcome,
-) -> Result<bool, AllocError>
+) -> bool
     requires { AreInRange options }
 {
     match accepted_of(alloc, source, options) {
@@ -45,7 +45,7 @@ pub(crate) fn comes_to(
             drop(accepted);
             is_so
         }
-        None => Ok(false),
+        None => false,
     }
 }
 
@@ -56,9 +56,9 @@ pub(crate) fn leads_to(
     chunks: u32,
     left: u64,
     want: Outcome,
-) -> Result<bool, AllocError> {
-    match begin(alloc, accepted, chunks)? {
-        Some(begun) => Ok(run_on(accepted, begun, left) == want),
-        None => Ok(false),
+) -> bool {
+    match begin(alloc, accepted, chunks) {
+        Ok(Some(begun)) => run_on(accepted, begun, left) == want,
+        Ok(None) | Err(_) => false,
     }
 }

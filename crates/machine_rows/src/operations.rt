@@ -7,7 +7,6 @@ use cap_word::{Ask, Block, SiteKey, TrapKind};
 use codegen_link::Options;
 use segment_run::Segment;
 use std::alloc::{AllocError, Global};
-use std::test::Fail;
 
 // No call is linked.
 const WIDE: Options = Options {
@@ -256,106 +255,87 @@ fn putting(alloc: Global, expression: &[u8]) -> Result<Vec<u8>, AllocError> {
 }
 
 // Whether `main` puts the value of an expression, in so many instructions more than the expression takes itself.
-fn has_value(
-    alloc: Global,
-    expression: &[u8],
-    value: u32,
-    retired: u64,
-) -> Result<bool, AllocError> {
-    let source = putting(alloc, expression)?;
+fn has_value(alloc: Global, expression: &[u8], value: u32, retired: u64) -> bool {
+    let Ok(source) = putting(alloc, expression) else {
+        return false;
+    };
     let want = asked(Ask::Put { value }, value, retired.saturating_add(14), 4);
     let is_so = comes_to(alloc, &source, WIDE, 4, want);
     drop(source);
     is_so
 }
 
-fn all_have_values(alloc: Global, rows: &[(&[u8], u32, u64)]) -> Result<bool, AllocError> {
+fn all_have_values(alloc: Global, rows: &[(&[u8], u32, u64)]) -> bool {
     for (expression, value, retired) in rows {
-        if !has_value(alloc, *expression, *value, *retired)? {
-            return Ok(false);
+        if !has_value(alloc, *expression, *value, *retired) {
+            return false;
         }
     }
-    Ok(true)
+    true
 }
 
-fn all_put(alloc: Global, rows: &[(&[u8], u32, u64)]) -> Result<bool, AllocError> {
+fn all_put(alloc: Global, rows: &[(&[u8], u32, u64)]) -> bool {
     for (source, value, retired) in rows {
         let want = asked(Ask::Put { value: *value }, *value, *retired, 4);
-        if !comes_to(alloc, *source, WIDE, 4, want)? {
-            return Ok(false);
+        if !comes_to(alloc, *source, WIDE, 4, want) {
+            return false;
         }
     }
-    Ok(true)
+    true
 }
 
-fn linked_calls(alloc: Global) -> Result<bool, AllocError> {
+fn linked_calls(alloc: Global) -> bool {
     for (source, options, chunks, value, retired) in LINKS {
         let want = asked(Ask::Put { value }, value, retired, chunks);
-        if !comes_to(alloc, source, options, chunks, want)? {
-            return Ok(false);
+        if !comes_to(alloc, source, options, chunks, want) {
+            return false;
         }
     }
-    Ok(true)
+    true
 }
 
-fn all_ask(alloc: Global, rows: &[(&[u8], Ask, u32, u64)]) -> Result<bool, AllocError> {
+fn all_ask(alloc: Global, rows: &[(&[u8], Ask, u32, u64)]) -> bool {
     for (source, ask, sum, retired) in rows {
         let want = asked(*ask, *sum, *retired, 4);
-        if !comes_to(alloc, *source, WIDE, 4, want)? {
-            return Ok(false);
+        if !comes_to(alloc, *source, WIDE, 4, want) {
+            return false;
         }
     }
-    Ok(true)
+    true
 }
 
-fn all_block(alloc: Global, rows: &[(&[u8], Block, u64)]) -> Result<bool, AllocError> {
+fn all_block(alloc: Global, rows: &[(&[u8], Block, u64)]) -> bool {
     for (source, block, retired) in rows {
         let want = stopped(
             Segment::Blocks { block: *block },
             Some(SiteKey::new(&[0])),
             *retired,
         );
-        if !comes_to(alloc, *source, WIDE, 4, want)? {
-            return Ok(false);
+        if !comes_to(alloc, *source, WIDE, 4, want) {
+            return false;
         }
     }
-    Ok(true)
+    true
 }
 
-fn all_trap(alloc: Global, rows: &[(&[u8], TrapKind, u64)]) -> Result<bool, AllocError> {
+fn all_trap(alloc: Global, rows: &[(&[u8], TrapKind, u64)]) -> bool {
     for (source, kind, retired) in rows {
         let want = stopped(Segment::Traps { kind: *kind }, None, *retired);
-        if !comes_to(alloc, *source, WIDE, 4, want)? {
-            return Ok(false);
+        if !comes_to(alloc, *source, WIDE, 4, want) {
+            return false;
         }
     }
-    Ok(true)
-}
-
-fn expressions(alloc: Global) -> Result<bool, AllocError> {
-    all_have_values(alloc, &EXPRESSIONS)
-}
-
-fn statements(alloc: Global) -> Result<bool, AllocError> {
-    all_put(alloc, &PUTS)
-}
-
-fn answered_calls(alloc: Global) -> Result<bool, AllocError> {
-    all_ask(alloc, &ASKS)
-}
-
-fn blocking_calls(alloc: Global) -> Result<bool, AllocError> {
-    all_block(alloc, &BLOCKS)
-}
-
-fn traps(alloc: Global) -> Result<bool, AllocError> {
-    all_trap(alloc, &TRAPS)
+    true
 }
 
 #[test]
-fn operations(rt: HostRuntime) -> Result<(), Fail> {
+fn operations(rt: HostRuntime) {
     let alloc = rt.alloc();
-    assert!(rt; expressions(alloc)? && statements(alloc)? && linked_calls(alloc)?);
-    assert!(rt; answered_calls(alloc)? && blocking_calls(alloc)? && traps(alloc)?);
-    Ok(())
+    let right = all_have_values(alloc, &EXPRESSIONS)
+        && all_put(alloc, &PUTS)
+        && linked_calls(alloc)
+        && all_ask(alloc, &ASKS)
+        && all_block(alloc, &BLOCKS)
+        && all_trap(alloc, &TRAPS);
+    assert!(rt; right);
 }

@@ -4,14 +4,13 @@ use crate::Outcome;
 use crate::cases::{DEEP, NARROW, comes_to, left_after};
 use cap_word::{Ask, Block, SiteKey};
 use segment_run::Segment;
-use std::alloc::{AllocError, Global};
-use std::test::Fail;
+use std::alloc::Global;
 
 const BLOCKED: &[u8] =
     b"int h(int n) { int r; if (n < 1) { yield(); return 0; } r = h(n - 1); return r; } int main() { int r; r = h(9); return r; }";
 
 // A recursion 100 deep links 100 chunks and puts its result; 5,149 instructions retire, and all chunks are free again.
-fn a_deep_one(alloc: Global) -> Result<bool, AllocError> {
+fn a_deep_one(alloc: Global) -> bool {
     let want = Outcome {
         first: Some(Segment::Asks {
             ask: Ask::Put { value: 100 },
@@ -27,7 +26,7 @@ fn a_deep_one(alloc: Global) -> Result<bool, AllocError> {
 
 // A recursion that blocks at its bottom, ten frames deep: its key goes over eight chunks, and 344 instructions retire, the
 // call among them.
-fn a_key_across_chunks(alloc: Global) -> Result<bool, AllocError> {
+fn a_key_across_chunks(alloc: Global) -> bool {
     let blocks = Segment::Blocks {
         block: Block::Yield,
     };
@@ -43,7 +42,6 @@ fn a_key_across_chunks(alloc: Global) -> Result<bool, AllocError> {
 }
 
 #[test]
-fn recursions(rt: HostRuntime) -> Result<(), Fail> {
-    assert!(rt; a_deep_one(rt.alloc())? && a_key_across_chunks(rt.alloc())?);
-    Ok(())
+fn recursions(rt: HostRuntime) {
+    assert!(rt; a_deep_one(rt.alloc()) && a_key_across_chunks(rt.alloc()));
 }

@@ -5,7 +5,6 @@ use rv_code::Register;
 use rv_machine::{Memory, Regs, StepResult, step, step_decoded};
 use stack_image::Image;
 use std::alloc::{AllocError, Global};
-use std::test::Fail;
 
 const SAMPLE: Ram = Ram {
     bytes: [
@@ -154,135 +153,125 @@ fn stepped_in_words<M: Memory + Copy>(
 }
 
 // Whether the step fails with that fault, and nothing changes.
-fn fails(
-    alloc: Global,
-    form: Form,
-    word: u32,
-    pc: u32,
-    kind: FaultKind,
-) -> Result<bool, AllocError> {
-    let after = stepped(alloc, form, word, start(pc), SAMPLE)?;
-    Ok(
-        after.result == StepResult::Fault { pc, kind }
-            && after.now == start(pc)
-            && after.memory.bytes == SAMPLE.bytes,
-    )
+fn fails(alloc: Global, form: Form, word: u32, pc: u32, kind: FaultKind) -> bool {
+    let Ok(after) = stepped(alloc, form, word, start(pc), SAMPLE) else {
+        return false;
+    };
+    after.result == StepResult::Fault { pc, kind }
+        && after.now == start(pc)
+        && after.memory.bytes == SAMPLE.bytes
 }
 
 // Whether the step leaves that value in register 5, goes on there, and stores nothing.
-fn leaves(alloc: Global, form: Form, word: u32, value: u32, pc: u32) -> Result<bool, AllocError> {
-    let after = stepped(alloc, form, word, start(0x1000), SAMPLE)?;
-    Ok(
-        after.result == StepResult::Went
-            && after.now.pc == pc
-            && after.now.read(Register::T0) == value
-            && after.memory.bytes == SAMPLE.bytes,
-    )
+fn leaves(alloc: Global, form: Form, word: u32, value: u32, pc: u32) -> bool {
+    let Ok(after) = stepped(alloc, form, word, start(0x1000), SAMPLE) else {
+        return false;
+    };
+    after.result == StepResult::Went
+        && after.now.pc == pc
+        && after.now.read(Register::T0) == value
+        && after.memory.bytes == SAMPLE.bytes
 }
 
 // Whether the step leaves these first four bytes, and the other ones as they were.
-fn stores(alloc: Global, form: Form, word: u32, bytes: [u8; 4]) -> Result<bool, AllocError> {
-    let after = stepped(alloc, form, word, start(0x1000), SAMPLE)?;
-    Ok(
-        after.result == StepResult::Went
-            && after.memory.bytes[..4] == bytes[..]
-            && after.memory.bytes[4..] == SAMPLE.bytes[4..],
-    )
+fn stores(alloc: Global, form: Form, word: u32, bytes: [u8; 4]) -> bool {
+    let Ok(after) = stepped(alloc, form, word, start(0x1000), SAMPLE) else {
+        return false;
+    };
+    after.result == StepResult::Went
+        && after.memory.bytes[..4] == bytes[..]
+        && after.memory.bytes[4..] == SAMPLE.bytes[4..]
 }
 
 // Whether a memory of words has the same bytes after the store, reads a word as the memory of bytes does, and what is no
 // memory stays.
-fn stores_in_words(
-    alloc: Global,
-    form: Form,
-    word: u32,
-    first: u32,
-    second: u32,
-) -> Result<bool, AllocError> {
+fn stores_in_words(alloc: Global, form: Form, word: u32, first: u32, second: u32) -> bool {
     let words = WordRam {
         words: [0x7f01_ff80, 0x4433_2211, 0x0302_0100, 0x0706_0504],
         free: [8, 9],
     };
-    let memory = stepped(alloc, form, word, start(0x1000), words)?.memory;
-    Ok(
-        memory.words == [first, second, 0x0302_0100, 0x0706_0504]
-            && memory.free == [8, 9]
-            && memory.load_word(0) == Some(first)
-            && memory.load(7) == Some((second >> 24) as u8),
-    )
+    let Ok(after) = stepped(alloc, form, word, start(0x1000), words) else {
+        return false;
+    };
+    let memory = after.memory;
+    memory.words == [first, second, 0x0302_0100, 0x0706_0504]
+        && memory.free == [8, 9]
+        && memory.load_word(0) == Some(first)
+        && memory.load(7) == Some((second >> 24) as u8)
 }
 
-// Whether ECALL tells register 17 and stays, JALR reads its register before it writes it, and register 0 stays 0.
-fn calls_and_links(alloc: Global, form: Form) -> Result<bool, AllocError> {
-    let call = stepped(alloc, form, 0x0000_0073, start(0x1000), SAMPLE)?;
-    let link = stepped(alloc, form, 0x0050_80e7, call.now, call.memory)?; // jalr x1,5(x1)
+// Whether ECALL tells register 17 and stays.
+fn calls(alloc: Global, form: Form) -> bool {
+    let Ok(call) = stepped(alloc, form, 0x0000_0073, start(0x1000), SAMPLE) else {
+        return false;
+    };
+    call.result == (StepResult::Call { number: 3 })
+        && call.now == start(0x1000)
+        && call.memory.bytes == SAMPLE.bytes
+}
+
+// Whether JALR reads its register before it writes it, and register 0 stays 0.
+fn links(alloc: Global, form: Form) -> bool {
+    // jalr x1,5(x1)
+    let Ok(link) = stepped(alloc, form, 0x0050_80e7, start(0x1000), SAMPLE) else {
+        return false;
+    };
     let mut now = link.now;
     now.write(Register::ZERO, 9);
-    Ok(
-        call.result == (StepResult::Call { number: 3 })
-            && call.now == start(0x1000)
-            && link.result == StepResult::Went
-            && link.now.pc == 0x1004
-            && link.now.x[1] == 0x1004
-            && now.read(Register::ZERO) == 0,
-    )
+    link.result == StepResult::Went
+        && link.now.pc == 0x1004
+        && link.now.x[1] == 0x1004
+        && now.read(Register::ZERO) == 0
 }
 
-fn all_fail(alloc: Global, form: Form, rows: &[(u32, u32, FaultKind)]) -> Result<bool, AllocError> {
+fn all_fail(alloc: Global, form: Form, rows: &[(u32, u32, FaultKind)]) -> bool {
     for (word, pc, kind) in rows {
-        if !fails(alloc, form, *word, *pc, *kind)? {
-            return Ok(false);
+        if !fails(alloc, form, *word, *pc, *kind) {
+            return false;
         }
     }
-    Ok(true)
+    true
 }
 
-fn all_leave(alloc: Global, form: Form, rows: &[(u32, u32, u32)]) -> Result<bool, AllocError> {
+fn all_leave(alloc: Global, form: Form, rows: &[(u32, u32, u32)]) -> bool {
     for (word, value, pc) in rows {
-        if !leaves(alloc, form, *word, *value, *pc)? {
-            return Ok(false);
+        if !leaves(alloc, form, *word, *value, *pc) {
+            return false;
         }
     }
-    Ok(true)
+    true
 }
 
-fn all_store(alloc: Global, form: Form, rows: &[(u32, [u8; 4])]) -> Result<bool, AllocError> {
+fn all_store(alloc: Global, form: Form, rows: &[(u32, [u8; 4])]) -> bool {
     for (word, bytes) in rows {
-        if !stores(alloc, form, *word, *bytes)? {
-            return Ok(false);
+        if !stores(alloc, form, *word, *bytes) {
+            return false;
         }
     }
-    Ok(true)
+    true
 }
 
-fn all_store_in_words(
-    alloc: Global,
-    form: Form,
-    rows: &[(u32, u32, u32)],
-) -> Result<bool, AllocError> {
+fn all_store_in_words(alloc: Global, form: Form, rows: &[(u32, u32, u32)]) -> bool {
     for (word, first, second) in rows {
-        if !stores_in_words(alloc, form, *word, *first, *second)? {
-            return Ok(false);
+        if !stores_in_words(alloc, form, *word, *first, *second) {
+            return false;
         }
     }
-    Ok(true)
+    true
 }
 
 // Whether every row holds of a form of the step.
-fn holds_of(alloc: Global, form: Form) -> Result<bool, AllocError> {
-    Ok(
-        all_fail(alloc, form, &FAULTS)?
-            && all_leave(alloc, form, &REGISTERS)?
-            && all_store(alloc, form, &STORES)?
-            && all_store_in_words(alloc, form, &WORDS)?
-            && calls_and_links(alloc, form)?,
-    )
+fn holds_of(alloc: Global, form: Form) -> bool {
+    all_fail(alloc, form, &FAULTS)
+        && all_leave(alloc, form, &REGISTERS)
+        && all_store(alloc, form, &STORES)
+        && all_store_in_words(alloc, form, &WORDS)
+        && calls(alloc, form)
+        && links(alloc, form)
 }
 
 #[test]
-fn steps(rt: HostRuntime) -> Result<(), Fail> {
+fn steps(rt: HostRuntime) {
     let alloc = rt.alloc();
-    assert!(rt; holds_of(alloc, Form::Words)?);
-    assert!(rt; holds_of(alloc, Form::Decoded)?);
-    Ok(())
+    assert!(rt; holds_of(alloc, Form::Words) && holds_of(alloc, Form::Decoded));
 }

@@ -10,8 +10,7 @@ use certificate_check::Accepted;
 use codegen_link::Options;
 use rv_machine::{Regs, StepResult, step};
 use segment_run::{Areas, Context, Fuel, Segment, run_segment};
-use std::alloc::{AllocError, Global};
-use std::test::Fail;
+use std::alloc::Global;
 
 // Where nothing was put.
 fn silent(last: Segment, left: u64, free: u32) -> Outcome {
@@ -27,21 +26,19 @@ fn silent(last: Segment, left: u64, free: u32) -> Outcome {
 
 // Whether a recursion over so many chunks lacks one at the LINK of that number: 43 instructions lead to the first, and 35
 // from each to the next. Where the fuel ends just before it, that is told first.
-fn lacks_a_chunk(alloc: Global, accepted: &Accepted, chunks: u32) -> Result<bool, AllocError> {
+fn lacks_a_chunk(alloc: Global, accepted: &Accepted, chunks: u32) -> bool {
     let before = u64::from(chunks) * 35 + 8;
     let no_fuel = silent(Segment::OutOfFuel, 0, 0);
     let no_chunk = silent(Segment::NoChunk, 1, 0);
-    Ok(
-        leads_to(alloc, accepted, chunks, before, no_fuel)?
-            && leads_to(alloc, accepted, chunks, before + 1, no_chunk)?,
-    )
+    leads_to(alloc, accepted, chunks, before, no_fuel)
+        && leads_to(alloc, accepted, chunks, before + 1, no_chunk)
 }
 
 // Whether the recursion of 100 calls lacks each of the 100 chunks that it links beside its first one, and ends with them all.
-fn each_chunk_is_lacked(alloc: Global, accepted: &Accepted) -> Result<bool, AllocError> {
+fn each_chunk_is_lacked(alloc: Global, accepted: &Accepted) -> bool {
     for chunks in 1..=100 {
-        if !lacks_a_chunk(alloc, accepted, chunks)? {
-            return Ok(false);
+        if !lacks_a_chunk(alloc, accepted, chunks) {
+            return false;
         }
     }
     let ends = Outcome {
@@ -83,13 +80,13 @@ fn with_fuel(left: u64) -> Outcome {
     }
 }
 
-fn fuel_runs_out(alloc: Global, accepted: &Accepted) -> Result<bool, AllocError> {
+fn fuel_runs_out(alloc: Global, accepted: &Accepted) -> bool {
     for left in 0..=101 {
-        if !leads_to(alloc, accepted, 2, left, with_fuel(left))? {
-            return Ok(false);
+        if !leads_to(alloc, accepted, 2, left, with_fuel(left)) {
+            return false;
         }
     }
-    Ok(true)
+    true
 }
 
 // A thread's registers after its instructions up to the next call, and how many those are.
@@ -123,58 +120,45 @@ fn cut(accepted: &Accepted, begun: Begun, left: u64) -> (Segment, Regs, u64)
 }
 
 // The same of a thread that begins on one chunk.
-fn cut_after(
-    alloc: Global,
-    accepted: &Accepted,
-    left: u64,
-) -> Result<Option<(Segment, Regs, u64)>, AllocError> {
-    match begin(alloc, accepted, 1)? {
-        Some(begun) => Ok(Some(cut(accepted, begun, left))),
-        None => Ok(None),
+fn cut_after(alloc: Global, accepted: &Accepted, left: u64) -> Option<(Segment, Regs, u64)> {
+    match begin(alloc, accepted, 1) {
+        Ok(Some(begun)) => Some(cut(accepted, begun, left)),
+        Ok(None) | Err(_) => None,
     }
 }
 
 // The registers at the put, to which one run leads in 87 instructions.
-fn at_put(alloc: Global, accepted: &Accepted) -> Result<Option<Regs>, AllocError> {
+fn at_put(alloc: Global, accepted: &Accepted) -> Option<Regs> {
     let put = Segment::Asks {
         ask: Ask::Put { value: 1 },
     };
-    match cut_after(alloc, accepted, 88)? {
-        Some((segment, regs, steps)) if segment == put && steps == 0 => Ok(Some(regs)),
-        _ => Ok(None),
+    match cut_after(alloc, accepted, 88) {
+        Some((segment, regs, steps)) if segment == put && steps == 0 => Some(regs),
+        _ => None,
     }
 }
 
 // Whether going on leads to just these registers where the fuel runs out after so many instructions.
-fn goes_on_alike(
-    alloc: Global,
-    accepted: &Accepted,
-    left: u64,
-    whole: &Regs,
-) -> Result<bool, AllocError> {
-    match cut_after(alloc, accepted, left)? {
+fn goes_on_alike(alloc: Global, accepted: &Accepted, left: u64, whole: &Regs) -> bool {
+    match cut_after(alloc, accepted, left) {
         Some((segment, regs, steps)) => {
-            Ok(
-                segment == Segment::OutOfFuel
-                    && steps == 87u64.saturating_sub(left)
-                    && regs == *whole,
-            )
+            segment == Segment::OutOfFuel && steps == 87u64.saturating_sub(left) && regs == *whole
         }
-        None => Ok(false),
+        None => false,
     }
 }
 
 // Whether going on leads to the registers at the put, the instruction 88, wherever the fuel runs out before.
-fn goes_on(alloc: Global, accepted: &Accepted) -> Result<bool, AllocError> {
-    let Some(whole) = at_put(alloc, accepted)? else {
-        return Ok(false);
+fn goes_on(alloc: Global, accepted: &Accepted) -> bool {
+    let Some(whole) = at_put(alloc, accepted) else {
+        return false;
     };
     for left in 0..88 {
-        if !goes_on_alike(alloc, accepted, left, &whole)? {
-            return Ok(false);
+        if !goes_on_alike(alloc, accepted, left, &whole) {
+            return false;
         }
     }
-    Ok(true)
+    true
 }
 
 // What a recursion is tried by: the want of each chunk, the want of fuel at each instruction, and going on after it.
@@ -185,7 +169,7 @@ enum Trial {
     GoingOn,
 }
 
-fn holds(alloc: Global, source: &[u8], options: Options, trial: Trial) -> Result<bool, AllocError>
+fn holds(alloc: Global, source: &[u8], options: Options, trial: Trial) -> bool
     requires { AreInRange options }
 {
     match accepted_of(alloc, source, options) {
@@ -198,25 +182,26 @@ fn holds(alloc: Global, source: &[u8], options: Options, trial: Trial) -> Result
             drop(accepted);
             is_so
         }
-        None => Ok(false),
+        None => false,
     }
 }
 
+const SMALL: Options = Options {
+    chunk: 80,
+    max_path: 48,
+};
+
+const LARGE: Options = Options {
+    chunk: 96,
+    max_path: 48,
+};
+
 // The recursion of one call links a chunk where chunks have 80 bytes, and none where they have 96.
 #[test]
-fn stops(rt: HostRuntime) -> Result<(), Fail> {
-    let small = Options {
-        chunk: 80,
-        max_path: 48,
-    };
-    let large = Options {
-        chunk: 96,
-        max_path: 48,
-    };
+fn stops(rt: HostRuntime) {
     let alloc = rt.alloc();
-    assert!(rt;
-        holds(alloc, DEEP, NARROW, Trial::Chunks)? && holds(alloc, ONCE, small, Trial::Fuel)?
-    );
-    assert!(rt; holds(alloc, ONCE, large, Trial::GoingOn)?);
-    Ok(())
+    let right = holds(alloc, DEEP, NARROW, Trial::Chunks)
+        && holds(alloc, ONCE, SMALL, Trial::Fuel)
+        && holds(alloc, ONCE, LARGE, Trial::GoingOn);
+    assert!(rt; right);
 }

@@ -1,6 +1,7 @@
 // What `build` makes of a source: the valid pairs, word for word and line for line, and what is too large.
 
 ghost use Rattle.codegen_link.specs.Plans.{AreInRange};
+ghost use Rattle.std.specs.Prelude.{IfSome};
 
 use crate::changes::Change::Line;
 use crate::changes::{Change, certificate_in, image_of, program_of, text_of};
@@ -10,10 +11,9 @@ use c_tree::Program;
 use certificate_check::Accepted;
 use codegen_link::Options;
 use stack_build::{BuildError, build};
-use stack_certificate::{Certificate, FunctionFact};
+use stack_certificate::{Certificate, FunctionFact, SiteFact};
 use stack_image::Image;
-use std::alloc::{AllocError, Global};
-use std::test::Fail;
+use std::alloc::Global;
 
 const USUAL: Options = Options {
     chunk: 4096,
@@ -32,7 +32,7 @@ const NARROW: Options = Options {
 
 // The source of a pair, the sizes for which it is built, and how the lines differ from those of the pair. Where a path has
 // at most 16 bytes, the call is linked.
-const PAIRS: [(Of, Options, &[Change]); 5] = [
+const PAIRS: &[(Of, Options, &[Change])] = &[
     (Plain, SMALL, &[]),
     (Linked, NARROW, &[Line(3, b"max-path 16")]),
     (Putting, USUAL, &[]),
@@ -41,7 +41,7 @@ const PAIRS: [(Of, Options, &[Change]); 5] = [
 ];
 
 // A source, the sizes, and the certificate.
-const LINES: [(&[u8], Options, &[u8]); 3] = [
+const LINES: &[(&[u8], Options, &[u8])] = &[
     (
         b"int main() { int a[506]; return 0; }",
         USUAL,
@@ -98,12 +98,12 @@ fn accepted(alloc: Global, source: &[u8], options: Options) -> Option<Accepted>
     requires { AreInRange options }
 {
     match program_of(alloc, source) {
-        Some(program) => built(alloc, program, options),
+        Some(program) => accepted_program(alloc, program, options),
         None => None,
     }
 }
 
-fn built(alloc: Global, program: Program, options: Options) -> Option<Accepted>
+fn accepted_program(alloc: Global, program: Program, options: Options) -> Option<Accepted>
     requires { AreInRange options }
 {
     match build(alloc, program, options) {
@@ -153,26 +153,36 @@ fn are_alike(found: &FunctionFact, wanted: &FunctionFact) -> bool {
         && found.places.as_slice() == wanted.places.as_slice()
 }
 
-// Whether two certificates say the same.
-fn say_the_same(found: &Certificate, wanted: &Certificate) -> bool {
-    let functions = found.functions.as_slice();
-    let sites = found.sites.as_slice();
-    let wanted_functions = wanted.functions.as_slice();
-    let wanted_sites = wanted.sites.as_slice();
-    if functions.len() != wanted_functions.len() || sites.len() != wanted_sites.len() {
+fn are_all_alike(found: &[FunctionFact], wanted: &[FunctionFact]) -> bool {
+    if found.len() != wanted.len() {
         return false;
     }
-    for k in 0..functions.len() {
-        if !are_alike(&functions[k], &wanted_functions[k]) {
+    for k in 0..found.len() {
+        if !are_alike(&found[k], &wanted[k]) {
             return false;
         }
     }
-    for k in 0..sites.len() {
-        if sites[k].number != wanted_sites[k].number || sites[k].kind != wanted_sites[k].kind {
+    true
+}
+
+fn are_same_sites(found: &[SiteFact], wanted: &[SiteFact]) -> bool {
+    if found.len() != wanted.len() {
+        return false;
+    }
+    for k in 0..found.len() {
+        if found[k].number != wanted[k].number || found[k].kind != wanted[k].kind {
             return false;
         }
     }
-    found.chunk == wanted.chunk && found.max_path == wanted.max_path
+    true
+}
+
+// Whether two certificates say the same.
+fn say_the_same(found: &Certificate, wanted: &Certificate) -> bool {
+    are_all_alike(found.functions.as_slice(), wanted.functions.as_slice())
+        && are_same_sites(found.sites.as_slice(), wanted.sites.as_slice())
+        && found.chunk == wanted.chunk
+        && found.max_path == wanted.max_path
 }
 
 // Whether a certificate is the one of a text.
@@ -254,36 +264,114 @@ fn words_of_code(alloc: Global, source: &[u8], options: Options) -> usize
     }
 }
 
-#[test]
-fn pairs_frames_and_needs(rt: HostRuntime) {
-    for (of, options, changes) in PAIRS {
-        assert!(rt; is_pair(rt.alloc(), of, options, changes));
+// The sizes, where they are in their ranges.
+fn in_range(options: Options) -> Option<Options>
+    ensures { IfSome result AreInRange }
+{
+    let chunk = options.chunk;
+    let max_path = options.max_path;
+    if chunk % 16 != 0 || chunk < 64 || chunk > 65_536 || max_path < 16 || max_path > 4_080 {
+        return None;
     }
-    for (source, options, lines) in LINES {
-        assert!(rt; has_lines(rt.alloc(), source, options, lines));
+    if max_path + 16 > chunk {
+        return None;
     }
-    let over = refusal(rt.alloc(), b"int main() { int a[507]; return 0; }", USUAL);
-    assert!(rt; over == (1, 0, 2048));
+    Some(Options { chunk, max_path })
 }
 
-// A main of 28 words of code, and 4 more for each assignment and 1 for each `break`.
-fn long_source(alloc: Global, assignments: u32, breaks: u32) -> Result<Vec<u8>, AllocError> {
-    let mut text = Vec::from_slice(alloc, b"int main() { int x; while (1) {")?;
-    for _ in 0..assignments {
-        text.extend_from_slice(b"x=x;")?;
+fn is_row_of_pairs(alloc: Global, of: Of, options: Options, changes: &[Change]) -> bool {
+    match in_range(options) {
+        Some(options) => is_pair(alloc, of, options, changes),
+        None => false,
     }
-    for _ in 0..breaks {
-        text.extend_from_slice(b"break;")?;
+}
+
+fn is_row_of_lines(alloc: Global, source: &[u8], options: Options, lines: &[u8]) -> bool {
+    match in_range(options) {
+        Some(options) => has_lines(alloc, source, options, lines),
+        None => false,
     }
-    text.extend_from_slice(b"} return 0; }")?;
-    Ok(text)
+}
+
+fn are_pairs(alloc: Global, rows: &[(Of, Options, &[Change])]) -> bool {
+    for (of, options, changes) in rows {
+        if !is_row_of_pairs(alloc, *of, *options, changes) {
+            return false;
+        }
+    }
+    true
+}
+
+fn all_have_lines(alloc: Global, rows: &[(&[u8], Options, &[u8])]) -> bool {
+    for (source, options, lines) in rows {
+        if !is_row_of_lines(alloc, source, *options, lines) {
+            return false;
+        }
+    }
+    true
+}
+
+// Whether a source is refused so.
+fn is_refused(alloc: Global, source: &[u8], options: Options, want: (u32, u32, u64)) -> bool
+    requires { AreInRange options }
+{
+    let (kind, function, size) = refusal(alloc, source, options);
+    kind == want.0 && function == want.1 && size == want.2
+}
+
+// Puts a part behind a text so many times, and tells whether there was memory.
+fn put(text: &mut Vec<u8>, part: &[u8], times: u32) -> bool {
+    for _ in 0..times {
+        if matches!(text.extend_from_slice(part), Err(_)) {
+            return false;
+        }
+    }
+    true
+}
+
+// A main of 28 words of code, and 4 more for each assignment and 1 for each `break`; and whether it is whole.
+fn long_source(alloc: Global, assignments: u32, breaks: u32) -> (Vec<u8>, bool) {
+    let mut text = Vec::new(alloc);
+    let is_whole = put(&mut text, b"int main() { int x; while (1) {", 1)
+        && put(&mut text, b"x=x;", assignments)
+        && put(&mut text, b"break;", breaks)
+        && put(&mut text, b"} return 0; }", 1);
+    (text, is_whole)
+}
+
+fn most_words_are_built(alloc: Global) -> bool {
+    let (source, is_whole) = long_source(alloc, 49_993, 0);
+    let right = words_of_code(alloc, &source, SMALL) == 200_000;
+    drop(source);
+    is_whole && right
+}
+
+fn a_word_more_is_refused(alloc: Global) -> bool {
+    let (source, is_whole) = long_source(alloc, 49_993, 1);
+    let right = is_refused(alloc, &source, SMALL, (2, 0, 200_001));
+    drop(source);
+    is_whole && right
+}
+
+fn a_large_frame_is_refused(alloc: Global) -> bool {
+    is_refused(
+        alloc,
+        b"int main() { int a[507]; return 0; }",
+        USUAL,
+        (1, 0, 2048),
+    )
 }
 
 #[test]
-fn code_has_its_limit(rt: HostRuntime) -> Result<(), Fail> {
-    let source = long_source(rt.alloc(), 49_993, 0)?;
-    assert!(rt; words_of_code(rt.alloc(), &source, SMALL) == 200_000);
-    let source = long_source(rt.alloc(), 49_993, 1)?;
-    assert!(rt; refusal(rt.alloc(), &source, SMALL) == (2, 0, 200_001));
-    Ok(())
+fn built(rt: HostRuntime) {
+    let alloc = rt.alloc();
+    let right = are_pairs(alloc, PAIRS)
+        && all_have_lines(alloc, LINES)
+        && a_large_frame_is_refused(alloc);
+    assert!(rt; right);
+}
+
+#[test]
+fn code_has_its_limit(rt: HostRuntime) {
+    assert!(rt; most_words_are_built(rt.alloc()) && a_word_more_is_refused(rt.alloc()));
 }

@@ -2,7 +2,6 @@
 use certificate_text::{CertError, read_cert, write_cert};
 use stack_certificate::{FunctionFact, LinkKind, SiteFact};
 use std::alloc::{AllocError, Global};
-use std::test::Fail;
 
 // A pair of functions, the second of which calls the first at a linked site, with one more site of each other kind.
 const EXAMPLE: &[u8] = b"capriccio certificate 1
@@ -91,7 +90,7 @@ fn refused_line(alloc: Global, text: &[u8]) -> u32 {
 }
 
 // Texts whose first line that isn't as said has that number. The longer ones are spoiled certificates of whole programs.
-const REFUSED: [(&[u8], u32); 20] = [
+const REFUSED: &[(&[u8], u32)] = &[
     (b"", 1),
     (b"capriccio certificate 1", 1),
     (
@@ -159,34 +158,59 @@ const REFUSED: [(&[u8], u32); 20] = [
     ),
 ];
 
-#[test]
-fn the_first_other_line_is_named(rt: HostRuntime) {
-    for (text, number) in REFUSED {
-        assert!(rt; refused_line(rt.alloc(), text) == number, "of {text:?}");
-    }
-}
-
-// A text of eight megabytes.
-fn large_text(alloc: Global) -> Result<Vec<u8>, AllocError> {
-    let mut text = Vec::from_slice(
-        alloc,
-        b"capriccio certificate 1\nchunk 64\nmax-path 32\nfunctions 4096\n",
-    )?;
-    for _ in 0..4_096 {
-        text.extend_from_slice(b"function 4104 16 16 12 16")?;
-        for _ in 0..1_010 {
-            text.extend_from_slice(b" 0")?;
+// Whether the first other line of each text is named.
+fn all_are_refused(alloc: Global, rows: &[(&[u8], u32)]) -> bool {
+    for (text, number) in rows {
+        if refused_line(alloc, text) != *number {
+            return false;
         }
-        text.push(b'\n')?;
     }
-    text.extend_from_slice(b"sites 0\n")?;
-    Ok(text)
+    true
+}
+
+// Puts a part behind a text so many times, and tells whether there was memory.
+fn put(text: &mut Vec<u8>, part: &[u8], times: u32) -> bool {
+    for _ in 0..times {
+        if matches!(text.extend_from_slice(part), Err(_)) {
+            return false;
+        }
+    }
+    true
+}
+
+// Puts a function with a thousand places.
+fn put_function(text: &mut Vec<u8>) -> bool {
+    put(text, b"function 4104 16 16 12 16", 1) && put(text, b" 0", 1_010) && put(text, b"\n", 1)
+}
+
+fn put_functions(text: &mut Vec<u8>) -> bool {
+    for _ in 0..4_096 {
+        if !put_function(text) {
+            return false;
+        }
+    }
+    true
+}
+
+// Whether a text of eight megabytes comes back.
+fn a_large_text_comes_back(alloc: Global) -> bool {
+    let head = b"capriccio certificate 1\nchunk 64\nmax-path 32\nfunctions 4096\n";
+    let mut text = Vec::new(alloc);
+    let is_whole = put(&mut text, head, 1)
+        && put_functions(&mut text)
+        && put(&mut text, b"sites 0\n", 1);
+    let back = comes_back(alloc, &text);
+    drop(text);
+    is_whole && back
 }
 
 #[test]
-fn certificates_are_read_and_written(rt: HostRuntime) -> Result<(), Fail> {
-    assert!(rt; is_read(rt.alloc()) && comes_back(rt.alloc(), EXAMPLE));
-    let text = large_text(rt.alloc())?;
-    assert!(rt; comes_back(rt.alloc(), &text));
-    Ok(())
+fn certificates(rt: HostRuntime) {
+    let alloc = rt.alloc();
+    assert!(rt; all_are_refused(alloc, REFUSED) && is_read(alloc) && comes_back(alloc, EXAMPLE));
+}
+
+#[test]
+fn a_large_certificate(rt: HostRuntime) {
+    assert!(rt; a_large_text_comes_back(rt.alloc()));
 }

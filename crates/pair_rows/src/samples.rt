@@ -216,16 +216,43 @@ fn main_of_rows(alloc: Global) -> Result<FlatFunction, AllocError>
 pub fn program(alloc: Global) -> Result<FlatProgram, AllocError>
     ensures { IfOk result (λ flat. program_code flat ≡ sample_code) }
 {
-    let functions = Vec::from_array(alloc, [callee(alloc)?, main_of_rows(alloc)?])?;
-    let globals = Vec::from_array(
+    let globals = globals_of_rows(alloc)?;
+    let tables = tables_of_rows(alloc)?;
+    let functions = functions_of_rows(alloc)?;
+    Ok(FlatProgram::new(functions, globals, tables, 1))
+}
+
+fn functions_of_rows(alloc: Global) -> Result<Vec<FlatFunction>, AllocError>
+    ensures { IfOk result (λ functions. functions.items ≡ callee_function ∷ main_function ∷ []) }
+{
+    let called = callee(alloc)?;
+    match main_of_rows(alloc) {
+        Ok(main) => Ok(Vec::from_array(alloc, [called, main])?),
+        Err(error) => {
+            drop(called);
+            Err(error)
+        }
+    }
+}
+
+fn globals_of_rows(alloc: Global) -> Result<Vec<FlatGlobal>, AllocError>
+    ensures { IfOk result (λ globals. globals.items ≡ sample_code.globals) }
+{
+    Ok(Vec::from_array(
         alloc,
         [
             FlatGlobal { words: 4, start: 0 },
             FlatGlobal { words: 1, start: 9 },
         ],
-    )?;
-    let tables = Vec::from_array(alloc, [words(alloc, &[0])?, words(alloc, &[0, 0])?])?;
-    Ok(FlatProgram::new(functions, globals, tables, 1))
+    )?)
+}
+
+fn tables_of_rows(alloc: Global) -> Result<Vec<Words>, AllocError>
+    ensures { IfOk result (λ tables. tables.items ≡ sample_code.tables) }
+{
+    let one = words(alloc, &[0])?;
+    let two = words(alloc, &[0, 0])?;
+    Ok(Vec::from_array(alloc, [one, two])?)
 }
 
 /// Its certificate.

@@ -10,8 +10,7 @@ ghost use Rattle.pair_rows.specs.Sample.{sample_code, sample_certificate, puttin
 use crate::samples::{certificate, certificate_of_putting, of_words, program, putting};
 use flat_code::{FlatProgram, weight};
 use stack_certificate::{Certificate, prologue_word, stub_word, template_word};
-use std::alloc::{AllocError, Global};
-use std::test::Fail;
+use std::alloc::Global;
 
 // Whether the operation's template has these words and no more.
 fn has_words(
@@ -35,7 +34,7 @@ fn has_words(
 }
 
 // An operation of the program's second function, and its words.
-const OPERATIONS: [(u32, &[u32]); 37] = [
+const OPERATIONS: &[(u32, &[u32])] = &[
     (0, &[0x1234_62b7, 0xfff2_8293, 0x0051_2423]),
     (1, &[0x0081_2283, 0x0051_2c23]),
     (2, &[0x0081_2283, 0x4050_02b3, 0x0051_2c23]),
@@ -233,108 +232,146 @@ const OPERATIONS: [(u32, &[u32]); 37] = [
 ];
 
 // Whether each operation of the program has its words.
-fn program_has_words(flat: &FlatProgram, certificate: &Certificate) -> bool
+fn program_has_words(flat: &FlatProgram, certificate: &Certificate, rows: &[(u32, &[u32])]) -> bool
     requires flat { program_code flat.now ≡ sample_code }
     requires certificate { certificate.now ≡ sample_certificate }
 {
-    for (op, words) in OPERATIONS {
-        if op >= 37 || words.len() >= 100 || !has_words(flat, certificate, 1, op, words) {
+    for (op, words) in rows {
+        if *op >= 37 || words.len() >= 100 || !has_words(flat, certificate, 1, *op, words) {
             return false;
         }
     }
     true
 }
 
-fn program_is_right(alloc: Global) -> Result<bool, AllocError> {
-    let flat = program(alloc)?;
-    let certificate = certificate(alloc)?;
-    let right = program_has_words(&flat, &certificate);
-    drop(flat);
-    drop(certificate);
-    Ok(right)
+fn program_is_right(alloc: Global) -> bool {
+    let Ok(flat) = program(alloc) else {
+        return false;
+    };
+    match certificate(alloc) {
+        Ok(certificate) => {
+            let right = program_has_words(&flat, &certificate, OPERATIONS);
+            drop(flat);
+            drop(certificate);
+            right
+        }
+        Err(_) => {
+            drop(flat);
+            false
+        }
+    }
 }
 
 // The code of `int main() { put(7); return 0; }`, as the format's worked example has it.
-const EXAMPLE: [&[u32]; 6] = [
-    &[0x0000_02b7, 0x0072_8293, 0x0051_2023],
-    &[0x0001_2503, 0x0030_0893, 0x0000_0073],
-    &[0x0000_02b7, 0x0002_8293, 0x0051_2023],
-    &[0x0001_2503, 0x00c1_2083, 0x0101_0113, 0x0000_8067],
-    &[0x0000_02b7, 0x0002_8293, 0x0051_2023],
-    &[0x0001_2503, 0x00c1_2083, 0x0101_0113, 0x0000_8067],
+const EXAMPLE: &[(u32, &[u32])] = &[
+    (0, &[0x0000_02b7, 0x0072_8293, 0x0051_2023]),
+    (1, &[0x0001_2503, 0x0030_0893, 0x0000_0073]),
+    (2, &[0x0000_02b7, 0x0002_8293, 0x0051_2023]),
+    (3, &[0x0001_2503, 0x00c1_2083, 0x0101_0113, 0x0000_8067]),
+    (4, &[0x0000_02b7, 0x0002_8293, 0x0051_2023]),
+    (5, &[0x0001_2503, 0x00c1_2083, 0x0101_0113, 0x0000_8067]),
 ];
 
 // Whether each operation of the example has its words.
-fn example_has_words(flat: &FlatProgram, certificate: &Certificate) -> bool
+fn example_has_words(flat: &FlatProgram, certificate: &Certificate, rows: &[(u32, &[u32])]) -> bool
     requires flat { program_code flat.now ≡ putting_code }
     requires certificate { certificate.now ≡ putting_certificate }
 {
-    for (op, words) in EXAMPLE.iter().enumerate() {
-        if words.len() >= 100 || !has_words(flat, certificate, 0, op as u32, words) {
+    for (op, words) in rows {
+        if *op >= 6 || words.len() >= 100 || !has_words(flat, certificate, 0, *op, words) {
             return false;
         }
     }
     true
 }
 
-fn example_is_right(alloc: Global) -> Result<bool, AllocError> {
-    let flat = putting(alloc)?;
-    let certificate = certificate_of_putting(alloc)?;
-    let right = example_has_words(&flat, &certificate);
-    drop(flat);
-    drop(certificate);
-    Ok(right)
+fn example_is_right(alloc: Global) -> bool {
+    let Ok(flat) = putting(alloc) else {
+        return false;
+    };
+    match certificate_of_putting(alloc) {
+        Ok(certificate) => {
+            let right = example_has_words(&flat, &certificate, EXAMPLE);
+            drop(flat);
+            drop(certificate);
+            right
+        }
+        Err(_) => {
+            drop(flat);
+            false
+        }
+    }
 }
 
-#[test]
-fn operations_have_their_words(rt: HostRuntime) -> Result<(), Fail> {
-    assert!(rt; program_is_right(rt.alloc())? && example_is_right(rt.alloc())?);
-    Ok(())
+// Whether a template's word is this one.
+fn is_word(found: Option<u32>, word: u32) -> bool {
+    match found {
+        Some(found) => found == word,
+        None => false,
+    }
 }
 
-// Whether the example's code begins with these words, and its function with those.
-fn begins_with(certificate: &Certificate, stub: &[Option<u32>], prologue: &[Option<u32>]) -> bool {
+// Whether the code of any program begins with these two words.
+fn code_begins() -> bool {
+    is_word(stub_word(0), 0x01e0_0893)
+        && is_word(stub_word(1), 0x0000_0073)
+        && matches!(stub_word(2), None)
+}
+
+// Whether the example's function begins with these two words.
+fn function_begins(certificate: &Certificate) -> bool {
     let [fact] = certificate.functions.as_slice() else {
         return false;
     };
-    [stub_word(0), stub_word(1), stub_word(2)].as_slice() == stub
-        && [
-            prologue_word(fact, 0, 0),
-            prologue_word(fact, 0, 1),
-            prologue_word(fact, 0, 2),
-        ]
-        .as_slice()
-            == prologue
+    is_word(prologue_word(fact, 0, 0), 0xff01_0113)
+        && is_word(prologue_word(fact, 0, 1), 0x0011_2623)
+        && matches!(prologue_word(fact, 0, 2), None)
 }
 
-#[test]
-fn code_begins_and_functions_begin(rt: HostRuntime) -> Result<(), Fail> {
-    let certificate = certificate_of_putting(rt.alloc())?;
-    assert!(rt;
-        begins_with(
-            &certificate,
-            &[Some(0x01e0_0893), Some(0x0000_0073), None],
-            &[Some(0xff01_0113), Some(0x0011_2623), None],
-        )
-    );
-    Ok(())
+fn example_begins(alloc: Global) -> bool {
+    match certificate_of_putting(alloc) {
+        Ok(certificate) => {
+            let right = function_begins(&certificate);
+            drop(certificate);
+            right
+        }
+        Err(_) => false,
+    }
 }
 
-// The bytes of the frame of a function whose variable has so many words.
-fn weight_of(alloc: Global, size: u32) -> Result<u32, AllocError>
+// Whether the frame of a function whose variable has so many words has so many bytes.
+fn has_weight(alloc: Global, size: u32, bytes: u32) -> bool
     requires { size ≤ 1048576 }
 {
-    let function = of_words(alloc, size)?;
-    Ok(weight(&function))
+    match of_words(alloc, size) {
+        Ok(function) => {
+            let right = weight(&function) == bytes;
+            drop(function);
+            right
+        }
+        Err(_) => false,
+    }
 }
 
 // The variables' words and the return address, rounded up to 16 bytes: worked out by hand.
-const WEIGHTS: [(u32, u32); 5] = [(0, 16), (3, 16), (4, 32), (10, 48), (1048576, 4194320)];
+const WEIGHTS: &[(u32, u32)] = &[(0, 16), (3, 16), (4, 32), (10, 48), (1048576, 4194320)];
+
+fn all_have_weights(alloc: Global, rows: &[(u32, u32)]) -> bool {
+    for (size, bytes) in rows {
+        if *size > 1048576 || !has_weight(alloc, *size, *bytes) {
+            return false;
+        }
+    }
+    true
+}
 
 #[test]
-fn frames_have_their_weights(rt: HostRuntime) -> Result<(), Fail> {
-    for (size, bytes) in WEIGHTS {
-        assert!(rt; size <= 1048576 && weight_of(rt.alloc(), size)? == bytes);
-    }
-    Ok(())
+fn templates(rt: HostRuntime) {
+    let alloc = rt.alloc();
+    let right = program_is_right(alloc)
+        && example_is_right(alloc)
+        && code_begins()
+        && example_begins(alloc)
+        && all_have_weights(alloc, WEIGHTS);
+    assert!(rt; right);
 }

@@ -9,7 +9,6 @@ use crate::sources::CROWD;
 use crate::turns::{again, begin_main, go_on};
 use cap_word::Stop;
 use std::alloc::Global;
-use std::test::Fail;
 use thread_core::{Turn, World};
 
 // It goes on where it has started the thread of that number.
@@ -81,10 +80,16 @@ const ROWS: [(u32, u32, Stop, u64, u32); 3] = [
     (3, 3, Stop::NoChunk, 48, 0),
 ];
 
-#[test]
-fn crowds(rt: HostRuntime) -> Result<(), Fail> {
-    for (chunks, live, stop, cost, free) in ROWS {
-        assert!(rt; is_row(rt.alloc(), chunks, live, stop, cost, free));
+fn all_hold(alloc: Global, rows: &[(u32, u32, Stop, u64, u32)]) -> bool {
+    for (chunks, live, stop, cost, free) in rows {
+        if !is_row(alloc, *chunks, *live, *stop, *cost, *free) {
+            return false;
+        }
     }
-    Ok(())
+    true
+}
+
+#[test]
+fn crowds(rt: HostRuntime) {
+    assert!(rt; all_hold(rt.alloc(), &ROWS));
 }

@@ -4,7 +4,6 @@ use crate::run_rows::ONE_UNIT;
 use crate::runs::{Given, Share, ends};
 use cap_word::{ThreadId, TrapKind};
 use runner::RunEnd;
-use std::test::Fail;
 
 /// The first worker has ended when the second starts, which names a resource that isn't there.
 const WORKERS: &[u8] =
@@ -27,7 +26,7 @@ stop trap 2 resource 11 1022
 const SECOND: ThreadId = ThreadId { slot: 1, number: 2 };
 
 #[test]
-fn a_place_is_used_again(rt: HostRuntime) -> Result<(), Fail> {
+fn a_place_is_used_again(rt: HostRuntime) {
     let given = Given {
         source: WORKERS,
         setup: ONE_UNIT,
@@ -40,6 +39,5 @@ fn a_place_is_used_again(rt: HostRuntime) -> Result<(), Fail> {
         thread: SECOND,
         kind: TrapKind::Resource,
     };
-    assert!(rt; ends(rt.alloc(), &given, end, Share::Whole, WORKERS_LOG)?);
-    Ok(())
+    assert!(rt; ends(rt.alloc(), &given, end, Share::Whole, WORKERS_LOG));
 }

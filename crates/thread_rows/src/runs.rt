@@ -75,17 +75,15 @@ fn log_of(alloc: Global, given: &Given) -> Result<MemSink, AllocError> {
 }
 
 /// Whether a run ends so, and writes so much of this log.
-pub(crate) fn ends(
-    alloc: Global,
-    given: &Given,
-    end: RunEnd,
-    share: Share,
-    log: &[u8],
-) -> Result<bool, AllocError> {
-    let mut trace = trace_of(alloc, given)?;
-    let is_so = writes(alloc, given, end, share, log, &mut trace);
-    drop(trace);
-    is_so
+pub(crate) fn ends(alloc: Global, given: &Given, end: RunEnd, share: Share, log: &[u8]) -> bool {
+    match trace_of(alloc, given) {
+        Ok(mut trace) => {
+            let is_so = writes(alloc, given, end, share, log, &mut trace);
+            drop(trace);
+            is_so
+        }
+        Err(_) => false,
+    }
 }
 
 // The same on a trace.
@@ -96,12 +94,23 @@ fn writes(
     share: Share,
     log: &[u8],
     trace: &mut MemSource,
-) -> Result<bool, AllocError> {
-    let mut out = log_of(alloc, given)?;
-    let came = run_source(alloc, given.source, given.setup, trace, &mut out);
-    let is_so = came == Some(end) && share_of(out.bytes(), log) == share;
-    drop(out);
-    Ok(is_so)
+) -> bool {
+    match log_of(alloc, given) {
+        Ok(mut out) => {
+            let came = run_source(alloc, given.source, given.setup, trace, &mut out);
+            let is_so = is_end(came, end) && share_of(out.bytes(), log) == share;
+            drop(out);
+            is_so
+        }
+        Err(_) => false,
+    }
+}
+
+fn is_end(came: Option<RunEnd>, end: RunEnd) -> bool {
+    match came {
+        Some(came) => came == end,
+        None => false,
+    }
 }
 
 // Runs what is built of a source on a trace, and tells how the run ended; None where it isn't built.

@@ -9,7 +9,6 @@ use crate::playing::Told::{Cut, Ends, Stops, Waits};
 use crate::playing::{Told, plays};
 use cap_word::{Stop, TrapKind};
 use std::alloc::Global;
-use std::test::Fail;
 use thread_core::World;
 
 const RESOURCE: Told = Stops(Stop::Trap(TrapKind::Resource));
@@ -111,10 +110,16 @@ fn is_row(alloc: Global, source: &[u8], cap: u32, told: Told, free: u32) -> bool
     }
 }
 
-#[test]
-fn traps(rt: HostRuntime) -> Result<(), Fail> {
-    for (source, cap, told, free) in ROWS {
-        assert!(rt; is_row(rt.alloc(), source, cap, told, free));
+fn all_hold(alloc: Global, rows: &[(&[u8], u32, Told, u32)]) -> bool {
+    for (source, cap, told, free) in rows {
+        if !is_row(alloc, source, *cap, *told, *free) {
+            return false;
+        }
     }
-    Ok(())
+    true
+}
+
+#[test]
+fn traps(rt: HostRuntime) {
+    assert!(rt; all_hold(rt.alloc(), &ROWS));
 }
