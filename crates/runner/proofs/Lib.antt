@@ -37,3 +37,4 @@ pub mod FitTexts
 pub mod Joined
 pub mod Soundness
 pub mod Spelled
+pub mod PartSteps

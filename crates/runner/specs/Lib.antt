@@ -15,3 +15,4 @@ pub mod Waits
 pub mod Sound
 pub mod Ways
 pub mod Rest
+pub mod GoingOn

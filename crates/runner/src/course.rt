@@ -5,7 +5,7 @@ ghost use Rattle.lawful_log.specs.State.{State, start_of};
 
 use crate::counted::CountedReader;
 use crate::deliveries::coming_entry;
-use crate::ends::{Failure, Halt};
+use crate::ends::{Failure, Halt, goes_on};
 use crate::lines::write_line;
 use crate::looking::{Looked, Next};
 use crate::uses::uses_of;
@@ -73,13 +73,20 @@ impl<C: Measure + Drop> Course<C> {
             × StandsBetween g (start_of g (bytes_of left) world.now.machine) course world.now
             left) }
     {
-        let reader = CountedReader::new(alloc)?;
-        let graph = Graph::new(alloc);
         let mut rule = rule;
-        rule.start(world.main_thread())?;
+        let Ok(()) = rule.start(world.main_thread()) else {
+            drop(rule);
+            drop(monitor);
+            return Err(AllocError);
+        };
+        let Ok(reader) = CountedReader::new(alloc) else {
+            drop(rule);
+            drop(monitor);
+            return Err(AllocError);
+        };
         Ok(Course {
             rule,
-            graph,
+            graph: Graph::new(alloc),
             monitor,
             reader,
             next: Next::Unread,
@@ -164,13 +171,11 @@ impl<C: Measure + Drop> Course<C> {
     {
         if let Some(event) = next {
             if event.time <= world.clock() {
-                self.deliver(world, event, writer, out)?;
-                return Ok(None);
+                return goes_on(self.deliver(world, event, writer, out));
             }
         }
         if world.any_ready() {
-            self.choose(world, writer, out)?;
-            return Ok(None);
+            return goes_on(self.choose(world, writer, out));
         }
         Ok(wait(world, next))
     }

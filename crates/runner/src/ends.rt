@@ -1,4 +1,5 @@
 ghost use Rattle.std.specs.Prelude.{◌≡◌};
+ghost use Rattle.runner.specs.GoingOn.{going_on};
 ghost use Rattle.runner.specs.Lines as lines;
 ghost use Rattle.runner.specs.Lines.{failure_end, halt_end};
 ghost use Rattle.runner.specs.Steps.{stop_line};
@@ -115,5 +116,15 @@ pub(crate) fn failed_end(failure: Failure) -> RunEnd
         Failure::Read => RunEnd::ReadFault,
         Failure::Write => RunEnd::WriteFault,
         Failure::Memory => RunEnd::Memory,
+    }
+}
+
+/// A step that ends with this part: it goes on where the part could.
+pub(crate) fn goes_on(part: Result<(), Failure>) -> Result<Option<Halt>, Failure>
+    ensures { result ≡ going_on part }
+{
+    match part {
+        Ok(()) => Ok(None),
+        Err(failure) => Err(failure),
     }
 }

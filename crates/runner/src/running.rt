@@ -117,10 +117,11 @@ fn go<S: Source, K: Sink, C: Measure + Drop>(
     let accepted = world.accepted();
     sizes_law(accepted);
     accepted.is_valid();
-    let Ok(mut writer) = LogWriter::new(alloc) else {
+    let Ok(mut course) = Course::new(alloc, world, rule, monitor) else {
         return Err(Failure::Memory);
     };
-    let Ok(mut course) = Course::new(alloc, world, rule, monitor) else {
+    let Ok(mut writer) = LogWriter::new(alloc) else {
+        drop(course);
         return Err(Failure::Memory);
     };
     loop {

@@ -15,7 +15,7 @@ ghost use Rattle.thread_core.specs.Turns.{MayProceed};
 
 use crate::course::{Course, Under};
 use crate::deliveries::signed_word;
-use crate::ends::{Failure, Halt};
+use crate::ends::{Failure, Halt, goes_on};
 use crate::lines::write_line;
 use crate::uses::{changes, uses_of};
 use blocking_graph::SegmentRecord;
@@ -51,22 +51,12 @@ impl<C: Measure + Drop> Course<C> {
     {
         let turn = under.turn;
         match turn {
-            Turn::Out { value } => {
-                self.put(world, under, value, writer, out)?;
-                Ok(None)
-            }
-            Turn::Spawned { thread } => {
-                self.spawn(world, under, thread)?;
-                Ok(None)
-            }
+            Turn::Out { value } => goes_on(self.put(world, under, value, writer, out)),
+            Turn::Spawned { thread } => goes_on(self.spawn(world, under, thread)),
             Turn::Blocked { key, cost } => {
-                self.block(world, under, &key, cost, writer, out)?;
-                Ok(None)
+                goes_on(self.block(world, under, &key, cost, writer, out))
             }
-            Turn::Ended { cost } => {
-                self.end(world, under, cost, writer, out)?;
-                Ok(None)
-            }
+            Turn::Ended { cost } => goes_on(self.end(world, under, cost, writer, out)),
             Turn::Cut { stop, cost } => Ok(Some(Halt::Cut {
                 thread: under.choice.thread,
                 stop,

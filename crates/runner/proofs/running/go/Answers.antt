@@ -31,10 +31,10 @@ returns-in_default-new-clause-answer g c = λ s at.
 pub loop-halt-init : goal.loop-halt-init
 loop-halt-init g c =
     let sound = subst IsSound c.accepted-accepted.ensures (record { valid = c.is_valid.ensures; aligned = c.sizes_law.ensures.aligned; least = c.sizes_law.ensures.least; most = c.sizes_law.ensures.most }) in
-    let runs = runs_first c.args.world.now (rule_of c.args.rule) c.args.monitor (g.S.Source.left c.args.trace.now) (g.K.Sink.taken c.args.out.now) (g.S.Source.faults c.args.trace.now) (g.K.Sink.faults c.args.out.now) c.in-Ok-new.course c.requires.start sound c.in-Ok-new.ensures in (
-      subst (λ (w : WriterState). RunsOn c.args.world.now (rule_of c.args.rule) c.args.monitor (g.S.Source.left c.args.trace.now) (g.K.Sink.taken c.args.out.now) (g.S.Source.faults c.args.trace.now) (g.K.Sink.faults c.args.out.now) c.in-Ok-new.course c.args.world.now (g.S.Source.left c.args.trace.now)
-          (output_of w (g.K.Sink.taken c.args.out.now)) (g.S.Source.faults c.args.trace.now) (g.K.Sink.faults c.args.out.now)) (sym c.in-Ok.ensures) runs,
-      ap (λ (w : WriterState). w.refused) c.in-Ok.ensures,
+    let runs = runs_first c.args.world.now (rule_of c.args.rule) c.args.monitor (g.S.Source.left c.args.trace.now) (g.K.Sink.taken c.args.out.now) (g.S.Source.faults c.args.trace.now) (g.K.Sink.faults c.args.out.now) c.in-Ok.course c.requires.start sound c.in-Ok.ensures in (
+      subst (λ (w : WriterState). RunsOn c.args.world.now (rule_of c.args.rule) c.args.monitor (g.S.Source.left c.args.trace.now) (g.K.Sink.taken c.args.out.now) (g.S.Source.faults c.args.trace.now) (g.K.Sink.faults c.args.out.now) c.in-Ok.course c.args.world.now (g.S.Source.left c.args.trace.now)
+          (output_of w (g.K.Sink.taken c.args.out.now)) (g.S.Source.faults c.args.trace.now) (g.K.Sink.faults c.args.out.now)) (sym c.in-Ok-new.ensures) runs,
+      ap (λ (w : WriterState). w.refused) c.in-Ok-new.ensures,
     )
 
 pub step-requires : goal.step-requires
