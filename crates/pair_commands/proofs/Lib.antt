@@ -1,0 +1,5 @@
+pub mod Leading
+pub mod Analyses
+pub mod Built
+pub mod OneBuild
+mod Budgeted
