@@ -3,3 +3,4 @@ pub mod Analyses
 pub mod Built
 pub mod OneBuild
 mod Budgeted
+mod Reading

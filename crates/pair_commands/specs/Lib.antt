@@ -1,3 +1,4 @@
+pub mod Pairs
 pub mod Graphs
 pub mod BuildsFiles
 pub mod Budgets

@@ -10,15 +10,13 @@ ghost use Rattle.command_outcomes.specs.Outcome.{printed};
 ghost use Rattle.command_outcomes.specs.Steps.{EndsAs, IsStop, IsShelfStop};
 ghost use Rattle.command_outcomes.specs.Done.{Outside};
 
+use crate::pairs::{ReadPair, read_pair};
 use crate::run_command::check_stop;
 use c_tree::Program;
 use cap_io::{Shelf, Sink};
 use certificate_check::{Accepted, check};
 use chunk_budget::{Budget, MakeBudgetError, make_budget};
-use command_outcomes::{
-    Cause, Ended, Fault, Stop, load_three, print, put_number, put_text, read_certificate_bytes,
-    read_image_bytes, read_source,
-};
+use command_outcomes::{Cause, Ended, Fault, Stop, load_three, print, put_number, put_text};
 use stack_certificate::Certificate;
 use stack_image::Image;
 use std::alloc::{AllocError, Global};
@@ -95,9 +93,11 @@ fn budget_bytes(
         (λ text. BudgetsBytes source.now image.now certificate.now (printed 0 text.items))
         (IsStop (BudgetsBytes source.now image.now certificate.now)) }
 {
-    let program = read_source(alloc, source)?;
-    let image = read_image_bytes(alloc, image)?;
-    let certificate = read_certificate_bytes(alloc, certificate)?;
+    let ReadPair {
+        program,
+        image,
+        certificate,
+    } = read_pair(alloc, source, image, certificate)?;
     budget_pair(alloc, program, image, certificate)
 }
 

@@ -109,7 +109,9 @@ fn build_bytes(alloc: Global, source: &[u8], options: Options) -> Result<Product
         (IsStop (AfterSource source.now (BuildsProgram options image certificate))) }
 {
     let program = read_source(alloc, source)?;
-    build_program(alloc, &program, options)
+    let products = build_program(alloc, &program, options);
+    drop(program);
+    products
 }
 
 /// Builds a program.
@@ -124,7 +126,9 @@ fn build_program(alloc: Global, program: &Program, options: Options) -> Result<P
         Ok(built) => built,
         Err(error) => return Err(layout_stop(alloc, program, options, error)),
     };
-    match products_of(alloc, &built) {
+    let products = products_of(alloc, &built);
+    drop(built);
+    match products {
         Ok(products) => Ok(products),
         Err(AllocError) => Err(Stop::Failed(Fault::Memory)),
     }

@@ -6,13 +6,11 @@ ghost use Rattle.pair_commands.specs.Checks.{Checks, ChecksBytes, ChecksPair, ve
 ghost use Rattle.command_outcomes.specs.Steps.{EndsAs, IsStop, IsShelfStop};
 ghost use Rattle.command_outcomes.specs.Done.{Outside};
 
+use crate::pairs::{ReadPair, read_pair};
 use c_tree::Program;
 use cap_io::{Shelf, Sink};
 use certificate_check::{CheckError, check};
-use command_outcomes::{
-    Ended, Fault, Stop, load_three, print, put_rejected, put_text, read_certificate_bytes,
-    read_image_bytes, read_source,
-};
+use command_outcomes::{Ended, Fault, Stop, load_three, print, put_rejected, put_text};
 use stack_certificate::Certificate;
 use stack_image::Image;
 use std::alloc::{AllocError, Global};
@@ -137,9 +135,11 @@ fn check_bytes(
         ChecksBytes source.now image.now certificate.now (verdict_outcome verdict))
         (IsStop (ChecksBytes source.now image.now certificate.now)) }
 {
-    let program = read_source(alloc, source)?;
-    let image = read_image_bytes(alloc, image)?;
-    let certificate = read_certificate_bytes(alloc, certificate)?;
+    let ReadPair {
+        program,
+        image,
+        certificate,
+    } = read_pair(alloc, source, image, certificate)?;
     check_pair(alloc, program, image, certificate)
 }
 

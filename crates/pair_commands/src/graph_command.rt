@@ -81,7 +81,9 @@ fn graph_bytes(alloc: Global, source: &[u8], options: Options) -> Result<Vec<u8>
         (IsStop (AfterSource source.now (GraphsProgram options.max_path))) }
 {
     let program = read_source(alloc, source)?;
-    graph_program(alloc, &program, options)
+    let text = graph_program(alloc, &program, options);
+    drop(program);
+    text
 }
 
 /// The text of the analysis of a program.

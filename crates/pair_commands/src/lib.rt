@@ -12,6 +12,7 @@ mod check_command;
 mod frames;
 mod graph_command;
 mod layouts;
+mod pairs;
 mod run_command;
 
 pub use budget_command::do_budget;

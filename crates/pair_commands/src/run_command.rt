@@ -12,14 +12,12 @@ ghost use Rattle.pair_commands.specs.RunSteps.{LeadsOn, IsUnaccepted};
 ghost use Rattle.command_outcomes.specs.Steps.{IsStop, IsShelfStop};
 
 use crate::layouts::layout_stop;
+use crate::pairs::{ReadPair, read_pair};
 use c_tree::Program;
 use cap_io::Shelf;
 use certificate_check::{Accepted, CheckError, check};
 use codegen_link::Options;
-use command_outcomes::{
-    Cause, Document, Fault, Stop, load, load_three, read_certificate_bytes, read_image_bytes,
-    read_source,
-};
+use command_outcomes::{Cause, Document, Fault, Stop, load, load_three, read_source};
 use command_words::Policy;
 use stack_build::lay_out;
 use stack_certificate::Certificate;
@@ -145,9 +143,11 @@ fn accept_bytes(
         × (pool_bytes policy accepted.certificate ≤ 67108864))
         (IsStop (RunsBytes trace policy source.now image.now certificate.now)) }
 {
-    let program = read_source(alloc, source)?;
-    let image = read_image_bytes(alloc, image)?;
-    let certificate = read_certificate_bytes(alloc, certificate)?;
+    let ReadPair {
+        program,
+        image,
+        certificate,
+    } = read_pair(alloc, source, image, certificate)?;
     accept_pair(alloc, program, image, certificate, policy)
 }
 
@@ -177,6 +177,15 @@ fn accept_pair(
 pub(crate) fn check_stop(error: CheckError) -> Stop
     ensures { IsUnaccepted error result }
 {
+    let stop = stop_of(&error);
+    drop(error);
+    stop
+}
+
+/// The stop by an error of the checker, which still holds what it was given.
+fn stop_of(error: &CheckError) -> Stop
+    ensures { IsUnaccepted error.now result }
+{
     match error {
         CheckError::Rejected {
             rule,
@@ -184,9 +193,9 @@ pub(crate) fn check_stop(error: CheckError) -> Stop
             index,
             ..
         } => Stop::Refused(Cause::Rejected {
-            rule,
-            function,
-            index,
+            rule: *rule,
+            function: *function,
+            index: *index,
         }),
         CheckError::Memory { .. } => Stop::Failed(Fault::Memory),
     }

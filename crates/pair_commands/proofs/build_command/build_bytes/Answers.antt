@@ -18,6 +18,6 @@ pub returns : goal.returns
 returns c = λ image certificate.
     let tree = program_tree c.in_ok-program.program in
     let next = BuildsProgram c.args.options image certificate in
-    MatchResult-weaker c.build_program.result (c.build_program.ensures image certificate)
+    MatchResult-weaker c.build_program-products.result (c.build_program-products.ensures image certificate)
     (λ products is. inl (tree, c.in_ok-program.ensures, is))
     (λ stop h. stop-follows (next tree) (AfterSource c.args.source.now next) stop (λ o y. inl (tree, c.in_ok-program.ensures, y)) h)

@@ -3,7 +3,7 @@ use Rattle.certificate_check.specs.declared.checking.CheckError.{CheckError}
 use Rattle.command_outcomes.specs.declared.stops.Cause.TheVariants as cause
 use Rattle.command_outcomes.specs.declared.stops.Stop.TheVariants.{Refused}
 use Rattle.pair_commands.specs.RunSteps.{IsUnaccepted}
-use Rattle.pair_commands.proofs.run_command.check_stop.Goals as goal
+use Rattle.pair_commands.proofs.run_command.stop_of.Goals as goal
 
 pub returns-in-Rejected : goal.returns-in-Rejected
 returns-in-Rejected c =
