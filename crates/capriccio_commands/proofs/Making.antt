@@ -1,5 +1,5 @@
 -- What is known of a world that was just made, and of the world of a run at its end.
-use Rattle.std.proofs.Common.{◌≡◌, ℕ, zero, suc, ◌+◌, ◌*◌, ◌≤◌, ◌∷◌, ◌++◌, List, [], Option, Some, None, refl, sym, ap, subst, ◌∙◌, add-one}
+use Rattle.std.proofs.Common.{◌≡◌, ℕ, zero, suc, ◌+◌, ◌≤◌, ◌∷◌, ◌++◌, List, [], Option, Some, None, refl, sym, ap, subst, ◌∙◌, add-one}
 use Rattle.std.specs.Prelude.{replicate}
 use Rattle.c_lower.specs.ProgramCode.{lowered}
 use Rattle.certificate_check.specs.Accepting.{accepted_tree}
