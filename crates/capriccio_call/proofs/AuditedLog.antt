@@ -22,11 +22,12 @@ use Rattle.command_outcomes.specs.declared.faults.Fault.TheVariants.{Read, Write
 use Rattle.command_outcomes.specs.Done.{Outside, IsDone, IsThisCase, IsTold, NoFault, line_of, status_of}
 use Rattle.command_outcomes.specs.FaultLines.{fault_status}
 use Rattle.command_outcomes.specs.Outcome.{Outcome}
-use Rattle.capriccio_commands.specs.Audits.{AreAuditOptions, Audits, IsJudgement, judged_outcome, reading_of}
+use Rattle.command_options.specs.Options.{AreAuditOptions}
+use Rattle.command_audit.specs.Audits.{Audits, IsJudgement, judged_outcome, reading_of}
 use Rattle.capriccio_commands.specs.Due.{IsDue}
-use Rattle.capriccio_commands.specs.declared.audit_command.Judgement.{Judgement}
-use Rattle.capriccio_commands.specs.declared.audit_command.Judgement.TheVariants.{Lawful, Steps}
-use Rattle.capriccio_commands.proofs.Options.{audit-options}
+use Rattle.command_audit.specs.declared.judgements.Judgement.{Judgement}
+use Rattle.command_audit.specs.declared.judgements.Judgement.TheVariants.{Lawful, Steps}
+use Rattle.command_options.proofs.Options.{audit-options}
 use Rattle.capriccio_call.specs.Audited.{AsksForAudit, IsAudited, IsRunUnder, SaysOf}
 use Rattle.capriccio_call.specs.Headline.{IsAnswer}
 use Rattle.capriccio_call.proofs.GoodRun.{status-told}

@@ -6,7 +6,7 @@ use Rattle.lawful_log.specs.Setup.{Setup}
 use Rattle.thread_core.specs.Worlds.{Held}
 use Rattle.command_outcomes.specs.Outcome.{Outcome, Ran}
 use Rattle.command_outcomes.specs.Loads.{IsSourceText}
-use Rattle.capriccio_commands.specs.Runs.{IsRun, IsRunOfSome, RunsOn, run_outcome}
+use Rattle.pair_commands.specs.Runs.{IsRun, IsRunOfSome, RunsOn, run_outcome}
 use Rattle.capriccio_commands.specs.Demos.{ShowsRun, shown_outcome}
 use Rattle.capriccio_commands.specs.Due.{IsDue}
 use Rattle.workload.specs.Traces.{trace_text}

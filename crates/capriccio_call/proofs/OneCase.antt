@@ -27,35 +27,35 @@ use Rattle.command_outcomes.specs.declared.documents.Document.TheVariants as doc
 use Rattle.command_outcomes.specs.declared.stops.Cause.TheVariants as cause
 use Rattle.command_outcomes.specs.declared.faults.Fault.{Fault}
 use Rattle.command_outcomes.specs.declared.faults.Fault.TheVariants.{Read, Write, Memory}
-use Rattle.capriccio_commands.specs.declared.check_command.Verdict.{Verdict}
-use Rattle.capriccio_commands.specs.declared.check_command.Verdict.TheVariants.{Accepted, Rejected}
+use Rattle.pair_commands.specs.declared.check_command.Verdict.{Verdict}
+use Rattle.pair_commands.specs.declared.check_command.Verdict.TheVariants.{Accepted, Rejected}
 use Rattle.command_outcomes.specs.Outcome.{Outcome, refused, printed}
 use Rattle.command_outcomes.specs.CauseLines.{refusal, frame_words, cycle_words}
 use Rattle.command_outcomes.specs.Loads.{OfFile, AfterLoad, AfterThree, AfterSource, AfterImage, AfterCertificate, IsImageText, IsCertificateText}
-use Rattle.capriccio_commands.specs.Graphs.{Graphs, GraphsProgram, HasFittingFrames, IsFrameRefused, names_of}
-use Rattle.capriccio_commands.specs.Checks.{Checks, ChecksBytes, ChecksPair, IsVerdict, verdict_outcome}
+use Rattle.pair_commands.specs.Graphs.{Graphs, GraphsProgram, HasFittingFrames, IsFrameRefused, names_of}
+use Rattle.pair_commands.specs.Checks.{Checks, ChecksBytes, ChecksPair, IsVerdict, verdict_outcome}
 use Rattle.call_cycles.specs.Cycles.{IsOnCycle}
 use Rattle.chunk_budget.specs.declared.budgets.Budget as budgets
-use Rattle.capriccio_commands.specs.Budgets.{Budgets, BudgetsBytes, BudgetsPair, IsCycleRefused, IsBudgetPrinted, budget_text}
+use Rattle.pair_commands.specs.Budgets.{Budgets, BudgetsBytes, BudgetsPair, IsCycleRefused, IsBudgetPrinted, budget_text}
 use Rattle.codegen_link.specs.declared.options.Options.{Options}
 use Rattle.command_words.specs.declared.options.Audit.{Audit as AuditOptions}
 use Rattle.command_words.specs.declared.options.Policy.{Policy as RunOptions}
-use Rattle.capriccio_commands.specs.BuildsFiles.{Builds, BuildsProgram, HasFittingCode, IsUnbuilt, built}
-use Rattle.capriccio_commands.specs.Runs.{RunsOn, Serves, ServesProgram, Runs, RunsBytes, RunsPair, pool_bytes, setup_of}
-use Rattle.capriccio_commands.specs.RunSteps.{IsRunPolicy}
+use Rattle.pair_commands.specs.BuildsFiles.{Builds, BuildsProgram, HasFittingCode, IsUnbuilt, built}
+use Rattle.pair_commands.specs.Runs.{RunsOn, Serves, ServesProgram, Runs, RunsBytes, RunsPair, pool_bytes, setup_of}
+use Rattle.command_options.specs.Options.{IsRunPolicy, sizes_of}
 use Rattle.capriccio_commands.specs.Demos.{Demos, ShowsProgram, ShowsRun, demo_sizes, demo_policy}
-use Rattle.capriccio_commands.specs.Audits.{Audits, AuditsBytes, AuditsProgram, IsJudgement, judged_outcome, reading_of}
-use Rattle.capriccio_commands.specs.Due.{Does, IsDue, sizes_of}
+use Rattle.command_audit.specs.Audits.{Audits, AuditsBytes, AuditsProgram, IsJudgement, judged_outcome, reading_of}
+use Rattle.capriccio_commands.specs.Due.{Does, IsDue}
 use Rattle.workload_source.specs.Programs.{program_text}
 use Rattle.workload.specs.Traces.{trace_text}
 use Rattle.command_outcomes.specs.Done.{Outside, IsRisen, IsDone, IsTraceTold, IsExact}
 use Rattle.c_hoist.proofs.EveryNested.{one_program, one_source_error, never}
-use Rattle.capriccio_commands.proofs.OneBuild.{plans-are-one, words-are-one, texts-are-one}
+use Rattle.pair_commands.proofs.OneBuild.{plans-are-one, words-are-one, texts-are-one}
 use Rattle.capriccio_call.proofs.OneBudget.{one-budget, one-least}
 use Rattle.capriccio_call.proofs.OneJudgement.{one-judgement}
 use Rattle.capriccio_call.proofs.OnePair.{pairs-are-one}
 use Rattle.capriccio_call.proofs.OneRun.{IsInRange, one-outcome, one-shown}
-use Rattle.capriccio_commands.proofs.Options.{serve-policy, serve-pool, run-policy}
+use Rattle.command_options.proofs.Options.{serve-policy, serve-pool, run-policy}
 use Rattle.capriccio_commands.proofs.Workloads.{demo-run-policy, demo-pool}
 
 alike : (a b o : Outcome) → a ≡ o → b ≡ o → a ≡ b

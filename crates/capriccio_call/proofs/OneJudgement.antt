@@ -2,9 +2,9 @@
 use Rattle.std.proofs.Common.{◌≡◌, ℕ, List, Some, refl, ap}
 use Rattle.lawful_reading.specs.Given.{Given}
 use Rattle.lawful_reading.proofs.Verdicts as law
-use Rattle.capriccio_commands.specs.Audits.{IsJudgement}
-use Rattle.capriccio_commands.specs.declared.audit_command.Judgement.{Judgement}
-use Rattle.capriccio_commands.specs.declared.audit_command.Judgement.TheVariants.{Lawful, Unlawful, Steps}
+use Rattle.command_audit.specs.Audits.{IsJudgement}
+use Rattle.command_audit.specs.declared.judgements.Judgement.{Judgement}
+use Rattle.command_audit.specs.declared.judgements.Judgement.TheVariants.{Lawful, Unlawful, Steps}
 
 pub one-judgement : (g : Given) (trace log : List ℕ) (a b : Judgement) → IsJudgement g (Some trace) log a → IsJudgement g (Some trace) log b → a ≡ b
 one-judgement g trace log Lawful Lawful h k = refl

@@ -13,7 +13,7 @@ use Rattle.stack_certificate.specs.declared.certificates.Certificate.{Certificat
 use Rattle.stack_certificate.specs.declared.sites.SiteFact.{SiteFact}
 use Rattle.stack_image.specs.declared.images.Image.{Image}
 use Rattle.stack_build.specs.Builds.{IsLaidOut}
-use Rattle.capriccio_commands.proofs.RisingLists.{Rises, orders-are-one}
+use Rattle.one_plan.proofs.RisingLists.{Rises, orders-are-one}
 
 later-all : (n : ℕ) (facts : List SiteFact) → ((k : ℕ) → k < length facts → n < get_or (map (λ (fact : SiteFact). fact.number) facts) k 0) → AllByRecursion (λ (fact : SiteFact). n < fact.number) facts
 later-all n [] above = tt

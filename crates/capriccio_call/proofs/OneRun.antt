@@ -11,7 +11,7 @@ use Rattle.one_log.proofs.Starting.{one_log}
 use Rattle.segment_run.proofs.Forming.{areas_formed}
 use Rattle.command_outcomes.specs.Outcome.{Outcome}
 use Rattle.capriccio_commands.specs.Demos.{ShowsRun, shown_outcome}
-use Rattle.capriccio_commands.specs.Runs.{IsAccepted, RunsOn, run_outcome}
+use Rattle.pair_commands.specs.Runs.{IsAccepted, RunsOn, run_outcome}
 use Rattle.chunk_pool.proofs.ShapeLaws.{first_bytes-start}
 
 fours : (bytes : ℕ) → bytes % 16 ≡ 0 → 4 * (bytes / 4) ≡ bytes

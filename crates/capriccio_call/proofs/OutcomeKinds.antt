@@ -26,18 +26,19 @@ use Rattle.command_outcomes.specs.FaultLines.{fault_status}
 use Rattle.command_outcomes.specs.Outcome.{Outcome}
 use Rattle.command_outcomes.specs.Loads.{IsSourceText, OfFile, AfterLoad, AfterThree, AfterSource, AfterImage, AfterCertificate}
 use Rattle.command_outcomes.specs.Done.{Outside}
-use Rattle.capriccio_commands.specs.declared.audit_command.Judgement.{Judgement}
-use Rattle.capriccio_commands.specs.declared.audit_command.Judgement.TheVariants as judgement
-use Rattle.capriccio_commands.specs.declared.check_command.Verdict.{Verdict}
-use Rattle.capriccio_commands.specs.declared.check_command.Verdict.TheVariants.{Accepted, Rejected}
-use Rattle.capriccio_commands.specs.Audits.{AuditsBytes, AuditsProgram, judged_outcome, judgement_status}
-use Rattle.capriccio_commands.specs.Graphs.{GraphsProgram}
-use Rattle.capriccio_commands.specs.Budgets.{BudgetsBytes, BudgetsPair}
-use Rattle.capriccio_commands.specs.Checks.{ChecksBytes, ChecksPair, verdict_status, verdict_outcome}
-use Rattle.capriccio_commands.specs.BuildsFiles.{BuildsProgram, IsUnbuilt}
-use Rattle.capriccio_commands.specs.Runs.{RunsOn, ServesProgram, RunsBytes, RunsPair, stop_status, setup_of, pool_bytes}
+use Rattle.command_audit.specs.declared.judgements.Judgement.{Judgement}
+use Rattle.command_audit.specs.declared.judgements.Judgement.TheVariants as judgement
+use Rattle.pair_commands.specs.declared.check_command.Verdict.{Verdict}
+use Rattle.pair_commands.specs.declared.check_command.Verdict.TheVariants.{Accepted, Rejected}
+use Rattle.command_audit.specs.Audits.{AuditsBytes, AuditsProgram, judged_outcome, judgement_status}
+use Rattle.pair_commands.specs.Graphs.{GraphsProgram}
+use Rattle.pair_commands.specs.Budgets.{BudgetsBytes, BudgetsPair}
+use Rattle.pair_commands.specs.Checks.{ChecksBytes, ChecksPair, verdict_status, verdict_outcome}
+use Rattle.pair_commands.specs.BuildsFiles.{BuildsProgram, IsUnbuilt}
+use Rattle.pair_commands.specs.Runs.{RunsOn, ServesProgram, RunsBytes, RunsPair, stop_status, setup_of, pool_bytes}
 use Rattle.capriccio_commands.specs.Demos.{ShowsRun, demo_policy}
-use Rattle.capriccio_commands.specs.Due.{Does, sizes_of}
+use Rattle.capriccio_commands.specs.Due.{Does}
+use Rattle.command_options.specs.Options.{sizes_of}
 use Rattle.workload.specs.Traces.{trace_text}
 use Rattle.workload_source.specs.Programs.{program_text}
 

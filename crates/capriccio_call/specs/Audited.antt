@@ -20,10 +20,10 @@ use Rattle.command_outcomes.specs.Done.{Outside, NoFault}
 use Rattle.command_outcomes.specs.FaultLines.{fault_status}
 use Rattle.command_outcomes.specs.Loads.{IsSourceText}
 use Rattle.command_outcomes.specs.Steps.{IsLoaded}
-use Rattle.capriccio_commands.specs.Audits.{judgement_line, judgement_status, reading_policy}
-use Rattle.capriccio_commands.specs.Runs.{IsAccepted}
-use Rattle.capriccio_commands.specs.declared.audit_command.Judgement.{Judgement}
-use Rattle.capriccio_commands.specs.declared.audit_command.Judgement.TheVariants.{Lawful, Steps}
+use Rattle.command_audit.specs.Audits.{judgement_line, judgement_status, reading_policy}
+use Rattle.pair_commands.specs.Runs.{IsAccepted}
+use Rattle.command_audit.specs.declared.judgements.Judgement.{Judgement}
+use Rattle.command_audit.specs.declared.judgements.Judgement.TheVariants.{Lawful, Steps}
 
 -- The words ask for the audit of this log of this program, on this trace: the shelf tells its files, and the trace its bytes; the file of the
 -- source is read as the program, and that of the log holds just these bytes, which are no more than a log may have (67,108,864).

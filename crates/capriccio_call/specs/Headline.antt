@@ -16,7 +16,7 @@ use Rattle.command_outcomes.specs.Loads.{IsSourceText}
 use Rattle.command_outcomes.specs.Outcome.{Outcome}
 use Rattle.command_outcomes.specs.Done.{Outside, IsDone, IsExact, IsTold, IsLast, IsWorldOf, status_of, line_of, last_of}
 use Rattle.capriccio_commands.specs.Due.{IsDue}
-use Rattle.capriccio_commands.specs.Runs.{IsAccepted, IsRun, IsRunOfSome, stop_status}
+use Rattle.pair_commands.specs.Runs.{IsAccepted, IsRun, IsRunOfSome, stop_status}
 use Rattle.capriccio_commands.specs.Summary.{summary_of}
 use Rattle.workload.specs.Traces.{trace_text}
 use Rattle.workload_source.specs.Programs.{program_text}

@@ -1,11 +1,10 @@
 -- Every line of a log whose entries fit their types is read back, and what is counted over it fits the types of a tally.
-use Rattle.std.proofs.Common.{◌≡◌, ℕ, suc, ◌+◌, ◌*◌, ◌^◌, ◌<◌, ◌≤◌, ℤ, ◌+ℤ◌, List, [], ◌∷◌, ◌++◌, length, map, Option, Some, Result, Ok, Err, FitsSigned, unsigned_abs, refl, ap, sym, ◌∙◌, subst, arith, length-append}
+use Rattle.std.proofs.Common.{◌≡◌, ℕ, suc, ◌+◌, ◌^◌, ◌<◌, ◌≤◌, ℤ, ◌+ℤ◌, List, [], ◌∷◌, ◌++◌, length, map, Option, Some, Result, Ok, Err, FitsSigned, unsigned_abs, ap, sym, ◌∙◌, subst, arith, length-append}
 use Rattle.std.specs.Prelude.{OnOk}
 use Rattle.std.specs.Int.{w32}
 use Rattle.std.specs.List.{AllByRecursion}
 use Rattle.std.proofs.lemmas.Int.{ints}
 use Rattle.cap_text.specs.TextLines.{lines_of}
-use Rattle.cap_word.specs.declared.stops.Stop.{Stop as Cause}
 use Rattle.lawful_log.specs.Setup.{Setup}
 use Rattle.schedule_log.specs.EntryRanges.{FitsEntry, IsLogLine}
 use Rattle.schedule_log.specs.EntryText.{entry_text, log_text}

@@ -1,5 +1,5 @@
 -- What is known of a world that was just made, and of the world of a run at its end.
-use Rattle.std.proofs.Common.{◌≡◌, ℕ, zero, suc, ◌+◌, ◌*◌, ◌≤◌, ◌∷◌, ◌++◌, List, [], Option, Some, None, refl, sym, ap, subst, ◌∙◌, add-one}
+use Rattle.std.proofs.Common.{◌≡◌, ℕ, zero, suc, ◌+◌, ◌≤◌, ◌∷◌, ◌++◌, List, [], Option, Some, None, refl, sym, ap, subst, ◌∙◌, add-one}
 use Rattle.std.specs.Prelude.{replicate}
 use Rattle.c_lower.specs.ProgramCode.{lowered}
 use Rattle.certificate_check.specs.Accepting.{accepted_tree}
@@ -21,8 +21,9 @@ use Rattle.stack_certificate.specs.Certificates.{fact_at}
 use Rattle.thread_core.specs.Making.{IsPolicy, IsStart, start_areas}
 use Rattle.thread_core.specs.Worlds.{Held}
 use Rattle.command_outcomes.specs.Done.{IsReachable, IsWorldOf}
-use Rattle.capriccio_commands.specs.Runs.{IsAccepted, pool_bytes, rule_of}
-use Rattle.capriccio_commands.specs.RunSteps.{IsMade, IsNewMonitor, IsRunPolicy, setup_in, world_policy_of}
+use Rattle.pair_commands.specs.Runs.{IsAccepted, pool_bytes, rule_of}
+use Rattle.capriccio_commands.specs.MadeWorlds.{IsMade, setup_in, world_policy_of}
+use Rattle.command_options.specs.Options.{IsNewMonitor, IsRunPolicy}
 use Rattle.chunk_pool.proofs.NeedLaws.{taken_for-count}
 
 started : (areas : Areas) (entry : ℕ) (found : Option Taken) (w : World) → ((taken : Taken) → found ≡ Some taken → taken.pool.count ≡ areas.pool.count) → started_on (empty_world areas) entry found ≡ Some w →

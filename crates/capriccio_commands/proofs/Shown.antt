@@ -28,7 +28,7 @@ use Rattle.command_outcomes.specs.Steps.{IsStop, IsPrinted, EndsAs, RunEnds}
 use Rattle.command_outcomes.proofs.Ending.{kept-are-stored, refused-at-once, memory-at-once}
 use Rattle.capriccio_commands.specs.declared.demo_command.Shown.{Shown}
 use Rattle.capriccio_commands.specs.declared.summaries.Census.{Census}
-use Rattle.capriccio_commands.specs.Runs.{RunsOn, ServesProgram, run_outcome, setup_of}
+use Rattle.pair_commands.specs.Runs.{RunsOn, ServesProgram, run_outcome, setup_of}
 use Rattle.capriccio_commands.specs.Summary.{census_of, tally_of, last_from, summary_text}
 use Rattle.capriccio_commands.specs.Demos.{Demos, ShowsRun, IsAcceptedWorkload, IsShown, ShowsDue, ShowsEnd, shown_outcome, demo_sizes, demo_policy}
 use Rattle.capriccio_commands.proofs.Counting.{last-is-stop}

@@ -20,7 +20,7 @@ use Rattle.command_outcomes.specs.declared.stops.Stop.TheVariants.{Failed}
 use Rattle.command_outcomes.specs.declared.ended.Ended.{Ended}
 use Rattle.command_outcomes.specs.Outcome.{Outcome}
 use Rattle.command_outcomes.specs.Done.{Outside, IsWhole, IsCutInOut, NoneCounted, TraceCounted, WriteCounted, IsReachable, IsWorldOf}
-use Rattle.capriccio_commands.specs.Runs.{IsAccepted, IsRun, IsRunOfSome, RunsOn, run_outcome, stop_status}
+use Rattle.pair_commands.specs.Runs.{IsAccepted, IsRun, IsRunOfSome, RunsOn, run_outcome, stop_status}
 use Rattle.command_outcomes.specs.Steps.{EndsAs}
 use Rattle.capriccio_commands.specs.Closings.{IsClosed}
 use Rattle.command_outcomes.proofs.Ending.{kept-are-stored}

@@ -24,10 +24,10 @@ use Rattle.command_outcomes.specs.declared.stops.Stop.TheVariants.{Refused, Fail
 use Rattle.command_outcomes.specs.Outcome.{Outcome, NoMore}
 use Rattle.command_outcomes.specs.Loads.{AfterSource}
 use Rattle.command_outcomes.specs.Steps.{IsStop}
-use Rattle.capriccio_commands.specs.BuildsFiles.{IsUnbuilt}
+use Rattle.pair_commands.specs.BuildsFiles.{IsUnbuilt}
 use Rattle.capriccio_commands.specs.Demos.{demo_sizes, demo_policy}
-use Rattle.capriccio_commands.specs.RunSteps.{IsRunPolicy}
-use Rattle.capriccio_commands.proofs.Options.{none-most}
+use Rattle.command_options.specs.Options.{IsRunPolicy}
+use Rattle.command_options.proofs.Options.{none-most}
 
 -- ---- how long it is
 

@@ -1,20 +1,12 @@
--- Why a run doesn't begin, and how a command ends by the end of its run.
+-- How a command ends by the end of its run.
 use Rattle.std.specs.Prelude.{◌≡◌, Some, Result, Ok, Err}
-use Rattle.certificate_check.specs.declared.checking.CheckError.{CheckError}
-use Rattle.certificate_check.specs.declared.checking.CheckError.TheVariants as checking
 use Rattle.runner.specs.declared.ends.RunEnd.{RunEnd}
 use Rattle.runner.specs.declared.ends.RunEnd.TheVariants as end
 use Rattle.thread_core.specs.Worlds.{Held}
-use Rattle.command_outcomes.specs.declared.stops.Cause.TheVariants as cause
 use Rattle.command_outcomes.specs.declared.stops.Stop.{Stop}
-use Rattle.command_outcomes.specs.declared.stops.Stop.TheVariants.{Refused, Failed}
+use Rattle.command_outcomes.specs.declared.stops.Stop.TheVariants.{Failed}
 use Rattle.command_outcomes.specs.declared.ended.Ended.{Ended}
 use Rattle.command_outcomes.specs.declared.faults.Fault.TheVariants.{Read, Write, Memory}
-
--- why a pair isn't accepted
-abbrev pub IsUnaccepted : CheckError → Stop → Type 0
-IsUnaccepted (checking.Rejected rule function index program i c) stop = stop ≡ Refused (cause.Rejected rule function index)
-IsUnaccepted (checking.Memory program i c) stop = stop ≡ Failed Memory
 
 -- how a command ends by the end of its run: with the status of the stop and the world, or with a fault
 abbrev pub IsClosed : Held → RunEnd → Result Ended Stop → Type 0

@@ -19,8 +19,8 @@ use Rattle.command_outcomes.specs.Outcome.{Outcome}
 use Rattle.command_outcomes.specs.Done.{IsLast}
 use Rattle.command_outcomes.specs.Loads.{IsSourceText}
 use Rattle.capriccio_commands.specs.declared.demo_command.Shown.{Shown}
-use Rattle.capriccio_commands.specs.Runs.{IsAccepted, IsRun, ServesProgram, setup_of, stop_status}
-use Rattle.capriccio_commands.specs.RunSteps.{LeadsOn}
+use Rattle.pair_commands.specs.Runs.{IsAccepted, IsRun, ServesProgram, setup_of, stop_status}
+use Rattle.pair_commands.specs.RunSteps.{LeadsOn}
 use Rattle.capriccio_commands.specs.Summary.{summary_of, summary_text, tally_of, last_from}
 use Rattle.capriccio_commands.specs.declared.summaries.Census.{Census}
 use Rattle.command_outcomes.specs.declared.ended.Ended.{Ended}

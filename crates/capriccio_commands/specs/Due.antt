@@ -1,23 +1,18 @@
 -- What is due for the words, the files and the trace: the command as a whole.
 use Rattle.std.specs.Prelude.{ℕ, ◌≡◌, ◌⊎◌, List}
-use Rattle.codegen_link.specs.declared.options.Options.{Options}
 use Rattle.command_words.specs.WordList.{IsWordList, Request, Serve, Run, Build, Check, Graph, Demo, Audit, Budget}
-use Rattle.command_words.specs.declared.options.Placement.{Placement}
 use Rattle.command_outcomes.specs.declared.stops.Cause.TheVariants as cause
 use Rattle.command_outcomes.specs.Outcome.{Outcome}
 use Rattle.command_outcomes.specs.CauseLines.{refusal}
-use Rattle.capriccio_commands.specs.Graphs.{Graphs}
-use Rattle.capriccio_commands.specs.Checks.{Checks}
-use Rattle.capriccio_commands.specs.BuildsFiles.{Builds}
-use Rattle.capriccio_commands.specs.Audits.{Audits}
-use Rattle.capriccio_commands.specs.Budgets.{Budgets}
+use Rattle.pair_commands.specs.Graphs.{Graphs}
+use Rattle.pair_commands.specs.Checks.{Checks}
+use Rattle.pair_commands.specs.BuildsFiles.{Builds}
+use Rattle.command_audit.specs.Audits.{Audits}
+use Rattle.pair_commands.specs.Budgets.{Budgets}
 use Rattle.command_outcomes.specs.Done.{Outside}
-use Rattle.capriccio_commands.specs.Runs.{Serves, Runs}
+use Rattle.pair_commands.specs.Runs.{Serves, Runs}
+use Rattle.command_options.specs.Options.{sizes_of}
 use Rattle.capriccio_commands.specs.Demos.{Demos}
-
--- the sizes that the words give, for the generator
-abbrev pub sizes_of : Placement → Options
-sizes_of placement = record { chunk = placement.chunk; max_path = placement.max_path }
 
 -- what a request does
 abbrev pub Does : Request → Outside → Outcome → Type 0

@@ -1,11 +1,5 @@
-pub mod Graphs
-pub mod BuildsFiles
-pub mod Budgets
-pub mod Checks
 pub mod Due
-pub mod Runs
-pub mod RunSteps
-pub mod Audits
+pub mod MadeWorlds
 pub mod Closings
 pub mod Summary
 pub mod Demos

@@ -3,31 +3,22 @@ ghost use Rattle.std.specs.Prelude.{ℕ, List, Option, ◌≡◌, ◌+◌, ◌�
 ghost use Rattle.std.specs.String.{string_bytes};
 ghost use Rattle.command_words.specs.WordList.{IsWordList, request_of};
 ghost use Rattle.codegen_link.specs.Plans.{AreInRange};
-ghost use Rattle.capriccio_commands.specs.Audits.{AreAuditOptions, Audits};
-ghost use Rattle.capriccio_commands.specs.Budgets.{Budgets};
-ghost use Rattle.capriccio_commands.specs.BuildsFiles.{Builds};
-ghost use Rattle.capriccio_commands.specs.Checks.{Checks};
+ghost use Rattle.command_options.specs.Options.{IsRunPolicy, sizes_of};
 ghost use Rattle.command_outcomes.specs.Done.{Outside, outside_by};
-ghost use Rattle.capriccio_commands.specs.Due.{Does, IsDue, sizes_of};
+ghost use Rattle.command_outcomes.specs.Steps.{EndsAs};
+ghost use Rattle.pair_commands.specs.Runs.{Serves, Runs};
+ghost use Rattle.capriccio_commands.specs.Due.{Does, IsDue};
 ghost use Rattle.capriccio_commands.specs.Demos.{Demos};
 ghost use Rattle.cap_io.specs.Files.{Files};
-ghost use Rattle.capriccio_commands.specs.Graphs.{Graphs};
-ghost use Rattle.capriccio_commands.specs.Runs.{Serves, Runs};
-ghost use Rattle.capriccio_commands.specs.RunSteps.{IsRunPolicy};
-ghost use Rattle.command_outcomes.specs.Steps.{EndsAs};
 
-use crate::audit_command::{load_log, tell_judgement};
-use crate::budget_command::budget_files;
-use crate::build_command::build_source;
-use crate::check_command::check_files;
 use crate::demo_command::{Shown, show_workload};
-use crate::graph_command::graph_source;
-use crate::run_command::{accept_files, accept_source};
 use crate::running::run_accepted;
 use cap_io::{Shelf, Sink, Source};
 use codegen_link::Options;
-use command_outcomes::{Cause, Ended, Fault, Stop, print, store_both};
-use command_words::{Audit, Command, Placement, Policy, WordsError, read_words};
+use command_audit::do_audit;
+use command_outcomes::{Cause, Ended, Fault, Stop, print};
+use command_words::{Command, Placement, Policy, WordsError, read_words};
+use pair_commands::{accept_files, accept_source, do_budget, do_build, do_check, do_graph};
 use std::alloc::Global;
 
 /// Does what the words ask, and answers the status of what was printed.
@@ -69,13 +60,13 @@ fn do_command<F: Shelf, S: Source, K: Sink>(
 {
     match command {
         Command::Graph { source, placement } => {
-            graph(alloc, shelf, out, source, options_of(placement))
+            do_graph(alloc, shelf, out, source, options_of(placement))
         }
         Command::Check {
             source,
             image,
             certificate,
-        } => check(alloc, shelf, out, source, image, certificate),
+        } => do_check(alloc, shelf, out, source, image, certificate),
         Command::Serve {
             source,
             placement,
@@ -100,7 +91,7 @@ fn do_command<F: Shelf, S: Source, K: Sink>(
             image,
             certificate,
             placement,
-        } => build(
+        } => do_build(
             alloc,
             shelf,
             out,
@@ -114,12 +105,12 @@ fn do_command<F: Shelf, S: Source, K: Sink>(
             source,
             log,
             options,
-        } => audit(alloc, shelf, trace, out, source, log, options),
+        } => do_audit(alloc, shelf, trace, out, source, log, options),
         Command::Budget {
             source,
             image,
             certificate,
-        } => budget(alloc, shelf, out, source, image, certificate),
+        } => do_budget(alloc, shelf, out, source, image, certificate),
     }
 }
 
@@ -131,103 +122,6 @@ fn options_of(placement: Placement) -> Options
         chunk: placement.chunk,
         max_path: placement.max_path,
     }
-}
-
-/// The command `audit`.
-fn audit<F: Shelf, S: Source, K: Sink>(
-    alloc: Global,
-    shelf: &mut F,
-    trace: &mut S,
-    out: &mut K,
-    source: &str,
-    log: &str,
-    options: Audit,
-) -> Result<Ended, Stop>
-    requires { AreAuditOptions options }
-    ensures { let outside = outside_by F.files F.load_faults F.store_faults S.left S.faults K.taken
-        K.faults in
-        let before : Outside = outside shelf.old trace.old out.old in
-        let after : Outside = outside shelf.new trace.new out.new in
-        EndsAs (Audits before.files before.left source.now log.now options) before after result }
-{
-    let loaded = load_log(alloc, shelf, source, log)?;
-    let ended = tell_judgement(
-        alloc,
-        trace,
-        out,
-        &loaded.program,
-        loaded.log.as_slice(),
-        options,
-    );
-    drop(loaded);
-    ended
-}
-
-/// The command `graph`.
-fn graph<F: Shelf, K: Sink>(
-    alloc: Global,
-    shelf: &mut F,
-    out: &mut K,
-    source: &str,
-    options: Options,
-) -> Result<Ended, Stop>
-    ensures { (left : Option (List ℕ)) (reads : ℕ) →
-        let before : Outside = record {
-          files = F.files shelf.old;
-          loads = F.load_faults shelf.old;
-          stores = F.store_faults shelf.old;
-          left = left;
-          reads = reads;
-          taken = K.taken out.old;
-          writes = K.faults out.old;
-        } in
-        let after : Outside = record {
-          files = F.files shelf.new;
-          loads = F.load_faults shelf.new;
-          stores = F.store_faults shelf.new;
-          left = left;
-          reads = reads;
-          taken = K.taken out.new;
-          writes = K.faults out.new;
-        } in
-        EndsAs (Graphs before.files source.now options.max_path) before after result }
-{
-    let text = graph_source(alloc, shelf, source, options)?;
-    print(out, text.as_slice(), 0)
-}
-
-/// The command `budget`.
-fn budget<F: Shelf, K: Sink>(
-    alloc: Global,
-    shelf: &mut F,
-    out: &mut K,
-    source: &str,
-    image: &str,
-    certificate: &str,
-) -> Result<Ended, Stop>
-    ensures { (left : Option (List ℕ)) (reads : ℕ) →
-        let before : Outside = record {
-          files = F.files shelf.old;
-          loads = F.load_faults shelf.old;
-          stores = F.store_faults shelf.old;
-          left = left;
-          reads = reads;
-          taken = K.taken out.old;
-          writes = K.faults out.old;
-        } in
-        let after : Outside = record {
-          files = F.files shelf.new;
-          loads = F.load_faults shelf.new;
-          stores = F.store_faults shelf.new;
-          left = left;
-          reads = reads;
-          taken = K.taken out.new;
-          writes = K.faults out.new;
-        } in
-        EndsAs (Budgets before.files source.now image.now certificate.now) before after result }
-{
-    let text = budget_files(alloc, shelf, source, image, certificate)?;
-    print(out, text.as_slice(), 0)
 }
 
 /// The command `serve`.
@@ -274,88 +168,6 @@ fn run_pair<F: Shelf, S: Source, K: Sink>(
 {
     let accepted = accept_files(alloc, shelf, source, image, certificate, policy)?;
     run_accepted(alloc, accepted, policy, trace, out)
-}
-
-/// The command `build`.
-fn build<F: Shelf, K: Sink>(
-    alloc: Global,
-    shelf: &mut F,
-    out: &mut K,
-    source: &str,
-    image: &str,
-    certificate: &str,
-    options: Options,
-) -> Result<Ended, Stop>
-    requires { AreInRange options }
-    ensures { (left : Option (List ℕ)) (reads : ℕ) →
-        let before : Outside = record {
-          files = F.files shelf.old;
-          loads = F.load_faults shelf.old;
-          stores = F.store_faults shelf.old;
-          left = left;
-          reads = reads;
-          taken = K.taken out.old;
-          writes = K.faults out.old;
-        } in
-        let after : Outside = record {
-          files = F.files shelf.new;
-          loads = F.load_faults shelf.new;
-          stores = F.store_faults shelf.new;
-          left = left;
-          reads = reads;
-          taken = K.taken out.new;
-          writes = K.faults out.new;
-        } in
-        EndsAs (Builds before.files source.now image.now certificate.now options) before after
-        result }
-{
-    let products = build_source(alloc, shelf, source, options)?;
-    store_both(
-        alloc,
-        shelf,
-        image,
-        products.image.as_slice(),
-        certificate,
-        products.certificate.as_slice(),
-    )?;
-    print(out, products.line.as_slice(), 0)
-}
-
-/// The command `check`.
-fn check<F: Shelf, K: Sink>(
-    alloc: Global,
-    shelf: &mut F,
-    out: &mut K,
-    source: &str,
-    image: &str,
-    certificate: &str,
-) -> Result<Ended, Stop>
-    ensures { (left : Option (List ℕ)) (reads : ℕ) →
-        let before : Outside = record {
-          files = F.files shelf.old;
-          loads = F.load_faults shelf.old;
-          stores = F.store_faults shelf.old;
-          left = left;
-          reads = reads;
-          taken = K.taken out.old;
-          writes = K.faults out.old;
-        } in
-        let after : Outside = record {
-          files = F.files shelf.new;
-          loads = F.load_faults shelf.new;
-          stores = F.store_faults shelf.new;
-          left = left;
-          reads = reads;
-          taken = K.taken out.new;
-          writes = K.faults out.new;
-        } in
-        EndsAs (Checks before.files source.now image.now certificate.now) before after result }
-{
-    let verdict = check_files(alloc, shelf, source, image, certificate)?;
-    match verdict.line(alloc) {
-        Ok(line) => print(out, line.as_slice(), verdict.status()),
-        Err(_) => Err(Stop::Failed(Fault::Memory)),
-    }
 }
 
 /// The command `demo`.

@@ -1,9 +1,10 @@
 // A run of an accepted program on the trace, under a policy.
-ghost use Rattle.std.specs.Prelude.{◌≡◌, ◌≤◌, Some, IfOk, OnOk};
+ghost use Rattle.std.specs.Prelude.{◌≡◌, ◌≤◌, Some, OnOk};
 ghost use Rattle.capriccio_commands.specs.Closings.{IsClosed};
 ghost use Rattle.capriccio_commands.specs.FitLogs.{TakesFit};
-ghost use Rattle.capriccio_commands.specs.RunSteps.{IsRunPolicy, IsMade, IsNewMonitor, setup_in, world_policy_of};
-ghost use Rattle.capriccio_commands.specs.Runs.{RunsOn, pool_bytes, rule_of, setup_of};
+ghost use Rattle.command_options.specs.Options.{IsRunPolicy, IsNewMonitor};
+ghost use Rattle.capriccio_commands.specs.MadeWorlds.{IsMade, setup_in, world_policy_of};
+ghost use Rattle.pair_commands.specs.Runs.{RunsOn, pool_bytes, rule_of, setup_of};
 ghost use Rattle.certificate_check.specs.Accepting.{accepted_tree};
 ghost use Rattle.choice_rules.specs.Policy.{by_graph, by_stride};
 ghost use Rattle.command_outcomes.specs.declared.stops.Stop.TheVariants.{Failed};
@@ -12,12 +13,12 @@ ghost use Rattle.resource_monitor.specs.Pressure.{AnswersCurve, IsReading, curve
 ghost use Rattle.resource_monitor.specs.declared.curves.Curve.TheVariants.{Knee};
 ghost use Rattle.stride_rule.specs.State.{new_rule};
 
-use crate::strides::stride_rule_of;
 use cap_io::{Sink, Source};
 use certificate_check::Accepted;
+use command_options::{monitor_of, stride_rule_of};
 use command_outcomes::{Ended, Fault, Stop};
 use command_words::{Policy, Rule};
-use resource_monitor::{Curve, Gauge, Measure, Monitor, past_knee};
+use resource_monitor::{Measure, Monitor, past_knee};
 use runner::{RunEnd, run, run_stride};
 use std::alloc::{AllocError, Global};
 use stride_rule::StrideRule;
@@ -181,25 +182,6 @@ fn world_policy(policy: Policy) -> WorldPolicy
         backlog: policy.backlog,
         caps,
     }
-}
-
-/// The monitor of a policy, with eight gauges of this way to measure.
-pub(crate) fn monitor_of<C: Measure + Copy>(
-    alloc: Global,
-    policy: Policy,
-    call: C,
-) -> Result<Monitor<C>, AllocError>
-    requires curve { AnswersCurve (C.can_measure call) (C.measure_gives call) (Knee policy.knee) }
-    requires range { IsRunPolicy policy }
-    ensures { IfOk result (IsNewMonitor policy) }
-{
-    let mut gauges = Vec::new(alloc);
-    for _ in 0..8usize {
-        gauges.push(Gauge::new(Curve::Knee { knee: policy.knee }, call))?;
-    }
-    let mut caps = policy.caps;
-    caps[0] = policy.chunks + policy.extra;
-    Ok(Monitor::new(gauges, caps, policy.high, policy.low))
 }
 
 /// How the command ends by the end of its run.

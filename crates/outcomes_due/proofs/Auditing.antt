@@ -12,8 +12,8 @@ use Rattle.command_outcomes.specs.CauseLines.{most_bytes, refusal}
 use Rattle.command_outcomes.specs.Done.{Outside}
 use Rattle.command_outcomes.specs.Loads.{AfterLoad, AfterSource, IsSourceText, OfFile}
 use Rattle.command_outcomes.specs.Outcome.{Outcome}
-use Rattle.capriccio_commands.specs.Audits.{Audits, AuditsBytes, AuditsProgram, judged_outcome, reading_of}
-use Rattle.capriccio_commands.specs.declared.audit_command.Judgement.TheVariants as judgement
+use Rattle.command_audit.specs.Audits.{Audits, AuditsBytes, AuditsProgram, judged_outcome, reading_of}
+use Rattle.command_audit.specs.declared.judgements.Judgement.TheVariants as judgement
 use Rattle.capriccio_commands.specs.Due.{IsDue}
 use Rattle.log_verdicts.proofs.Some.{some_verdict}
 use Rattle.sources_decided.proofs.Sources.{AProgram, AnError, source_decided}

@@ -19,9 +19,9 @@ use Rattle.analysis_lines.specs.Lines.{name_at}
 use Rattle.command_outcomes.specs.declared.stops.Cause.TheVariants as cause
 use Rattle.command_outcomes.specs.Outcome.{printed, refused}
 use Rattle.command_outcomes.specs.CauseLines.{cycle_words, refusal}
-use Rattle.capriccio_commands.specs.Budgets.{budget_text, BudgetsPair}
-use Rattle.capriccio_commands.specs.Graphs.{names_of}
-use Rattle.capriccio_commands.proofs.LoweredGraph.{lowered-graph}
+use Rattle.pair_commands.specs.Budgets.{budget_text, BudgetsPair}
+use Rattle.pair_commands.specs.Graphs.{names_of}
+use Rattle.one_plan.proofs.LoweredGraph.{lowered-graph}
 use Rattle.placements_decided.proofs.Graphs.{a_graph}
 use Rattle.budgets_decided.proofs.Heights.{budget_or_cycle}
 use Rattle.outcomes_due.proofs.Loading.{Some_due}

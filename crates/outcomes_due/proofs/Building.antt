@@ -29,10 +29,10 @@ use Rattle.command_outcomes.specs.declared.documents.Document.TheVariants as doc
 use Rattle.command_outcomes.specs.declared.stops.Cause.TheVariants as cause
 use Rattle.command_outcomes.specs.Outcome.{printed, refused}
 use Rattle.command_outcomes.specs.CauseLines.{frame_words, refusal}
-use Rattle.capriccio_commands.specs.Graphs.{names_of, IsFrameRefused, HasFittingFrames, GraphsProgram, Graphs}
-use Rattle.capriccio_commands.specs.BuildsFiles.{built, HasFittingCode, IsUnbuilt, BuildsProgram, Builds}
-use Rattle.capriccio_commands.proofs.LoweredGraph.{lowered-graph}
-use Rattle.capriccio_commands.proofs.OneBuild.{plans-are-one}
+use Rattle.pair_commands.specs.Graphs.{names_of, IsFrameRefused, HasFittingFrames, GraphsProgram, Graphs}
+use Rattle.pair_commands.specs.BuildsFiles.{built, HasFittingCode, IsUnbuilt, BuildsProgram, Builds}
+use Rattle.one_plan.proofs.LoweredGraph.{lowered-graph}
+use Rattle.pair_commands.proofs.OneBuild.{plans-are-one}
 use Rattle.placements_decided.proofs.Graphs.{a_graph}
 use Rattle.placements_decided.proofs.Bounds.{a_placement}
 use Rattle.layouts_decided.proofs.Layouts.{a_layout}

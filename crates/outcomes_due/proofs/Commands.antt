@@ -15,13 +15,13 @@ use Rattle.command_words.specs.WordList.{Request, Run, Build, Check, Graph, Budg
 use Rattle.command_outcomes.specs.declared.stops.Cause.TheVariants as cause
 use Rattle.command_outcomes.specs.CauseLines.{refusal}
 use Rattle.command_outcomes.specs.Done.{Outside}
-use Rattle.capriccio_commands.specs.declared.check_command.Verdict.TheVariants.{Accepted, Rejected}
-use Rattle.capriccio_commands.specs.Budgets.{BudgetsBytes, Budgets}
-use Rattle.capriccio_commands.specs.Checks.{verdict_outcome, ChecksPair, ChecksBytes, Checks}
-use Rattle.capriccio_commands.specs.RunSteps.{IsRunPolicy}
-use Rattle.capriccio_commands.specs.Runs.{setup_of, pool_bytes, RunsPair, RunsBytes, Runs}
-use Rattle.capriccio_commands.specs.Due.{Does, IsDue, sizes_of}
-use Rattle.capriccio_commands.proofs.Options.{run-policy}
+use Rattle.pair_commands.specs.declared.check_command.Verdict.TheVariants.{Accepted, Rejected}
+use Rattle.pair_commands.specs.Budgets.{BudgetsBytes, Budgets}
+use Rattle.pair_commands.specs.Checks.{verdict_outcome, ChecksPair, ChecksBytes, Checks}
+use Rattle.command_options.specs.Options.{IsRunPolicy, sizes_of}
+use Rattle.pair_commands.specs.Runs.{setup_of, pool_bytes, RunsPair, RunsBytes, Runs}
+use Rattle.capriccio_commands.specs.Due.{Does, IsDue}
+use Rattle.command_options.proofs.Options.{run-policy}
 use Rattle.pairs_decided.proofs.Pairs.{pair_decided}
 use Rattle.outcomes_due.specs.Told.{HoldBytes}
 use Rattle.outcomes_due.proofs.Loading.{Some_due, three_due, source_due, image_due, certificate_due}

@@ -11,7 +11,7 @@ use Rattle.one_log.specs.One.{HasOneLog}
 use Rattle.one_log.proofs.Starting.{one_log}
 use Rattle.good_logs.proofs.Good.{good}
 use Rattle.segment_run.proofs.Forming.{areas_formed}
-use Rattle.capriccio_commands.specs.Runs.{IsAccepted, IsRun, RunsOn, run_outcome}
+use Rattle.pair_commands.specs.Runs.{IsAccepted, IsRun, RunsOn, run_outcome}
 use Rattle.capriccio_commands.specs.Demos.{ShowsRun, shown_outcome}
 use Rattle.outcomes_due.proofs.Loading.{Some_due}
 

@@ -17,12 +17,12 @@ use Rattle.command_words.specs.WordList.{Serve, Demo, IsWordList}
 use Rattle.command_outcomes.specs.declared.documents.Document.TheVariants as document
 use Rattle.command_outcomes.specs.Done.{Outside}
 use Rattle.command_outcomes.specs.Loads.{IsSourceText}
-use Rattle.capriccio_commands.specs.BuildsFiles.{IsUnbuilt}
-use Rattle.capriccio_commands.specs.RunSteps.{IsRunPolicy}
-use Rattle.capriccio_commands.specs.Runs.{setup_of, pool_bytes, IsAccepted, ServesProgram, Serves}
+use Rattle.pair_commands.specs.BuildsFiles.{IsUnbuilt}
+use Rattle.command_options.specs.Options.{IsRunPolicy, sizes_of}
+use Rattle.pair_commands.specs.Runs.{setup_of, pool_bytes, IsAccepted, ServesProgram, Serves}
 use Rattle.capriccio_commands.specs.Demos.{demo_sizes, demo_policy, Demos}
-use Rattle.capriccio_commands.specs.Due.{IsDue, sizes_of}
-use Rattle.capriccio_commands.proofs.Options.{serve-sizes, serve-policy, serve-pool}
+use Rattle.capriccio_commands.specs.Due.{IsDue}
+use Rattle.command_options.proofs.Options.{serve-sizes, serve-policy, serve-pool}
 use Rattle.capriccio_commands.proofs.Workloads.{always-built, demo-in-range, demo-run-policy, demo-pool}
 use Rattle.sources_decided.proofs.Sources.{AProgram, AnError, source_decided}
 use Rattle.sources_decided.proofs.Starts.{HasWord, starts_with_words}

@@ -37,9 +37,9 @@ use Rattle.stack_build.proofs.Plans.{plan-for}
 use Rattle.machine_world.specs.WellFormed.{AreWords}
 use Rattle.segment_rest.proofs.Past.{size_some}
 use Rattle.lowered_facts.proofs.Zeroes.{program_zeroes}
-use Rattle.capriccio_commands.specs.Graphs.{HasFittingFrames}
-use Rattle.capriccio_commands.specs.BuildsFiles.{HasFittingCode}
-use Rattle.capriccio_commands.proofs.LoweredGraph.{lowered-graph}
+use Rattle.pair_commands.specs.Graphs.{HasFittingFrames}
+use Rattle.pair_commands.specs.BuildsFiles.{HasFittingCode}
+use Rattle.one_plan.proofs.LoweredGraph.{lowered-graph}
 
 -- where each operation has a word, there are no more operations than words
 words_many : (weight : Op → ℕ) (ops : List Op) → ((i : ℕ) (op : Op) → slice_get ops i ≡ Some op → 0 < weight op) → length ops ≤ sum_by weight ops

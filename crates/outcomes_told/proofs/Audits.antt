@@ -10,8 +10,8 @@ use Rattle.command_outcomes.specs.Done.{Outside}
 use Rattle.command_outcomes.specs.Loads.{AfterLoad}
 use Rattle.command_outcomes.specs.Outcome.{Outcome}
 use Rattle.command_outcomes.specs.Steps.{IsLoaded}
-use Rattle.capriccio_commands.specs.Audits.{Audits, AuditsBytes, AuditsProgram, IsJudgement, reading_of}
-use Rattle.capriccio_commands.specs.declared.audit_command.Judgement.{Judgement}
+use Rattle.command_audit.specs.Audits.{Audits, AuditsBytes, AuditsProgram, IsJudgement, reading_of}
+use Rattle.command_audit.specs.declared.judgements.Judgement.{Judgement}
 use Rattle.outcomes_told.specs.Given.{HasAnswered, HasSource}
 use Rattle.outcomes_told.specs.Written.{UnlessMemory, WritesJudgement}
 use Rattle.outcomes_told.proofs.Answered.{has_done, where_done}

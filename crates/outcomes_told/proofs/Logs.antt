@@ -17,8 +17,8 @@ use Rattle.command_outcomes.specs.Done.{Outside, IsWhole}
 use Rattle.command_outcomes.specs.Loads.{IsSourceText}
 use Rattle.command_outcomes.specs.Outcome.{Outcome}
 use Rattle.capriccio_commands.specs.Demos.{ShowsRun, shown_outcome, demo_sizes, demo_policy}
-use Rattle.capriccio_commands.specs.Due.{sizes_of}
-use Rattle.capriccio_commands.specs.Runs.{RunsOn, RunsPair, Runs, Serves, ServesProgram, run_outcome, setup_of, pool_bytes}
+use Rattle.command_options.specs.Options.{sizes_of}
+use Rattle.pair_commands.specs.Runs.{RunsOn, RunsPair, Runs, Serves, ServesProgram, run_outcome, setup_of, pool_bytes}
 use Rattle.outcomes_told.specs.Given.{HasAnswered, HasBuildable, HasValidPair}
 use Rattle.outcomes_told.specs.Looked.{LooksAtGoodLines}
 use Rattle.outcomes_told.specs.Written.{UnlessMemory, WritesLog, WritesSummary}

@@ -10,7 +10,7 @@ use Rattle.machine_world.specs.Threads.{World}
 use Rattle.schedule_log.specs.declared.entries.Entry.{Entry}
 use Rattle.schedule_log.specs.declared.entries.StopLine.{StopLine}
 use Rattle.schedule_log.specs.declared.entries.StopLine.TheVariants as stop
-use Rattle.capriccio_commands.specs.Runs.{IsRun, stop_status}
+use Rattle.pair_commands.specs.Runs.{IsRun, stop_status}
 use Rattle.outcomes_told.specs.Looked.{LooksAt, LooksAtGoodLines, IsGood, is_over, by_line, IsGoodTrace}
 use Rattle.outcomes_told.specs.Written.{IsRunStatus, EndsRun}
 

@@ -18,8 +18,8 @@ use Rattle.command_outcomes.specs.declared.documents.Document.TheVariants as doc
 use Rattle.command_outcomes.specs.Outcome.{Outcome}
 use Rattle.command_outcomes.specs.Loads.{OfFile, AfterLoad, AfterThree, IsSourceText, AfterSource, IsImageText, AfterImage, IsCertificateText, AfterCertificate}
 use Rattle.command_outcomes.specs.Steps.{IsLoaded}
-use Rattle.capriccio_commands.specs.BuildsFiles.{HasFittingCode, IsUnbuilt}
-use Rattle.capriccio_commands.specs.Graphs.{HasFittingFrames, IsFrameRefused}
+use Rattle.pair_commands.specs.BuildsFiles.{HasFittingCode, IsUnbuilt}
+use Rattle.pair_commands.specs.Graphs.{HasFittingFrames, IsFrameRefused}
 use Rattle.outcomes_told.specs.Given.{HasSource, HasValidPair}
 
 -- ---- loads

@@ -14,9 +14,9 @@ use Rattle.stack_certificate.specs.declared.certificates.Certificate.{Certificat
 use Rattle.command_outcomes.specs.Done.{Outside, WhereTold, AreStored}
 use Rattle.command_outcomes.specs.FaultLines.{fault_status}
 use Rattle.command_outcomes.specs.declared.faults.Fault.TheVariants.{Memory}
-use Rattle.capriccio_commands.specs.BuildsFiles.{built}
-use Rattle.capriccio_commands.specs.Due.{sizes_of}
-use Rattle.capriccio_commands.proofs.Options.{build-sizes}
+use Rattle.pair_commands.specs.BuildsFiles.{built}
+use Rattle.command_options.specs.Options.{sizes_of}
+use Rattle.command_options.proofs.Options.{build-sizes}
 use Rattle.sources_decided.proofs.Starts.{starts_with_words}
 use Rattle.outcomes_due.proofs.Valid.{layout_words}
 use Rattle.pairs_read_again.specs.ReadAgain.{IsReadAgain}

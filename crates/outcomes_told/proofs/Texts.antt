@@ -16,13 +16,13 @@ use Rattle.stack_image.specs.declared.images.Image.{Image}
 use Rattle.stack_certificate.specs.declared.certificates.Certificate.{Certificate}
 use Rattle.command_outcomes.specs.Done.{Outside, IsWhole, WhereTold, AreStored}
 use Rattle.command_outcomes.specs.Outcome.{Outcome, printed}
-use Rattle.capriccio_commands.specs.declared.check_command.Verdict.{Verdict}
-use Rattle.capriccio_commands.specs.declared.check_command.Verdict.TheVariants.{Accepted, Rejected}
-use Rattle.capriccio_commands.specs.BuildsFiles.{built, built_line, Builds, BuildsProgram}
-use Rattle.capriccio_commands.specs.Budgets.{budget_text, Budgets, BudgetsPair}
-use Rattle.capriccio_commands.specs.Checks.{IsVerdict, verdict_outcome, Checks, ChecksPair}
-use Rattle.capriccio_commands.specs.Due.{sizes_of}
-use Rattle.capriccio_commands.specs.Graphs.{IsAnalysed, HasFittingFrames, Graphs, GraphsProgram}
+use Rattle.pair_commands.specs.declared.check_command.Verdict.{Verdict}
+use Rattle.pair_commands.specs.declared.check_command.Verdict.TheVariants.{Accepted, Rejected}
+use Rattle.pair_commands.specs.BuildsFiles.{built, built_line, Builds, BuildsProgram}
+use Rattle.pair_commands.specs.Budgets.{budget_text, Budgets, BudgetsPair}
+use Rattle.pair_commands.specs.Checks.{IsVerdict, verdict_outcome, Checks, ChecksPair}
+use Rattle.command_options.specs.Options.{sizes_of}
+use Rattle.pair_commands.specs.Graphs.{IsAnalysed, HasFittingFrames, Graphs, GraphsProgram}
 use Rattle.outcomes_told.specs.Given.{HasAnswered, HasSource, HasBuildable, HasValidPair}
 use Rattle.outcomes_told.specs.Written.{UnlessMemory, WritesText}
 use Rattle.outcomes_told.proofs.Answered.{has_done, where_done}

@@ -12,8 +12,8 @@ use Rattle.command_outcomes.specs.declared.documents.Document.TheVariants as doc
 use Rattle.command_outcomes.specs.Done.{Outside, NoFault}
 use Rattle.command_outcomes.specs.Loads.{IsSourceText, IsImageText, IsCertificateText}
 use Rattle.command_outcomes.specs.Steps.{IsLoaded}
-use Rattle.capriccio_commands.specs.BuildsFiles.{HasFittingCode}
-use Rattle.capriccio_commands.specs.Graphs.{HasFittingFrames}
+use Rattle.pair_commands.specs.BuildsFiles.{HasFittingCode}
+use Rattle.pair_commands.specs.Graphs.{HasFittingFrames}
 use Rattle.capriccio_call.specs.Headline.{IsAnswer}
 
 -- A call of the program with these words has answered this status: its clause `answer` holds of it, its files and its trace are told, and

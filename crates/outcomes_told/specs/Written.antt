@@ -9,9 +9,9 @@ use Rattle.schedule_log.specs.declared.entries.StopLine.{StopLine}
 use Rattle.command_outcomes.specs.declared.faults.Fault.TheVariants.{Memory}
 use Rattle.command_outcomes.specs.Done.{Outside}
 use Rattle.command_outcomes.specs.FaultLines.{fault_status}
-use Rattle.capriccio_commands.specs.Audits.{judgement_line, judgement_status}
-use Rattle.capriccio_commands.specs.declared.audit_command.Judgement.{Judgement}
-use Rattle.capriccio_commands.specs.Runs.{IsRun, stop_status}
+use Rattle.command_audit.specs.Audits.{judgement_line, judgement_status}
+use Rattle.command_audit.specs.declared.judgements.Judgement.{Judgement}
+use Rattle.pair_commands.specs.Runs.{IsRun, stop_status}
 use Rattle.capriccio_commands.specs.Summary.{summary_of}
 
 -- that holds, or memory was wanting

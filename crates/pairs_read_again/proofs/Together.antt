@@ -9,9 +9,9 @@ use Rattle.machine_world.specs.WellFormed.{AreWords}
 use Rattle.stack_build.specs.Builds.{IsLaidOut}
 use Rattle.stack_image.specs.declared.images.Image.{Image}
 use Rattle.stack_certificate.specs.declared.certificates.Certificate.{Certificate}
-use Rattle.capriccio_commands.specs.BuildsFiles.{HasFittingCode}
-use Rattle.capriccio_commands.specs.Graphs.{HasFittingFrames}
-use Rattle.capriccio_commands.proofs.Limits.{image-fits, certificate-fits}
+use Rattle.pair_commands.specs.BuildsFiles.{HasFittingCode}
+use Rattle.pair_commands.specs.Graphs.{HasFittingFrames}
+use Rattle.one_plan.proofs.Limits.{image-fits, certificate-fits}
 use Rattle.pairs_read_again.specs.ReadAgain.{IsReadAgain}
 use Rattle.pairs_read_again.proofs.Lengths.{certificate_short, image_short}
 use Rattle.pairs_read_again.proofs.Valid.{few_variables, plan_is, code_fits, valid}

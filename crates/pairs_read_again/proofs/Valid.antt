@@ -33,9 +33,9 @@ use Rattle.stack_certificate.specs.declared.sites.LinkKind.{LinkKind}
 use Rattle.stack_image.specs.declared.images.Image.{Image}
 use Rattle.stack_plan.proofs.Enough.{enough}
 use Rattle.stack_plan.specs.Plans.{weights_of}
-use Rattle.capriccio_commands.specs.BuildsFiles.{HasFittingCode}
-use Rattle.capriccio_commands.specs.Graphs.{HasFittingFrames}
-use Rattle.capriccio_commands.proofs.LoweredGraph.{lowered-graph}
+use Rattle.pair_commands.specs.BuildsFiles.{HasFittingCode}
+use Rattle.pair_commands.specs.Graphs.{HasFittingFrames}
+use Rattle.one_plan.proofs.LoweredGraph.{lowered-graph}
 use Rattle.pairs_read_again.proofs.Fewer.{all_few}
 
 -- ---- an operation has a word

@@ -8,8 +8,8 @@ ghost use Rattle.machine_world.specs.WellFormed.{AreWords};
 ghost use Rattle.stack_build.specs.Builds.{IsLaidOut};
 ghost use Rattle.stack_image.specs.declared.images.Image.{Image};
 ghost use Rattle.stack_certificate.specs.declared.certificates.Certificate.{Certificate};
-ghost use Rattle.capriccio_commands.specs.BuildsFiles.{HasFittingCode};
-ghost use Rattle.capriccio_commands.specs.Graphs.{HasFittingFrames};
+ghost use Rattle.pair_commands.specs.BuildsFiles.{HasFittingCode};
+ghost use Rattle.pair_commands.specs.Graphs.{HasFittingFrames};
 ghost use Rattle.pairs_read_again.specs.ReadAgain.{IsReadAgain};
 
 /// The pair that is laid out for a well-scoped program of which no frame and not the code is too large, with sizes in their ranges and

@@ -2,17 +2,18 @@ use Rattle.std.proofs.Common.{sym, subst}
 use Rattle.codegen_link.specs.declared.options.Options.{Options}
 use Rattle.command_words.specs.declared.commands.Command.{Command}
 use Rattle.command_words.specs.WordList.{request_of}
-use Rattle.capriccio_commands.specs.BuildsFiles.{Builds}
+use Rattle.pair_commands.specs.BuildsFiles.{Builds}
 use Rattle.command_outcomes.specs.Done.{Outside}
-use Rattle.capriccio_commands.specs.Due.{Does, sizes_of}
-use Rattle.capriccio_commands.specs.Graphs.{Graphs}
-use Rattle.capriccio_commands.specs.Runs.{Serves}
+use Rattle.capriccio_commands.specs.Due.{Does}
+use Rattle.command_options.specs.Options.{sizes_of}
+use Rattle.pair_commands.specs.Graphs.{Graphs}
+use Rattle.pair_commands.specs.Runs.{Serves}
 use Rattle.command_outcomes.specs.Steps.{EndsAs}
-use Rattle.capriccio_commands.proofs.Options.{audit-options, build-sizes, serve-sizes, serve-policy, serve-pool, run-policy}
+use Rattle.command_options.proofs.Options.{audit-options, build-sizes, serve-sizes, serve-policy, serve-pool, run-policy}
 use Rattle.capriccio_commands.proofs.commands.do_command.Goals as goal
 
-pub build-requires : goal.build-requires
-build-requires g c =
+pub do_build-requires : goal.do_build-requires
+do_build-requires g c =
     let asked = rw c.in-Build.is at c.requires.1 in
     rw c.options_of-in-Build.ensures (build-sizes c.requires.0 c.in-Build.source.now c.in-Build.image.now c.in-Build.certificate.now c.in-Build.placement asked)
 
@@ -40,19 +41,19 @@ pub returns-in-Graph : goal.returns-in-Graph
 returns-in-Graph g c =
     let F = g.F.Shelf in let S = g.S.Source in let K = g.K.Sink in let a = c.args in
     let before : Outside = record { files = F.files a.shelf.now; loads = F.load_faults a.shelf.now; stores = F.store_faults a.shelf.now; left = S.left a.trace.now; reads = S.faults a.trace.now; taken = K.taken a.out.now; writes = K.faults a.out.now } in
-    let after : Outside = record { files = F.files c.graph.new.shelf; loads = F.load_faults c.graph.new.shelf; stores = F.store_faults c.graph.new.shelf; left = S.left a.trace.now; reads = S.faults a.trace.now; taken = K.taken c.graph.new.out; writes = K.faults c.graph.new.out } in
-    let P : Options → Type 0 = λ o. EndsAs (Graphs before.files c.in-Graph.source.now o.max_path) before after c.graph.result in
-    let Q : Command → Type 0 = λ x. EndsAs (Does (request_of x) before) before after c.graph.result in
-    let done : P (sizes_of c.in-Graph.placement) = subst P c.options_of.ensures (c.graph.ensures before.left before.reads) in
+    let after : Outside = record { files = F.files c.do_graph.new.shelf; loads = F.load_faults c.do_graph.new.shelf; stores = F.store_faults c.do_graph.new.shelf; left = S.left a.trace.now; reads = S.faults a.trace.now; taken = K.taken c.do_graph.new.out; writes = K.faults c.do_graph.new.out } in
+    let P : Options → Type 0 = λ o. EndsAs (Graphs before.files c.in-Graph.source.now o.max_path) before after c.do_graph.result in
+    let Q : Command → Type 0 = λ x. EndsAs (Does (request_of x) before) before after c.do_graph.result in
+    let done : P (sizes_of c.in-Graph.placement) = subst P c.options_of.ensures (c.do_graph.ensures before.left before.reads) in
     subst Q (sym c.in-Graph.is) done
 
 pub returns-in-Check : goal.returns-in-Check
 returns-in-Check g c =
     let F = g.F.Shelf in let S = g.S.Source in let K = g.K.Sink in let a = c.args in
     let before : Outside = record { files = F.files a.shelf.now; loads = F.load_faults a.shelf.now; stores = F.store_faults a.shelf.now; left = S.left a.trace.now; reads = S.faults a.trace.now; taken = K.taken a.out.now; writes = K.faults a.out.now } in
-    let after : Outside = record { files = F.files c.check.new.shelf; loads = F.load_faults c.check.new.shelf; stores = F.store_faults c.check.new.shelf; left = S.left a.trace.now; reads = S.faults a.trace.now; taken = K.taken c.check.new.out; writes = K.faults c.check.new.out } in
-    let Q : Command → Type 0 = λ x. EndsAs (Does (request_of x) before) before after c.check.result in
-    subst Q (sym c.in-Check.is) (c.check.ensures before.left before.reads)
+    let after : Outside = record { files = F.files c.do_check.new.shelf; loads = F.load_faults c.do_check.new.shelf; stores = F.store_faults c.do_check.new.shelf; left = S.left a.trace.now; reads = S.faults a.trace.now; taken = K.taken c.do_check.new.out; writes = K.faults c.do_check.new.out } in
+    let Q : Command → Type 0 = λ x. EndsAs (Does (request_of x) before) before after c.do_check.result in
+    subst Q (sym c.in-Check.is) (c.do_check.ensures before.left before.reads)
 
 pub returns-in-Serve : goal.returns-in-Serve
 returns-in-Serve g c =
@@ -76,10 +77,10 @@ pub returns-in-Build : goal.returns-in-Build
 returns-in-Build g c =
     let F = g.F.Shelf in let S = g.S.Source in let K = g.K.Sink in let a = c.args in
     let before : Outside = record { files = F.files a.shelf.now; loads = F.load_faults a.shelf.now; stores = F.store_faults a.shelf.now; left = S.left a.trace.now; reads = S.faults a.trace.now; taken = K.taken a.out.now; writes = K.faults a.out.now } in
-    let after : Outside = record { files = F.files c.build.new.shelf; loads = F.load_faults c.build.new.shelf; stores = F.store_faults c.build.new.shelf; left = S.left a.trace.now; reads = S.faults a.trace.now; taken = K.taken c.build.new.out; writes = K.faults c.build.new.out } in
-    let P : Options → Type 0 = λ o. EndsAs (Builds before.files c.in-Build.source.now c.in-Build.image.now c.in-Build.certificate.now o) before after c.build.result in
-    let Q : Command → Type 0 = λ x. EndsAs (Does (request_of x) before) before after c.build.result in
-    let done : P (sizes_of c.in-Build.placement) = subst P c.options_of-in-Build.ensures (c.build.ensures before.left before.reads) in
+    let after : Outside = record { files = F.files c.do_build.new.shelf; loads = F.load_faults c.do_build.new.shelf; stores = F.store_faults c.do_build.new.shelf; left = S.left a.trace.now; reads = S.faults a.trace.now; taken = K.taken c.do_build.new.out; writes = K.faults c.do_build.new.out } in
+    let P : Options → Type 0 = λ o. EndsAs (Builds before.files c.in-Build.source.now c.in-Build.image.now c.in-Build.certificate.now o) before after c.do_build.result in
+    let Q : Command → Type 0 = λ x. EndsAs (Does (request_of x) before) before after c.do_build.result in
+    let done : P (sizes_of c.in-Build.placement) = subst P c.options_of-in-Build.ensures (c.do_build.ensures before.left before.reads) in
     subst Q (sym c.in-Build.is) done
 
 pub demo-requires-clause-some : goal.demo-requires-clause-some
@@ -100,8 +101,8 @@ returns-in-Demo g c =
     let Q : Command → Type 0 = λ x. EndsAs (Does (request_of x) before) before after c.demo.result in
     subst Q (sym c.in-Demo.is) (c.demo.ensures before.files before.loads before.stores before.left before.reads)
 
-pub audit-requires : goal.audit-requires
-audit-requires g c =
+pub do_audit-requires : goal.do_audit-requires
+do_audit-requires g c =
     let asked = rw c.in-Audit.is at c.requires.1 in
     audit-options c.requires.0 c.in-Audit.source.now c.in-Audit.log.now c.in-Audit.options asked
 
@@ -109,14 +110,14 @@ pub returns-in-Audit : goal.returns-in-Audit
 returns-in-Audit g c =
     let F = g.F.Shelf in let S = g.S.Source in let K = g.K.Sink in let a = c.args in
     let before : Outside = record { files = F.files a.shelf.now; loads = F.load_faults a.shelf.now; stores = F.store_faults a.shelf.now; left = S.left a.trace.now; reads = S.faults a.trace.now; taken = K.taken a.out.now; writes = K.faults a.out.now } in
-    let after : Outside = record { files = F.files c.audit.new.shelf; loads = F.load_faults c.audit.new.shelf; stores = F.store_faults c.audit.new.shelf; left = S.left c.audit.new.trace; reads = S.faults c.audit.new.trace; taken = K.taken c.audit.new.out; writes = K.faults c.audit.new.out } in
-    let Q : Command → Type 0 = λ x. EndsAs (Does (request_of x) before) before after c.audit.result in
-    subst Q (sym c.in-Audit.is) (c.audit.ensures)
+    let after : Outside = record { files = F.files c.do_audit.new.shelf; loads = F.load_faults c.do_audit.new.shelf; stores = F.store_faults c.do_audit.new.shelf; left = S.left c.do_audit.new.trace; reads = S.faults c.do_audit.new.trace; taken = K.taken c.do_audit.new.out; writes = K.faults c.do_audit.new.out } in
+    let Q : Command → Type 0 = λ x. EndsAs (Does (request_of x) before) before after c.do_audit.result in
+    subst Q (sym c.in-Audit.is) (c.do_audit.ensures)
 
 pub returns-in-Budget : goal.returns-in-Budget
 returns-in-Budget g c =
     let F = g.F.Shelf in let S = g.S.Source in let K = g.K.Sink in let a = c.args in
     let before : Outside = record { files = F.files a.shelf.now; loads = F.load_faults a.shelf.now; stores = F.store_faults a.shelf.now; left = S.left a.trace.now; reads = S.faults a.trace.now; taken = K.taken a.out.now; writes = K.faults a.out.now } in
-    let after : Outside = record { files = F.files c.budget.new.shelf; loads = F.load_faults c.budget.new.shelf; stores = F.store_faults c.budget.new.shelf; left = S.left a.trace.now; reads = S.faults a.trace.now; taken = K.taken c.budget.new.out; writes = K.faults c.budget.new.out } in
-    let Q : Command → Type 0 = λ x. EndsAs (Does (request_of x) before) before after c.budget.result in
-    subst Q (sym c.in-Budget.is) (c.budget.ensures before.left before.reads)
+    let after : Outside = record { files = F.files c.do_budget.new.shelf; loads = F.load_faults c.do_budget.new.shelf; stores = F.store_faults c.do_budget.new.shelf; left = S.left a.trace.now; reads = S.faults a.trace.now; taken = K.taken c.do_budget.new.out; writes = K.faults c.do_budget.new.out } in
+    let Q : Command → Type 0 = λ x. EndsAs (Does (request_of x) before) before after c.do_budget.result in
+    subst Q (sym c.in-Budget.is) (c.do_budget.ensures before.left before.reads)

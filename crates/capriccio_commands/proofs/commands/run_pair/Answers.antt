@@ -2,7 +2,7 @@ use Rattle.std.proofs.Common.{refl}
 use Rattle.std.proofs.lemmas.Result.{err_from_is_err_and}
 use Rattle.certificate_check.specs.Accepting.{accepted_tree}
 use Rattle.command_outcomes.specs.Done.{Outside}
-use Rattle.capriccio_commands.specs.Runs.{RunsOn, Runs, setup_of}
+use Rattle.pair_commands.specs.Runs.{RunsOn, Runs, setup_of}
 use Rattle.command_outcomes.proofs.Ending.{ends-follow, stopped, keeps-itself}
 use Rattle.capriccio_commands.proofs.commands.run_pair.Goals as goal
 

@@ -6,7 +6,7 @@ use Rattle.command_words.specs.declared.options.Policy.{Policy}
 use Rattle.capriccio_commands.specs.Demos.{demo_policy}
 use Rattle.runner.specs.Output.{IsFitText}
 use Rattle.capriccio_commands.specs.FitLogs.{TakesFit}
-use Rattle.capriccio_commands.specs.Runs.{RunsOn, pool_bytes, setup_of}
+use Rattle.pair_commands.specs.Runs.{RunsOn, pool_bytes, setup_of}
 use Rattle.capriccio_commands.proofs.FitCounting.{clean-fits}
 use Rattle.capriccio_commands.proofs.Shown.{no-stop, served, served-world, shows-due}
 use Rattle.capriccio_commands.proofs.Workloads.{demo-run-policy, demo-pool}

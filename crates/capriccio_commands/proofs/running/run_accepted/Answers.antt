@@ -1,7 +1,7 @@
 use Rattle.std.proofs.Common.{subst}
 use Rattle.certificate_check.specs.Accepting.{accepted_tree}
 use Rattle.certificate_check.specs.Acceptance.{Acceptance}
-use Rattle.capriccio_commands.specs.Runs.{RunsOn, setup_of}
+use Rattle.pair_commands.specs.Runs.{RunsOn, setup_of}
 use Rattle.command_outcomes.specs.Steps.{RunEnds}
 use Rattle.capriccio_commands.proofs.Making.{policy-ranges, made-world}
 use Rattle.capriccio_commands.proofs.running.run_accepted.Goals as goal

@@ -1,5 +1,5 @@
-use Rattle.capriccio_commands.specs.Runs.{RunsOn}
-use Rattle.capriccio_commands.specs.RunSteps.{setup_in}
+use Rattle.pair_commands.specs.Runs.{RunsOn}
+use Rattle.capriccio_commands.specs.MadeWorlds.{setup_in}
 use Rattle.command_outcomes.proofs.Ending.{memory-before}
 use Rattle.capriccio_commands.proofs.running.run_measured.Goals as goal
 

@@ -1,6 +1,0 @@
-use Rattle.std.proofs.Common.{◌≡◌, ◌++◌, drop}
-use Rattle.capriccio_commands.specs.Budgets.{height_lines}
-use Rattle.capriccio_commands.proofs.budget_command.put_heights.Given as goal
-
-abbrev pub invariant-loop-function : goal.invariant-loop-function
-invariant-loop-function l = l.text.items ++ height_lines l.function (drop l.function l.heights) ≡ l.fn.text.items ++ height_lines 0 l.heights

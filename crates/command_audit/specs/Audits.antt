@@ -1,0 +1,117 @@
+-- What the command `audit` does: a log is judged on the trace, without a machine.
+use Rattle.std.specs.Prelude.{ℕ, ◌≡◌, ◌+◌, true, List, [], ◌∷◌, ◌++◌, codes, replicate, Option, IfSome, None, Result, Ok, Err}
+use Rattle.cap_io.specs.Files.{Files}
+use Rattle.cap_text.specs.Decimals.{canonical_decimal}
+use Rattle.c_tree.specs.Trees.{ProgramTree}
+use Rattle.choice_rules.specs.Policy.{Policy, by_graph}
+use Rattle.command_words.specs.declared.options.Audit.{Audit as AuditOptions}
+use Rattle.lawful_reading.specs.Given.{Given}
+use Rattle.lawful_reading.specs.Reading.{IsLawful, IsTooLong, IsUnlawful}
+use Rattle.resource_monitor.specs.declared.curves.Curve.TheVariants.{Knee}
+use Rattle.schedule_audit.specs.declared.policy.AuditPolicy.{AuditPolicy}
+use Rattle.schedule_audit.specs.declared.verdicts.Verdict.{Verdict}
+use Rattle.command_audit.specs.declared.judgements.Judgement.{Judgement}
+use Rattle.command_audit.specs.declared.judgements.Judgement.TheVariants as judgement
+use Rattle.command_outcomes.specs.declared.documents.Document.TheVariants as document
+use Rattle.command_outcomes.specs.declared.faults.Fault.TheVariants.{Read, Memory}
+use Rattle.command_outcomes.specs.declared.stops.Stop.{Stop}
+use Rattle.command_outcomes.specs.declared.stops.Stop.TheVariants.{Refused, Failed}
+use Rattle.command_outcomes.specs.Loads.{AfterLoad, AfterSource}
+use Rattle.command_outcomes.specs.Outcome.{Outcome}
+use Rattle.command_outcomes.specs.Steps.{IsReadStop}
+
+-- ---- what a log is read against
+
+-- The policy of an audit. The chunks are those of both options together, since only their number is read; the rule is by the graph, and
+-- the pressures of all resources have one knee.
+abbrev pub reading_policy : AuditOptions → Policy
+reading_policy options = record {
+  chunks = options.chunks + options.extra;
+  extra = 0;
+  extra_bytes = 0;
+  fuel = options.fuel;
+  backlog = options.backlog;
+  caps = options.caps;
+  curves = replicate 8 (Knee options.knee);
+  high = options.high;
+  low = options.low;
+  rule = by_graph;
+}
+
+abbrev pub reading_of : ProgramTree → AuditOptions → Given
+reading_of program options = record { program = program; policy = reading_policy options; most_steps = options.steps }
+
+-- ---- what is said
+
+-- that is what is said of the log, where the trace tells its bytes
+abbrev pub IsJudgement : Given → Option (List ℕ) → List ℕ → Judgement → Type 0
+IsJudgement g trace log judgement.Lawful = IfSome trace (λ bytes. IsLawful g bytes log)
+IsJudgement g trace log (judgement.Unlawful line) = IfSome trace (λ bytes. IsUnlawful g bytes log line)
+IsJudgement g trace log (judgement.Steps line) = IfSome trace (λ bytes. IsTooLong g bytes log line)
+
+-- its status and its line
+abbrev pub judgement_status : Judgement → ℕ
+judgement_status judgement.Lawful = 0
+judgement_status (judgement.Unlawful line) = 15
+judgement_status (judgement.Steps line) = 16
+
+abbrev pub judgement_line : Judgement → List ℕ
+judgement_line judgement.Lawful = codes "lawful" ++ 10 ∷ []
+judgement_line (judgement.Unlawful line) = (codes "unlawful " ++ canonical_decimal line) ++ 10 ∷ []
+judgement_line (judgement.Steps line) = (codes "steps " ++ canonical_decimal line) ++ 10 ∷ []
+
+-- the outcome: the output takes the line, and no run is handed out
+abbrev pub judged_outcome : Judgement → Outcome
+judged_outcome is = record {
+  status = judgement_status is;
+  out = judgement_line is;
+  line = [];
+  stores = [];
+  last = None;
+  reads_trace = true;
+}
+
+-- ---- the command
+
+abbrev pub AuditsProgram : Option (List ℕ) → AuditOptions → (log : List ℕ) → ProgramTree → Outcome → Type 0
+AuditsProgram trace options log program outcome =
+    (is : Judgement) × IsJudgement (reading_of program options) trace log is × (outcome ≡ judged_outcome is)
+
+abbrev pub AuditsBytes : Option (List ℕ) → AuditOptions → (source log : List ℕ) → Outcome → Type 0
+AuditsBytes trace options source log = AfterSource source (AuditsProgram trace options log)
+
+-- the source is loaded and then the log, before the source is read
+abbrev pub Audits : Option Files → Option (List ℕ) → (source_name log_name : List ℕ) → AuditOptions → Outcome → Type 0
+Audits files trace source_name log_name options =
+    AfterLoad document.Source files source_name (λ source. AfterLoad document.Log files log_name (AuditsBytes trace options source))
+
+-- ---- its steps
+
+-- what an audit is given of the options
+abbrev pub audit_limits : AuditOptions → AuditPolicy
+audit_limits options = record {
+  chunks = options.chunks + options.extra;
+  fuel = options.fuel;
+  backlog = options.backlog;
+  caps = options.caps;
+  steps = options.steps;
+}
+
+-- what a verdict is to the command
+abbrev pub judged_as : Verdict → Result Judgement Stop
+judged_as Verdict.Lawful = Ok judgement.Lawful
+judged_as (Verdict.Unlawful line) = Ok (judgement.Unlawful line)
+judged_as (Verdict.Steps line) = Ok (judgement.Steps line)
+judged_as Verdict.ReadFault = Err (Failed Read)
+judged_as Verdict.Memory = Err (Failed Memory)
+
+-- a log is judged, and no read failed; or a read failed, or memory was wanting
+abbrev pub IsJudged : Given → Option (List ℕ) → (log : List ℕ) → (reads reads' : ℕ) → Result Judgement Stop → Type 0
+IsJudged g trace log reads reads' (Ok is) = IsJudgement g trace log is × (reads' ≡ reads)
+IsJudged g trace log reads reads' (Err (Failed fault)) = IsReadStop fault reads reads'
+IsJudged g trace log reads reads' (Err (Refused cause)) = ⊥
+
+-- what is said of this log of this program is what the command does
+abbrev pub LeadsToAudit : Option Files → (source_name log_name log : List ℕ) → ProgramTree → Type 0
+LeadsToAudit files source_name log_name log program =
+    (trace : Option (List ℕ)) (options : AuditOptions) (outcome : Outcome) → AuditsProgram trace options log program outcome → Audits files trace source_name log_name options outcome

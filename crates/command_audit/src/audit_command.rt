@@ -1,0 +1,200 @@
+// The command `audit`: a log of a source is judged on the trace.
+ghost use Rattle.std.specs.Prelude.{◌≡◌, ◌≤◌, ℕ, List, Option, MatchResult};
+ghost use Rattle.cap_io.specs.Files.{KeepsFiles};
+ghost use Rattle.c_tree.specs.ProgramView.{program_tree};
+ghost use Rattle.command_words.specs.declared.options.Audit.{Audit as AuditOptions};
+ghost use Rattle.command_outcomes.specs.Done.{Outside, outside_by};
+ghost use Rattle.command_outcomes.specs.Steps.{EndsAs, IsPrinted, IsShelfStop, RunEnds};
+ghost use Rattle.resource_monitor.specs.Pressure.{AnswersCurve, IsReading, curve_value};
+ghost use Rattle.resource_monitor.specs.declared.curves.Curve.TheVariants.{Knee};
+ghost use Rattle.command_options.specs.Options.{AreAuditOptions, as_run};
+ghost use Rattle.command_audit.specs.Audits.{Audits, AuditsProgram, IsJudged, LeadsToAudit, audit_limits, judged_as, judgement_line, judgement_status, reading_of};
+
+use crate::judgements::Judgement;
+use c_tree::Program;
+use cap_io::{Shelf, Sink, Source};
+use command_options::monitor_of;
+use command_outcomes::{Document, Ended, Fault, Stop, load, print, read_source};
+use command_words::{Audit, Policy, Rule};
+use resource_monitor::{Measure, past_knee};
+use schedule_audit::{AuditPolicy, Verdict, audit};
+use std::alloc::{AllocError, Global};
+
+/// The command `audit`.
+pub fn do_audit<F: Shelf, S: Source, K: Sink>(
+    alloc: Global,
+    shelf: &mut F,
+    trace: &mut S,
+    out: &mut K,
+    source: &str,
+    log: &str,
+    options: Audit,
+) -> Result<Ended, Stop>
+    requires { AreAuditOptions options }
+    ensures { let outside = outside_by F.files F.load_faults F.store_faults S.left S.faults K.taken
+        K.faults in
+        let before : Outside = outside shelf.old trace.old out.old in
+        let after : Outside = outside shelf.new trace.new out.new in
+        EndsAs (Audits before.files before.left source.now log.now options) before after result }
+{
+    let loaded = load_log(alloc, shelf, source, log)?;
+    let ended = tell_judgement(
+        alloc,
+        trace,
+        out,
+        &loaded.program,
+        loaded.log.as_slice(),
+        options,
+    );
+    drop(loaded);
+    ended
+}
+
+/// A program, and a log that is said to be one of its own.
+#[derive(Drop)]
+struct LoadedLog {
+    /// The program.
+    program: Program,
+    /// The bytes of the log.
+    log: Vec<u8>,
+}
+
+/// The program of the source of this name, with the log of that one.
+fn load_log<F: Shelf>(
+    alloc: Global,
+    shelf: &mut F,
+    source_name: &str,
+    log_name: &str,
+) -> Result<LoadedLog, Stop>
+    ensures answer { (trace : Option (List ℕ)) (options : AuditOptions) → MatchResult result
+        (λ loaded. LeadsToAudit (F.files shelf.old) source_name.now log_name.now loaded.log.items
+        (program_tree loaded.program) × (F.load_faults shelf.new ≡ F.load_faults shelf.old))
+        (IsShelfStop (Audits (F.files shelf.old) trace source_name.now log_name.now options)
+        (F.load_faults shelf.old) (F.load_faults shelf.new)) }
+    ensures files { KeepsFiles (F.files shelf.old) (F.files shelf.new) }
+    ensures stores { F.store_faults shelf.new ≡ F.store_faults shelf.old }
+{
+    let source = load(alloc, shelf, Document::Source, source_name)?;
+    let log = load(alloc, shelf, Document::Log, log_name)?;
+    let program = read_source(alloc, source.as_slice())?;
+    Ok(LoadedLog { program, log })
+}
+
+/// Judges a log of a program, and writes the line that tells what is said of it.
+fn tell_judgement<S: Source, K: Sink>(
+    alloc: Global,
+    trace: &mut S,
+    out: &mut K,
+    program: &Program,
+    log: &[u8],
+    options: Audit,
+) -> Result<Ended, Stop>
+    requires { AreAuditOptions options }
+    ensures { RunEnds (AuditsProgram (S.left trace.old) options log.now (program_tree program.now))
+        (S.left trace.old) (S.left trace.new) (S.faults trace.old) (S.faults trace.new)
+        (K.taken out.old) (K.taken out.new) (K.faults out.old) (K.faults out.new) result }
+{
+    let judgement = audit_program(alloc, trace, program, log, options)?;
+    print_judgement(alloc, out, judgement)
+}
+
+/// Writes the line that tells what is said of a log.
+fn print_judgement<K: Sink>(alloc: Global, out: &mut K, judgement: Judgement) -> Result<Ended, Stop>
+    ensures { IsPrinted (judgement_status judgement) (judgement_line judgement) (K.taken out.old)
+        (K.taken out.new) (K.faults out.old) (K.faults out.new) result }
+{
+    match judgement.line(alloc) {
+        Ok(line) => print(out, line.as_slice(), judgement.status()),
+        Err(AllocError) => Err(Stop::Failed(Fault::Memory)),
+    }
+}
+
+/// Judges a log of a program, with the options' knee in the pressures of all resources.
+fn audit_program<S: Source>(
+    alloc: Global,
+    trace: &mut S,
+    program: &Program,
+    log: &[u8],
+    options: Audit,
+) -> Result<Judgement, Stop>
+    requires { AreAuditOptions options }
+    ensures { IsJudged (reading_of (program_tree program.now) options) (S.left trace.old) log.now
+        (S.faults trace.old) (S.faults trace.new) result }
+{
+    let knee = options.knee;
+    let call = move |used: u32, cap: u32| -> u32
+        requires { (knee ≤ 999) × IsReading used cap }
+        ensures { result ≡ curve_value (Knee knee) used cap }
+    { past_knee(knee, used, cap) };
+    audit_measured(alloc, trace, program, log, options, call)
+}
+
+/// Judges a log of a program, with this way to measure pressures.
+fn audit_measured<S: Source, C: Measure + Copy + Drop>(
+    alloc: Global,
+    trace: &mut S,
+    program: &Program,
+    log: &[u8],
+    options: Audit,
+    call: C,
+) -> Result<Judgement, Stop>
+    requires curve { AnswersCurve (C.can_measure call) (C.measure_gives call) (Knee options.knee) }
+    requires range { AreAuditOptions options }
+    ensures { IsJudged (reading_of (program_tree program.now) options) (S.left trace.old) log.now
+        (S.faults trace.old) (S.faults trace.new) result }
+{
+    match monitor_of(alloc, run_options(options), call) {
+        Ok(monitor) => {
+            let verdict = audit(alloc, program, limits_of(options), monitor, trace, log);
+            judgement_of(verdict)
+        }
+        Err(AllocError) => Err(Stop::Failed(Fault::Memory)),
+    }
+}
+
+/// What a verdict is to the command.
+fn judgement_of(verdict: Verdict) -> Result<Judgement, Stop>
+    ensures { result ≡ judged_as verdict }
+{
+    match verdict {
+        Verdict::Lawful => Ok(Judgement::Lawful),
+        Verdict::Unlawful { line } => Ok(Judgement::Unlawful { line }),
+        Verdict::Steps { line } => Ok(Judgement::Steps { line }),
+        Verdict::ReadFault => Err(Stop::Failed(Fault::Read)),
+        Verdict::Memory => Err(Stop::Failed(Fault::Memory)),
+    }
+}
+
+/// The limits of an audit.
+fn limits_of(options: Audit) -> AuditPolicy
+    requires { AreAuditOptions options }
+    ensures { result ≡ audit_limits options }
+{
+    let caps = options.caps;
+    AuditPolicy {
+        chunks: options.chunks + options.extra,
+        fuel: options.fuel,
+        backlog: options.backlog,
+        caps,
+        steps: options.steps,
+    }
+}
+
+/// The options of a run that has those of an audit.
+fn run_options(options: Audit) -> Policy
+    ensures { result ≡ as_run options }
+{
+    let caps = options.caps;
+    Policy {
+        chunks: options.chunks,
+        extra: options.extra,
+        extra_bytes: 64,
+        fuel: options.fuel,
+        backlog: options.backlog,
+        caps,
+        high: options.high,
+        low: options.low,
+        rule: Rule::Graph,
+        knee: options.knee,
+    }
+}

@@ -1,0 +1,4 @@
+pub mod Limits
+pub mod RisingLists
+pub mod OnePlan
+pub mod LoweredGraph

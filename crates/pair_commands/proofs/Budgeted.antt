@@ -1,0 +1,33 @@
+-- What the command `budget` does with a pair that is accepted, and with one that isn't.
+use Rattle.std.proofs.Common.{◌≡◌, ℕ, inl, refl, subst}
+use Rattle.std.specs.Prelude.{MatchResult, Result}
+use Rattle.std.specs.Global.{Vec}
+use Rattle.c_tree.specs.ProgramView.{program_tree}
+use Rattle.c_tree.specs.Trees.{ProgramTree}
+use Rattle.c_tree.specs.declared.programs.Program.{Program}
+use Rattle.certificate_check.specs.Accepting.{accepted_tree, IsRefusalOf}
+use Rattle.certificate_check.specs.Acceptance.{Acceptance}
+use Rattle.certificate_check.specs.declared.checking.CheckError.{CheckError}
+use Rattle.certificate_check.specs.declared.checking.CheckError.TheVariants as checking
+use Rattle.command_outcomes.specs.Outcome.{printed}
+use Rattle.command_outcomes.specs.Steps.{IsStop}
+use Rattle.command_outcomes.specs.declared.stops.Stop.{Stop}
+use Rattle.stack_certificate.specs.declared.certificates.Certificate.{Certificate}
+use Rattle.stack_image.specs.declared.images.Image.{Image}
+use Rattle.pair_commands.specs.Budgets.{BudgetsPair}
+use Rattle.pair_commands.specs.RunSteps.{IsUnaccepted}
+
+-- what is made of a pair
+abbrev pub IsMade : ProgramTree → Image → Certificate → Result (Vec ℕ) Stop → Type 0
+IsMade program i c answer = MatchResult answer (λ text. BudgetsPair program i c (printed 0 text.items)) (IsStop (BudgetsPair program i c))
+
+pub budget-of : (accepted : Acceptance) (program : ProgramTree) (i : Image) (c : Certificate) (answer : Result (Vec ℕ) Stop) → accepted_tree accepted ≡ program → accepted.image ≡ i → accepted.certificate ≡ c →
+    IsMade (accepted_tree accepted) accepted.image accepted.certificate answer → IsMade program i c answer
+budget-of accepted program i c answer program_is image_is certificate_is made =
+    subst (λ (x : Certificate). IsMade program i x answer) certificate_is
+    (subst (λ (x : Image). IsMade program x accepted.certificate answer) image_is
+    (subst (λ (x : ProgramTree). IsMade x accepted.image accepted.certificate answer) program_is made))
+
+pub unbudgeted : (program : Program) (i : Image) (c : Certificate) (error : CheckError) (stop : Stop) → IsRefusalOf program i c error → IsUnaccepted error stop → IsStop (BudgetsPair (program_tree program) i c) stop
+unbudgeted program i c (checking.Rejected rule function index p x y) stop refused is = rw is (inl (rule, function, index, refused.1, refl))
+unbudgeted program i c (checking.Memory p x y) stop refused is = rw is tt

@@ -1,0 +1,6 @@
+pub mod Leading
+pub mod Analyses
+pub mod Built
+pub mod OneBuild
+mod Budgeted
+mod Reading

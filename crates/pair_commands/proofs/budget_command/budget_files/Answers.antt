@@ -1,0 +1,22 @@
+use Rattle.std.proofs.Common.{ℕ}
+use Rattle.std.specs.Global.{Vec}
+use Rattle.std.proofs.lemmas.Result.{err_from_is_err_and}
+use Rattle.command_outcomes.specs.Loads.{AfterThree}
+use Rattle.command_outcomes.specs.Outcome.{printed}
+use Rattle.pair_commands.specs.Budgets.{BudgetsBytes}
+use Rattle.command_outcomes.proofs.Follows.{Nothing, three-follow, shelf-stop-follows, after-three}
+use Rattle.pair_commands.proofs.budget_command.budget_files.Goals as goal
+
+pub returns-in_err-files-clause-answer : goal.returns-in_err-files-clause-answer
+returns-in_err-files-clause-answer g c =
+    let p = err_from_is_err_and c.from_residual.result c.from_residual.ensures.1 in
+    let files = g.F.Shelf.files c.args.shelf.now in
+    rw (p.1, p.2) (shelf-stop-follows (AfterThree files c.args.source_name.now c.args.image_name.now c.args.certificate_name.now Nothing) (AfterThree files c.args.source_name.now c.args.image_name.now c.args.certificate_name.now BudgetsBytes)
+    (g.F.Shelf.load_faults c.args.shelf.now) (g.F.Shelf.load_faults c.load_three.new.shelf) c.in_err-files.field-0.0
+    (three-follow files c.args.source_name.now c.args.image_name.now c.args.certificate_name.now BudgetsBytes) c.in_err-files.ensures.answer)
+
+pub returns-clause-answer : goal.returns-clause-answer
+returns-clause-answer g c =
+    let made = rw (c.as_slice.ensures.value, c.as_slice-2.ensures.value, c.as_slice-3.ensures.value) at c.budget_bytes.ensures in
+    after-three (λ (text : Vec ℕ). printed 0 text.items) (g.F.Shelf.files c.args.shelf.now) c.args.source_name.now c.args.image_name.now c.args.certificate_name.now
+    (g.F.Shelf.load_faults c.args.shelf.now) (g.F.Shelf.load_faults c.load_three.new.shelf) c.in_ok-files.files BudgetsBytes c.budget_bytes.result c.in_ok-files.ensures.answer made

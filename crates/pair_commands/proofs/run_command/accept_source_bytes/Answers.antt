@@ -1,0 +1,23 @@
+use Rattle.std.proofs.Common.{inl}
+use Rattle.std.proofs.lemmas.Result.{err_from_is_err_and, MatchResult-weaker}
+use Rattle.c_tree.specs.ProgramView.{program_tree}
+use Rattle.command_outcomes.specs.Outcome.{NoMore}
+use Rattle.command_outcomes.specs.Loads.{AfterSource}
+use Rattle.pair_commands.specs.Runs.{ServesProgram}
+use Rattle.command_outcomes.proofs.Follows.{stop-follows, source-follows}
+use Rattle.pair_commands.proofs.run_command.accept_source_bytes.Goals as goal
+
+pub returns-in_err-program : goal.returns-in_err-program
+returns-in_err-program c = λ trace policy.
+    let p = err_from_is_err_and c.from_residual.result c.from_residual.ensures.1 in
+    let next = ServesProgram trace c.args.sizes policy in
+    rw (p.1, p.2) (stop-follows (AfterSource c.args.source.now NoMore) (AfterSource c.args.source.now next) c.in_err-program.field-0.0
+    (λ o h. source-follows c.args.source.now NoMore next o (λ q x. absurd x) h) c.in_err-program.ensures)
+
+pub returns : goal.returns
+returns c = λ trace policy.
+    let tree = program_tree c.in_ok-program.program in
+    let next = ServesProgram trace c.args.sizes policy in
+    MatchResult-weaker c.accept_program.result (c.accept_program.ensures trace policy)
+    (λ accepted is. ((λ o runs. inl (tree, c.in_ok-program.ensures, is.0 o runs)), is.1))
+    (λ stop h. stop-follows (next tree) (AfterSource c.args.source.now next) stop (λ o y. inl (tree, c.in_ok-program.ensures, y)) h)
