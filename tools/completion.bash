@@ -31,14 +31,18 @@ complete -F _capriccio capriccio ./capriccio
 # The report's own options stand before the words of the run.
 _capriccio_report() {
     local place=1
-    while [ "$place" -lt "$COMP_CWORD" ] && [[ ${COMP_WORDS[place]} == --@(timeline|graph|log) ]]; do
-        place=$((place + 2))
+    while [ "$place" -lt "$COMP_CWORD" ]; do
+        case ${COMP_WORDS[place]} in
+            --why) place=$((place + 1)) ;;
+            --timeline | --graph | --log) place=$((place + 2)) ;;
+            *) break ;;
+        esac
     done
     if [ "$place" -gt "$COMP_CWORD" ]; then
         compopt -o filenames 2>/dev/null
         mapfile -t COMPREPLY < <(compgen -f -- "${COMP_WORDS[COMP_CWORD]}")
     elif [ "$place" -eq "$COMP_CWORD" ]; then
-        mapfile -t COMPREPLY < <(compgen -W "--timeline --graph --log serve run" -- "${COMP_WORDS[COMP_CWORD]}")
+        mapfile -t COMPREPLY < <(compgen -W "--timeline --graph --log --why serve run" -- "${COMP_WORDS[COMP_CWORD]}")
     else
         # The rest is as behind ./capriccio.
         COMP_WORDS=("${COMP_WORDS[0]}" "${COMP_WORDS[@]:place}")

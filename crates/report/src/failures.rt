@@ -36,7 +36,7 @@ impl Failure {
     pub fn line(self) -> &'static [u8] {
         match self {
             Failure::Words => {
-                b"usage: report [--timeline FILE] [--graph FILE] [--log LOG] serve SRC .. | run SRC IMG CRT ..\n"
+                b"usage: report [--timeline FILE] [--graph FILE] [--log LOG] [--why] serve SRC .. | run SRC IMG CRT ..\n"
             }
             Failure::Source => b"report: the source is none\n",
             Failure::Log => b"report: the log is none\n",
@@ -55,10 +55,15 @@ pub fn tell<E: Sink>(err: &mut E, failure: Failure) -> u8 {
     }
 }
 
-pub fn of_memory(_error: AllocError) -> Failure {
-    Failure::Memory
+/// What is answered where a text was put, or couldn't be.
+pub fn of_text(put: Result<(), AllocError>) -> Result<(), Failure> {
+    match put {
+        Ok(()) => Ok(()),
+        Err(AllocError) => Err(Failure::Memory),
+    }
 }
 
+/// Why a source has no places, as a failure.
 pub fn of_places(error: PlacesError) -> Failure {
     match error {
         PlacesError::Source => Failure::Source,
@@ -66,6 +71,7 @@ pub fn of_places(error: PlacesError) -> Failure {
     }
 }
 
+/// Why there is no report, as a failure.
 pub fn of_report(error: ReportError) -> Failure {
     match error {
         ReportError::Log => Failure::Log,

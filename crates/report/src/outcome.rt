@@ -1,12 +1,17 @@
-use crate::failures::{Failure, of_memory, of_places, of_report};
+use crate::failures::{Failure, of_places, of_report, of_text};
 use crate::inputs::{load, read_whole, store};
 use crate::subject::{Subject, subject_of};
 use crate::wanted::Wanted;
 use cap_io::{CleanSink, CleanSource, Shelf, Sink, Source, put_all};
-use report_run::make_run;
-use report_text::{Places, last_line, put_blocking, put_line, put_report, put_times, times_of};
+use choice_reasons::Holders;
+use report_run::{make_once_more, make_run};
+use report_text::{
+    Decided, Places, ReportError, last_line, put_blocking, put_line, put_report, put_times,
+    times_of,
+};
+use run_again::Told;
 use schedule_log::read_entry;
-use std::alloc::Global;
+use std::alloc::{AllocError, Global};
 use stop_report::put_stop;
 use thread_core::World;
 
@@ -22,27 +27,114 @@ pub fn show<F: Shelf, S: Source, K: Sink, E: Sink>(
     out: &mut K,
     err: &mut E,
 ) -> Result<u8, Failure> {
-    let wanted = Wanted::read(alloc, words).map_err(of_memory)?;
-    let trace = read_whole(alloc, input)?;
-    let times = times_of(alloc, trace.as_slice()).map_err(of_memory)?;
-    if let Some(name) = &wanted.log {
-        let log = load(alloc, shelf, name.as_str(), u32::MAX)?;
-        let Some(subject) = subject_of(alloc, &wanted.words)? else {
-            return Err(Failure::Words);
-        };
-        show_log(
-            alloc,
-            &wanted,
-            subject,
-            times.as_slice(),
-            log.as_slice(),
-            None,
-            shelf,
-            out,
-        )?;
-        return Ok(0);
+    match Wanted::read(alloc, words) {
+        Ok(wanted) => {
+            let shown = show_wanted(alloc, &wanted, shelf, input, out, err);
+            drop(wanted);
+            shown
+        }
+        Err(AllocError) => Err(Failure::Memory),
     }
-    show_run(alloc, &wanted, trace, times.as_slice(), shelf, out, err)
+}
+
+/// Shows what is asked for, with the trace that a source gives.
+fn show_wanted<F: Shelf, S: Source, K: Sink, E: Sink>(
+    alloc: Global,
+    wanted: &Wanted,
+    shelf: &mut F,
+    input: &mut S,
+    out: &mut K,
+    err: &mut E,
+) -> Result<u8, Failure> {
+    match read_whole(alloc, input) {
+        Ok(trace) => show_trace(alloc, wanted, trace, shelf, out, err),
+        Err(failure) => Err(failure),
+    }
+}
+
+/// Shows what is asked for, with that trace.
+fn show_trace<F: Shelf, K: Sink, E: Sink>(
+    alloc: Global,
+    wanted: &Wanted,
+    trace: Vec<u8>,
+    shelf: &mut F,
+    out: &mut K,
+    err: &mut E,
+) -> Result<u8, Failure> {
+    match times_of(alloc, trace.as_slice()) {
+        Ok(times) => {
+            let shown = show_timed(alloc, wanted, trace, times.as_slice(), shelf, out, err);
+            drop(times);
+            shown
+        }
+        Err(AllocError) => {
+            drop(trace);
+            Err(Failure::Memory)
+        }
+    }
+}
+
+/// Shows what is asked for, with that trace and the times of its events.
+fn show_timed<F: Shelf, K: Sink, E: Sink>(
+    alloc: Global,
+    wanted: &Wanted,
+    trace: Vec<u8>,
+    times: &[u64],
+    shelf: &mut F,
+    out: &mut K,
+    err: &mut E,
+) -> Result<u8, Failure> {
+    match &wanted.log {
+        Some(name) => {
+            drop(trace);
+            show_stored(alloc, wanted, name.as_str(), times, shelf, out)
+        }
+        None => show_run(alloc, wanted, trace, times, shelf, out, err),
+    }
+}
+
+/// Shows the run of a stored log.
+fn show_stored<F: Shelf, K: Sink>(
+    alloc: Global,
+    wanted: &Wanted,
+    name: &str,
+    times: &[u64],
+    shelf: &mut F,
+    out: &mut K,
+) -> Result<u8, Failure> {
+    match load(alloc, shelf, name, u32::MAX) {
+        Ok(log) => {
+            let shown = show_kept(alloc, wanted, times, log.as_slice(), shelf, out);
+            drop(log);
+            shown
+        }
+        Err(failure) => Err(failure),
+    }
+}
+
+/// Shows a run by its log alone.
+fn show_kept<'a, F: Shelf, K: Sink>(
+    alloc: Global,
+    wanted: &'a Wanted,
+    times: &'a [u64],
+    log: &'a [u8],
+    shelf: &mut F,
+    out: &mut K,
+) -> Result<u8, Failure> {
+    let Some(subject) = subject_of(alloc, &wanted.words)? else {
+        return Err(Failure::Words);
+    };
+    let run = Run {
+        subject,
+        times,
+        log,
+        seen: Seen {
+            world: None,
+            told: None,
+        },
+    };
+    show_log(alloc, wanted, run, shelf, out)?;
+    Ok(0)
 }
 
 /// Makes the run that the words ask for and shows it. Of anything else that they ask for, and of a run that came to no stop, it
@@ -72,44 +164,125 @@ fn show_run<F: Shelf, K: Sink, E: Sink>(
     let shown = show_made(alloc, wanted, times, log.bytes(), &last, shelf, out);
     drop(last);
     drop(log);
-    shown?;
-    Ok(status)
+    match shown {
+        Ok(()) => Ok(status),
+        Err(failure) => Err(failure),
+    }
 }
 
 /// Shows a run that was made, by its log and the world at its stop.
-fn show_made<F: Shelf, K: Sink>(
+fn show_made<'a, F: Shelf, K: Sink>(
     alloc: Global,
-    wanted: &Wanted,
-    times: &[u64],
-    log: &[u8],
-    last: &Option<World>,
+    wanted: &'a Wanted,
+    times: &'a [u64],
+    log: &'a [u8],
+    last: &'a Option<World>,
     shelf: &mut F,
     out: &mut K,
 ) -> Result<(), Failure> {
     match (subject_of(alloc, &wanted.words)?, last) {
         (Some(subject), Some(world)) => {
-            show_log(alloc, wanted, subject, times, log, Some(world), shelf, out)
+            let told = tell_again(alloc, wanted, log, shelf);
+            let seen = Seen {
+                world: Some(world),
+                told: told.as_ref(),
+            };
+            let run = Run {
+                subject,
+                times,
+                log,
+                seen,
+            };
+            let shown = show_log(alloc, wanted, run, shelf, out);
+            drop(told);
+            shown
         }
         _ => put(out, log),
     }
 }
 
-/// Shows a run by its log and, where it is there, the world at its stop.
+/// A run that is shown: what its words say, the times of its trace, its log, and what is seen beside it.
+#[derive(Clone, Copy)]
+struct Run<'a> {
+    subject: Subject<'a>,
+    times: &'a [u64],
+    log: &'a [u8],
+    seen: Seen<'a>,
+}
+
+/// What is seen of a run beside its log: the world at its stop, and what it told when it was made once more.
+#[derive(Clone, Copy)]
+struct Seen<'a> {
+    world: Option<&'a World>,
+    told: Option<&'a Told>,
+}
+
+impl<'a> Seen<'a> {
+    /// What decided the choices, where that is known.
+    fn decided(self) -> Option<Decided> {
+        match self.told {
+            Some(told) => {
+                if told.by_graph {
+                    Some(Decided {
+                        choices: told.choices,
+                        spells: told.spells,
+                        ended: told.ended,
+                    })
+                } else {
+                    None
+                }
+            }
+            None => None,
+        }
+    }
+
+    /// Who holds the resources 1 to 7, where that is known.
+    fn holders(self) -> &'a [Holders] {
+        match self.told {
+            Some(told) => told.holders.as_slice(),
+            None => &[],
+        }
+    }
+}
+
+/// Makes the run once more beside its log, where that is asked for.
+fn tell_again<F: Shelf>(alloc: Global, wanted: &Wanted, log: &[u8], shelf: &mut F) -> Option<Told> {
+    if !wanted.why {
+        return None;
+    }
+    make_once_more(alloc, &wanted.words, shelf, log)
+}
+
+/// Shows a run by its log and, where they are there, the world at its stop and what it told when it was made once more.
 fn show_log<F: Shelf, K: Sink>(
     alloc: Global,
     wanted: &Wanted,
-    subject: Subject,
-    times: &[u64],
-    log: &[u8],
-    world: Option<&World>,
+    run: Run,
     shelf: &mut F,
     out: &mut K,
 ) -> Result<(), Failure> {
-    let places = places_of(alloc, subject, shelf)?;
-    let text = text_of(alloc, &places, subject, times, log, world)?;
-    put(out, text.as_str().as_bytes())?;
-    store_timeline(alloc, wanted, &places, log, shelf)?;
-    store_graph(alloc, wanted, &places, log, shelf)
+    match places_of(alloc, run.subject, shelf) {
+        Ok(places) => {
+            let shown = show_placed(alloc, wanted, &places, run, shelf, out);
+            drop(places);
+            shown
+        }
+        Err(failure) => Err(failure),
+    }
+}
+
+/// Shows a run by the places of its source.
+fn show_placed<F: Shelf, K: Sink>(
+    alloc: Global,
+    wanted: &Wanted,
+    places: &Places,
+    run: Run,
+    shelf: &mut F,
+    out: &mut K,
+) -> Result<(), Failure> {
+    put_text(alloc, places, run, out)?;
+    store_timeline(alloc, wanted, places, run.log, shelf)?;
+    store_graph(alloc, wanted, places, run.log, shelf)
 }
 
 /// Writes all of this.
@@ -122,33 +295,71 @@ fn put<K: Sink>(out: &mut K, bytes: &[u8]) -> Result<(), Failure> {
 
 /// The places of the source of a run.
 fn places_of<F: Shelf>(alloc: Global, subject: Subject, shelf: &mut F) -> Result<Places, Failure> {
-    let source = load(alloc, shelf, subject.source, MOST_BYTES)?;
-    let mut file = String::new(alloc);
-    file.push_str(subject.source).map_err(of_memory)?;
-    Places::read(alloc, file, source).map_err(of_places)
+    match load(alloc, shelf, subject.source, MOST_BYTES) {
+        Ok(source) => places_in(alloc, subject.source, source),
+        Err(failure) => Err(failure),
+    }
 }
 
-/// The report.
-fn text_of(
-    alloc: Global,
-    places: &Places,
-    subject: Subject,
-    times: &[u64],
-    log: &[u8],
-    world: Option<&World>,
-) -> Result<String, Failure> {
-    let mut text = String::new(alloc);
-    let left = put_report(alloc, &mut text, places, times, log, subject.options).map_err(
-        of_report,
-    )?;
-    let line = last_line(log);
-    if let Some(world) = world {
-        if let Ok(last) = read_entry(line) {
-            put_stop(alloc, &mut text, places, world, left, &last).map_err(of_memory)?;
+/// The places of a source, in the file of that name.
+fn places_in(alloc: Global, name: &str, source: Vec<u8>) -> Result<Places, Failure> {
+    let mut file = String::new(alloc);
+    match file.push_str(name) {
+        Ok(()) => match Places::read(alloc, file, source) {
+            Ok(places) => Ok(places),
+            Err(error) => Err(of_places(error)),
+        },
+        Err(AllocError) => {
+            drop(file);
+            drop(source);
+            Err(Failure::Memory)
         }
     }
-    put_line(&mut text, line).map_err(of_memory)?;
-    Ok(text)
+}
+
+/// Writes the report.
+fn put_text<K: Sink>(alloc: Global, places: &Places, run: Run, out: &mut K) -> Result<(), Failure> {
+    let mut text = String::new(alloc);
+    let shown = match write_text(alloc, &mut text, places, run) {
+        Ok(()) => put(out, text.as_str().as_bytes()),
+        Err(failure) => Err(failure),
+    };
+    drop(text);
+    shown
+}
+
+/// Appends the report.
+fn write_text(alloc: Global, text: &mut String, places: &Places, run: Run) -> Result<(), Failure> {
+    let decided = run.seen.decided();
+    match put_report(
+        alloc,
+        text,
+        places,
+        run.times,
+        run.log,
+        run.subject.options,
+        decided,
+    ) {
+        Ok(left) => of_text(write_end(alloc, text, places, run, left)),
+        Err(error) => Err(of_report(error)),
+    }
+}
+
+/// Appends where the run stopped, of whose threads that ran so many are left, and the last line of its log.
+fn write_end(
+    alloc: Global,
+    text: &mut String,
+    places: &Places,
+    run: Run,
+    left: u64,
+) -> Result<(), AllocError> {
+    let line = last_line(run.log);
+    if let Some(world) = run.seen.world {
+        if let Ok(last) = read_entry(line) {
+            put_stop(alloc, text, places, world, left, &last, run.seen.holders())?;
+        }
+    }
+    put_line(text, line)
 }
 
 /// Stores the timeline, where it is asked for.
@@ -162,10 +373,26 @@ fn store_timeline<F: Shelf>(
     match &wanted.timeline {
         Some(name) => {
             let mut text = String::new(alloc);
-            put_times(alloc, &mut text, places, log).map_err(of_report)?;
-            store(alloc, shelf, name.as_str(), text.as_str())
+            let put = put_times(alloc, &mut text, places, log);
+            let stored = store_put(alloc, shelf, name.as_str(), put, text.as_str());
+            drop(text);
+            stored
         }
         None => Ok(()),
+    }
+}
+
+/// Stores a picture that was put, where it could be.
+fn store_put<F: Shelf>(
+    alloc: Global,
+    shelf: &mut F,
+    name: &str,
+    put: Result<(), ReportError>,
+    text: &str,
+) -> Result<(), Failure> {
+    match put {
+        Ok(()) => store(alloc, shelf, name, text),
+        Err(error) => Err(of_report(error)),
     }
 }
 
@@ -181,8 +408,10 @@ fn store_graph<F: Shelf>(
         Some(name) => {
             let mut text = String::new(alloc);
             let is_dot = name.as_str().ends_with(".dot");
-            put_blocking(alloc, &mut text, places, log, is_dot).map_err(of_report)?;
-            store(alloc, shelf, name.as_str(), text.as_str())
+            let put = put_blocking(alloc, &mut text, places, log, is_dot);
+            let stored = store_put(alloc, shelf, name.as_str(), put, text.as_str());
+            drop(text);
+            stored
         }
         None => Ok(()),
     }

@@ -1,11 +1,14 @@
 use std::alloc::{AllocError, Global};
 
-/// What is asked for: the files that the pictures go to, the file of a stored log, and the words of the run.
+/// What is asked for: the files that the pictures go to, the file of a stored log, whether the run is made once more, and the words
+/// of the run.
 #[derive(Drop)]
 pub struct Wanted {
     pub timeline: Option<String>,
     pub graph: Option<String>,
     pub log: Option<String>,
+    /// Whether the run is made once more beside its log, for what decided its choices and who holds what.
+    pub why: bool,
     pub words: Vec<String>,
 }
 
@@ -27,13 +30,25 @@ impl Wanted {
             timeline: None,
             graph: None,
             log: None,
+            why: false,
             words: Vec::new(alloc),
         };
+        match wanted.take_all(words) {
+            Ok(()) => Ok(wanted),
+            Err(error) => {
+                drop(wanted);
+                Err(error)
+            }
+        }
+    }
+
+    /// Takes all words.
+    fn take_all(&mut self, words: Vec<String>) -> Result<(), AllocError> {
         let mut next = Next::Any;
         for word in words {
-            next = wanted.take(next, word)?;
+            next = self.take(next, word)?;
         }
-        Ok(wanted)
+        Ok(())
     }
 
     /// Takes a word, and says what the next one is.
@@ -65,6 +80,10 @@ impl Wanted {
             "--timeline" => Ok(Next::Timeline),
             "--graph" => Ok(Next::Graph),
             "--log" => Ok(Next::Log),
+            "--why" => {
+                self.why = true;
+                Ok(Next::Any)
+            }
             _ => {
                 self.words.push(word)?;
                 Ok(Next::Word)

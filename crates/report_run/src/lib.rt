@@ -2,9 +2,10 @@
 //
 // In: the words of a run, a shelf of files, a trace, a place for the log, and standard error. Out: the status, and the world at the
 // stop where the run came to one. `make_run` is `capriccio` of the crate `capriccio_call`, with no clause of its own, and `words_of` is
-// that of the same crate: so the program above, of whose text no clause speaks, is proved without the clauses of the run.
+// that of the same crate; `make_once_more` is that of `run_start`. So the program above, of whose text no clause speaks, is proved
+// without the clauses of the run.
 #![tactic(auto)]
 
 mod run;
 
-pub use run::{make_run, words_of};
+pub use run::{make_once_more, make_run, words_of};

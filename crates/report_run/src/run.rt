@@ -1,5 +1,6 @@
 use cap_io::{Shelf, Sink, Source};
 use capriccio_call::capriccio;
+use run_again::Told;
 use std::alloc::{AllocError, Global};
 use std::rt::Env;
 use thread_core::World;
@@ -22,4 +23,14 @@ pub fn make_run<F: Shelf, S: Source, K: Sink, E: Sink>(
 /// The words after the program's name, as `capriccio` is handed them.
 pub fn words_of<E: Env>(environment: &E, alloc: Global) -> Result<Vec<String>, AllocError> {
     capriccio_call::words_of(environment, alloc)
+}
+
+/// What the run of these words tells when it is made once more beside its log, where it does: `make_once_more` of `run_start`.
+pub fn make_once_more<F: Shelf>(
+    alloc: Global,
+    words: &Vec<String>,
+    shelf: &mut F,
+    log: &[u8],
+) -> Option<Told> {
+    run_start::make_once_more(alloc, words, shelf, log)
 }

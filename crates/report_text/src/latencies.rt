@@ -1,6 +1,7 @@
-use crate::lines::{RequestsLine, SpreadPart};
-use order_statistics::spread_of;
+use crate::lines::RequestsLine;
+use order_statistics::{Spread, spread_of};
 use run_numbers::Numbers;
+use run_pictures::{Piece, put_all};
 use std::alloc::{AllocError, Global};
 
 /// The request with the greatest latency: when it arrived, and the thread that took it.
@@ -106,18 +107,44 @@ fn put_latency(text: &mut String, which: &str, mut found: Latencies) -> Result<(
     let Some(spread) = spread_of(found.ticks.as_mut_slice()) else {
         return Ok(());
     };
-    let part = SpreadPart {
-        least: spread.least,
-        median: spread.median,
-        ninetieth: spread.ninetieth,
-        ninety_ninth: spread.ninety_ninth,
-        greatest: spread.greatest,
-    };
-    write!(text, "latency to the {which} answer: {part}")?;
-    if let Some(slow) = found.slowest {
-        let arrived = slow.arrived;
-        let thread = slow.thread;
-        write!(text, " (arrived {arrived}, thread {thread})")?;
+    put_spread(text, which, spread)?;
+    match found.slowest {
+        Some(slow) => put_slow(text, slow),
+        None => text.push_str("\n"),
     }
-    text.push_str("\n")
+}
+
+/// Appends how latencies are spread, in ticks.
+fn put_spread(text: &mut String, which: &str, spread: Spread) -> Result<(), AllocError> {
+    put_all(
+        text,
+        &[
+            Piece::Text("latency to the "),
+            Piece::Text(which),
+            Piece::Text(" answer: least "),
+            Piece::Number(spread.least),
+            Piece::Text(", median "),
+            Piece::Number(spread.median),
+            Piece::Text(", 90th "),
+            Piece::Number(spread.ninetieth),
+            Piece::Text(", 99th "),
+            Piece::Number(spread.ninety_ninth),
+            Piece::Text(", greatest "),
+            Piece::Number(spread.greatest),
+        ],
+    )
+}
+
+/// Appends the request that took longest, and the end of the line.
+fn put_slow(text: &mut String, slow: Slowest) -> Result<(), AllocError> {
+    put_all(
+        text,
+        &[
+            Piece::Text(" (arrived "),
+            Piece::Number(slow.arrived),
+            Piece::Text(", thread "),
+            Piece::Number(u64::from(slow.thread)),
+            Piece::Text(")\n"),
+        ],
+    )
 }

@@ -29,30 +29,6 @@ impl fmt::Display for RequestsLine {
     }
 }
 
-/// How latencies are spread, in ticks.
-#[derive(Clone, Copy)]
-pub struct SpreadPart {
-    pub least: u64,
-    pub median: u64,
-    pub ninetieth: u64,
-    pub ninety_ninth: u64,
-    pub greatest: u64,
-}
-
-impl fmt::Display for SpreadPart {
-    fn fmt<W: fmt::Write>(&self, f: &mut fmt::Formatter<W>) -> fmt::Result {
-        let least = self.least;
-        let median = self.median;
-        let ninetieth = self.ninetieth;
-        let ninety_ninth = self.ninety_ninth;
-        let greatest = self.greatest;
-        write!(
-            f,
-            "least {least}, median {median}, 90th {ninetieth}, 99th {ninety_ninth}, greatest {greatest}"
-        )
-    }
-}
-
 /// The waits at a place: how many, and how long in ticks.
 #[derive(Clone, Copy)]
 pub struct WaitsPart {
@@ -98,26 +74,6 @@ impl fmt::Display for ChunksLine {
         write!(
             f,
             "chunks: at most {most_held} of {chunks} held between segments"
-        )
-    }
-}
-
-/// How often the gate was closed, for how many ticks, and at how many choices it held a request back.
-#[derive(Clone, Copy)]
-pub struct GateLine {
-    pub times: u64,
-    pub ticks: u64,
-    pub held_back: u64,
-}
-
-impl fmt::Display for GateLine {
-    fn fmt<W: fmt::Write>(&self, f: &mut fmt::Formatter<W>) -> fmt::Result {
-        let times = self.times;
-        let ticks = self.ticks;
-        let held_back = self.held_back;
-        write!(
-            f,
-            "gate: closed {times} times, for {ticks} ticks in all, held a request back at {held_back} choices"
         )
     }
 }

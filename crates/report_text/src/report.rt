@@ -1,12 +1,14 @@
 use crate::latencies::put_requests;
 use crate::left::put_left;
-use crate::lines::{ChunksLine, GateLine};
+use crate::lines::ChunksLine;
 use crate::places::Places;
 use crate::waits::put_waits;
 use cap_word::SiteKey;
+use choice_reasons::Choices;
 use gate_spells::{Marks, Spells};
 use run_history::Happening;
-use run_numbers::{Numbers, ReadError, Takes, Watch, WatchError, numbers_of};
+use run_numbers::{ReadError, Takes, Watch, WatchError, numbers_of};
+use run_pictures::{Piece, put_all};
 use schedule_log::{Entry, Item};
 use std::alloc::{AllocError, Global};
 
@@ -17,6 +19,17 @@ pub enum ReportError {
     Log,
     /// There is no memory.
     Memory,
+}
+
+/// What a run by the blocking graph tells that was made once more.
+#[derive(Clone, Copy)]
+pub struct Decided {
+    /// What decided the choices.
+    pub choices: Choices,
+    /// When the gate was closed, up to the last choice.
+    pub spells: Spells,
+    /// The clock at which the last segment ended.
+    pub ended: u64,
 }
 
 /// What a report takes from the options of the run.
@@ -135,7 +148,8 @@ fn is_accept_at(accepts: &[bool], key: &SiteKey) -> bool {
 }
 
 /// Appends the report on the run of a source with this log and these options, up to what is left at its end. `times` are the times of
-/// the trace's events, in order. The answer is how many of the threads that ran are left.
+/// the trace's events, in order, and `decided` is what the run tells where it was made once more. The answer is how many of the
+/// threads that ran are left.
 pub fn put_report(
     alloc: Global,
     text: &mut String,
@@ -143,6 +157,7 @@ pub fn put_report(
     times: &[u64],
     log: &[u8],
     options: Options,
+    decided: Option<Decided>,
 ) -> Result<u64, ReportError> {
     let accepts = places.accepts(alloc).map_err(of_memory)?;
     let at_take = places.takes(alloc).map_err(of_memory)?;
@@ -158,7 +173,7 @@ pub fn put_report(
     let numbers = &reading.numbers;
     put_requests(alloc, text, numbers, times).map_err(of_memory)?;
     put_waits(alloc, text, places, numbers.waits.as_slice()).map_err(of_memory)?;
-    put_choices(text, numbers, &course, options).map_err(of_memory)?;
+    put_choices(text, numbers.most_held, &course, options, decided).map_err(of_memory)?;
     put_left(
         text,
         places,
@@ -185,36 +200,97 @@ fn of_memory(_error: AllocError) -> ReportError {
 /// Appends the lines on chunks, choices and the gate.
 fn put_choices(
     text: &mut String,
-    numbers: &Numbers,
+    most_held: u32,
     course: &Course,
     options: Options,
+    decided: Option<Decided>,
 ) -> Result<(), AllocError> {
-    let line = ChunksLine {
-        most_held: numbers.most_held,
-        chunks: options.marks.chunks,
-    };
-    let choices = course.choices;
-    write!(text, "{line}\nchoices: {choices}\n")?;
-    if options.has_caps {
-        return Ok(());
+    put_chunks(text, most_held, options.marks.chunks, course.choices)?;
+    put_reasons(text, decided)?;
+    if !options.has_caps {
+        return put_gate(text, course.spells, course.ended, Some(course.held_back));
     }
-    put_gate(text, course)
+    match decided {
+        Some(known) => put_gate(text, known.spells, known.ended, None),
+        None => Ok(()),
+    }
 }
 
-/// Appends the line on the gate.
-fn put_gate(text: &mut String, course: &Course) -> Result<(), AllocError> {
-    let spells = course.spells;
-    let is_open = spells.is_open();
-    let since = spells.since.unwrap_or(course.ended);
-    let line = GateLine {
-        times: spells.times,
-        ticks: spells
-            .ticks
-            .saturating_add(course.ended.saturating_sub(since)),
-        held_back: course.held_back,
-    };
-    let end = if is_open { "" } else { ", closed at the end" };
-    write!(text, "{line}{end}\n")
+/// Appends the line on chunks, and how many choices there were.
+fn put_chunks(
+    text: &mut String,
+    most_held: u32,
+    chunks: u32,
+    choices: u64,
+) -> Result<(), AllocError> {
+    let line = ChunksLine { most_held, chunks };
+    write!(text, "{line}\nchoices: {choices}")
+}
+
+/// Appends what decided the choices, where that is known, and the end of the line.
+fn put_reasons(text: &mut String, decided: Option<Decided>) -> Result<(), AllocError> {
+    match decided {
+        Some(known) => put_all(
+            text,
+            &[
+                Piece::Text(", by score "),
+                Piece::Number(known.choices.by_score),
+                Piece::Text(", by the gate "),
+                Piece::Number(known.choices.by_gate),
+                Piece::Text(", by turn "),
+                Piece::Number(known.choices.by_turn),
+                Piece::Text("\n"),
+            ],
+        ),
+        None => text.push_str("\n"),
+    }
+}
+
+/// Appends the line on the gate, in a run whose last segment ended then. At how many choices it held a request back isn't always known.
+fn put_gate(
+    text: &mut String,
+    spells: Spells,
+    ended: u64,
+    held_back: Option<u64>,
+) -> Result<(), AllocError> {
+    let since = spells.since.unwrap_or(ended);
+    let ticks = spells.ticks.saturating_add(ended.saturating_sub(since));
+    put_spells(text, spells.times, ticks)?;
+    put_held_back(text, held_back)?;
+    text.push_str(if spells.is_open() {
+        "\n"
+    } else {
+        ", closed at the end\n"
+    })
+}
+
+/// Appends how often the gate was closed, and for how many ticks.
+fn put_spells(text: &mut String, times: u64, ticks: u64) -> Result<(), AllocError> {
+    put_all(
+        text,
+        &[
+            Piece::Text("gate: closed "),
+            Piece::Number(times),
+            Piece::Text(" times, for "),
+            Piece::Number(ticks),
+            Piece::Text(" ticks in all"),
+        ],
+    )
+}
+
+/// Appends at how many choices the gate held a request back, where that is known.
+fn put_held_back(text: &mut String, held_back: Option<u64>) -> Result<(), AllocError> {
+    match held_back {
+        Some(choices) => put_all(
+            text,
+            &[
+                Piece::Text(", held a request back at "),
+                Piece::Number(choices),
+                Piece::Text(" choices"),
+            ],
+        ),
+        None => Ok(()),
+    }
 }
 
 /// The last line of a log. It looks back from the end, up to the line feed before it.

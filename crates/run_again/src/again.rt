@@ -92,8 +92,23 @@ pub fn make_again<C: Measure + Drop>(
     }
 }
 
-fn of_memory(_error: AllocError) -> AgainError {
-    AgainError::Memory
+/// Appends one more.
+fn push<T: Drop>(all: &mut Vec<T>, one: T) -> Result<(), AgainError> {
+    match all.push(one) {
+        Ok(()) => Ok(()),
+        Err(_) => Err(AgainError::Memory),
+    }
+}
+
+/// Takes what a segment that ran took of that resource, and gave back, into who holds it.
+fn add_held(holders: &mut Holders, ran: &Ran, resource: usize) -> Result<(), AgainError> {
+    let before = ran.before.get(resource).copied().unwrap_or(0);
+    let after = ran.after.get(resource).copied().unwrap_or(0);
+    match holders.add(ran.thread.number, before, after) {
+        Ok(()) => Ok(()),
+        Err(HoldersError::Count) => Err(AgainError::Apart),
+        Err(HoldersError::Memory) => Err(AgainError::Memory),
+    }
 }
 
 impl<C: Measure + Drop> Again<C> {
@@ -125,21 +140,31 @@ impl<C: Measure + Drop> Again<C> {
     /// Nobody holds anything, and the first thread waits.
     fn begin(&mut self, alloc: Global, main: ThreadId) -> Result<(), AgainError> {
         for _ in 1..8u32 {
-            self.holders
-                .push(Holders::new(alloc))
-                .map_err(|_| AgainError::Memory)?;
+            push(&mut self.holders, Holders::new(alloc))?;
         }
         self.start(main)
     }
 
     /// What was told.
     fn told(self) -> Told {
+        let Again {
+            choosing,
+            by_graph,
+            spells,
+            holders,
+            threads,
+            ended,
+            ..
+        } = self;
+        let choices = choosing.choices();
+        drop(choosing);
+        drop(threads);
         Told {
-            by_graph: self.by_graph,
-            choices: self.choosing.choices(),
-            spells: self.spells,
-            ended: self.ended,
-            holders: self.holders,
+            by_graph,
+            choices,
+            spells,
+            ended,
+            holders,
         }
     }
 
@@ -207,11 +232,14 @@ impl<C: Measure + Drop> Again<C> {
             return Err(AgainError::Apart);
         };
         let mut started = Vec::new(alloc);
-        let goes = match run_segment(world, id, &mut started) {
+        let goes = run_segment(world, id, &mut started);
+        let joined = self.start_all(started.as_slice());
+        drop(started);
+        joined?;
+        let goes = match goes {
             Ok(goes) => goes,
-            Err(error) => return Err(of_memory(error)),
+            Err(AllocError) => return Err(AgainError::Memory),
         };
-        self.start_all(started.as_slice())?;
         self.ended = world.clock();
         let after = uses_of(world, &caps);
         let ran = Ran {
@@ -260,10 +288,12 @@ impl<C: Measure + Drop> Again<C> {
 
     /// A thread was started.
     fn start(&mut self, thread: ThreadId) -> Result<(), AgainError> {
-        self.choosing.wait(START, thread).map_err(of_memory)?;
-        match self.threads.insert(thread.number, thread) {
-            Ok(_) => Ok(()),
-            Err(_) => Err(AgainError::Memory),
+        match self.choosing.wait(START, thread) {
+            Ok(()) => match self.threads.insert(thread.number, thread) {
+                Ok(_) => Ok(()),
+                Err(_) => Err(AgainError::Memory),
+            },
+            Err(AllocError) => Err(AgainError::Memory),
         }
     }
 
@@ -271,7 +301,10 @@ impl<C: Measure + Drop> Again<C> {
     fn block(&mut self, node: u32, cost: u64) -> Result<(), AgainError> {
         self.record(node, cost)?;
         match self.ran {
-            Some(ran) => self.choosing.wait(node, ran.thread).map_err(of_memory),
+            Some(ran) => match self.choosing.wait(node, ran.thread) {
+                Ok(()) => Ok(()),
+                Err(AllocError) => Err(AgainError::Memory),
+            },
             None => Err(AgainError::Apart),
         }
     }
@@ -302,13 +335,7 @@ impl<C: Measure + Drop> Again<C> {
     fn hold(&mut self, ran: &Ran) -> Result<(), AgainError> {
         let mut resource: usize = 1;
         for holders in self.holders.as_mut_slice() {
-            let before = ran.before.get(resource).copied().unwrap_or(0);
-            let after = ran.after.get(resource).copied().unwrap_or(0);
-            match holders.add(ran.thread.number, before, after) {
-                Ok(()) => (),
-                Err(HoldersError::Count) => return Err(AgainError::Apart),
-                Err(HoldersError::Memory) => return Err(AgainError::Memory),
-            }
+            add_held(holders, ran, resource)?;
             resource = resource.saturating_add(1);
         }
         Ok(())

@@ -1,4 +1,4 @@
-use crate::names::put_quoted;
+use crate::pieces::{Piece, put_all};
 use schedule_log::Averages;
 use std::alloc::AllocError;
 
@@ -22,33 +22,56 @@ pub fn put_graph(
     edges: &[GraphEdge],
 ) -> Result<(), AllocError> {
     text.push_str("digraph blocking {\n  node [shape=box];\n")?;
-    let mut node: u64 = 0;
-    for name in names {
-        write!(text, "  n{node} [label=\"")?;
-        put_quoted(text, name.as_str())?;
-        text.push_str("\"];\n")?;
-        node = node.saturating_add(1);
-    }
+    put_nodes(text, names)?;
     for edge in edges {
         put_edge(text, edge)?;
     }
     text.push_str("}\n")
 }
 
+/// Appends the boxes of the nodes.
+fn put_nodes(text: &mut String, names: &[String]) -> Result<(), AllocError> {
+    let mut node: u64 = 0;
+    for name in names {
+        put_node(text, node, name.as_str())?;
+        node = node.saturating_add(1);
+    }
+    Ok(())
+}
+
+/// Appends the box of a node.
+fn put_node(text: &mut String, node: u64, name: &str) -> Result<(), AllocError> {
+    put_all(
+        text,
+        &[
+            Piece::Text("  n"),
+            Piece::Number(node),
+            Piece::Text(" [label=\""),
+            Piece::Quoted(name),
+            Piece::Text("\"];\n"),
+        ],
+    )
+}
+
 /// Appends an arrow.
 fn put_edge(text: &mut String, edge: &GraphEdge) -> Result<(), AllocError> {
-    let from = edge.from;
-    let to = edge.to;
-    write!(text, "  n{from} -> n{to} [label=\"")?;
+    put_all(
+        text,
+        &[
+            Piece::Text("  n"),
+            Piece::Number(u64::from(edge.from)),
+            Piece::Text(" -> n"),
+            Piece::Number(u64::from(edge.to)),
+            Piece::Text(" [label=\""),
+        ],
+    )?;
     put_label(text, edge)?;
     text.push_str("\"];\n")
 }
 
 /// Appends the label of an edge: its count, the whole part of its average cost, and the average changes that aren't 0.
 pub(crate) fn put_label(text: &mut String, edge: &GraphEdge) -> Result<(), AllocError> {
-    let count = edge.count;
-    let cost = edge.cost / 256;
-    write!(text, "{count} x {cost}")?;
+    put_count(text, edge.count, edge.cost / 256)?;
     let mut resource: u64 = 0;
     for average in edge.changes.values() {
         if *average != 0 {
@@ -59,19 +82,50 @@ pub(crate) fn put_label(text: &mut String, edge: &GraphEdge) -> Result<(), Alloc
     Ok(())
 }
 
-/// Appends an average change in units, with two digits behind the point: of the chunks, or of another resource.
+/// Appends a count and a cost.
+fn put_count(text: &mut String, count: u64, cost: i128) -> Result<(), AllocError> {
+    put_all(
+        text,
+        &[
+            Piece::Number(count),
+            Piece::Text(if cost < 0 { " x -" } else { " x " }),
+            Piece::Wide(cost.unsigned_abs()),
+        ],
+    )
+}
+
+/// Appends an average change in units: of the chunks, or of another resource.
 fn put_change(text: &mut String, resource: u64, average: i128) -> Result<(), AllocError> {
-    let sign = if average < 0 { "-" } else { "+" };
-    let size = average.unsigned_abs();
-    let whole = size / 256;
-    let tenth = size % 256 * 10 / 256;
-    let hundredth = size % 256 * 100 / 256 % 10;
+    put_resource(text, resource)?;
+    put_average(text, average)
+}
+
+/// Appends the name of a resource.
+fn put_resource(text: &mut String, resource: u64) -> Result<(), AllocError> {
     if resource == 0 {
-        write!(text, ", chunks {sign}{whole}.{tenth}{hundredth}")
-    } else {
-        write!(
-            text,
-            ", resource {resource} {sign}{whole}.{tenth}{hundredth}"
-        )
+        return text.push_str(", chunks ");
     }
+    put_all(
+        text,
+        &[
+            Piece::Text(", resource "),
+            Piece::Number(resource),
+            Piece::Text(" "),
+        ],
+    )
+}
+
+/// Appends an average with its sign, and with two digits behind the point.
+fn put_average(text: &mut String, average: i128) -> Result<(), AllocError> {
+    let size = average.unsigned_abs();
+    put_all(
+        text,
+        &[
+            Piece::Text(if average < 0 { "-" } else { "+" }),
+            Piece::Wide(size / 256),
+            Piece::Text("."),
+            Piece::Wide(size % 256 * 10 / 256),
+            Piece::Wide(size % 256 * 100 / 256 % 10),
+        ],
+    )
 }

@@ -97,18 +97,30 @@ impl Rows {
 /// Extends a row by a mark. Marks meet in at most one place: what is done there first is shown, and a mark that has no place of its
 /// own isn't kept.
 fn extend(row: &mut Vec<Mark>, mark: Mark) -> Result<(), AllocError> {
-    let Some(last) = row.last_mut() else {
-        row.push(mark)?;
-        return Ok(());
-    };
+    match row.last_mut() {
+        None => push(row, mark),
+        Some(last) => match follow(last, mark) {
+            Some(rest) => push(row, rest),
+            None => Ok(()),
+        },
+    }
+}
+
+/// What is left of a mark behind the last one before it: nothing where that one has its place, or does the same and so is extended.
+fn follow(last: &mut Mark, mark: Mark) -> Option<Mark> {
     if last.to >= mark.to {
-        return Ok(());
+        return None;
     }
     if last.doing == mark.doing {
         last.to = mark.to;
-        return Ok(());
+        return None;
     }
     let from = mark.from.max(last.to.saturating_add(1));
-    row.push(Mark { from, ..mark })?;
+    Some(Mark { from, ..mark })
+}
+
+/// Appends a mark to a row.
+fn push(row: &mut Vec<Mark>, mark: Mark) -> Result<(), AllocError> {
+    row.push(mark)?;
     Ok(())
 }

@@ -1,8 +1,10 @@
 use crate::code::{function_at, operation_at, site_of};
 use crate::stacks::{below, return_of};
 use cap_word::{Stop, ThreadId, TrapKind};
+use choice_reasons::Holders;
 use flat_code::Op;
 use report_text::Places;
+use run_pictures::{Piece, put_all};
 use schedule_log::{Entry, StopLine};
 use stack_certificate::FunctionFact;
 use std::alloc::{AllocError, Global};
@@ -11,6 +13,9 @@ use thread_core::{Standing, World};
 /// The most threads that live.
 const MOST_THREADS: u32 = 65_535;
 
+/// The most threads that are listed.
+const LISTED: u64 = 20;
+
 /// The most calls above that are shown.
 const MOST_CALLS: u32 = 8;
 
@@ -18,7 +23,8 @@ const MOST_CALLS: u32 = 8;
 const END_STUB: u32 = 0x1000;
 
 /// Appends what the world at a stop tells beyond the log: how many threads never ran, of which `left` are left that did; the
-/// resources in use; and where the segment was that the last line of the log cuts, if it does.
+/// resources in use, with those who hold the resources 1 to 7 where that is known; and where the segment was that the last line of
+/// the log cuts, if it does.
 pub fn put_stop(
     alloc: Global,
     text: &mut String,
@@ -26,13 +32,10 @@ pub fn put_stop(
     world: &World,
     left: u64,
     last: &Entry,
+    holders: &[Holders],
 ) -> Result<(), AllocError> {
-    let live = u64::from(world.live());
-    if live > left {
-        let never = live - left;
-        write!(text, "left: {never} threads that never ran\n")?;
-    }
-    put_uses(text, world)?;
+    put_never(text, u64::from(world.live()).saturating_sub(left))?;
+    put_uses(text, world, holders)?;
     match last {
         Entry::Stop(StopLine::Cut { thread, stop, .. }) => {
             put_cut(alloc, text, places, world, *thread, *stop)
@@ -41,16 +44,103 @@ pub fn put_stop(
     }
 }
 
-/// Appends a line for each resource that has a cap and is in use.
-fn put_uses(text: &mut String, world: &World) -> Result<(), AllocError> {
+/// Appends how many threads never ran, where there are any.
+fn put_never(text: &mut String, never: u64) -> Result<(), AllocError> {
+    if never == 0 {
+        return Ok(());
+    }
+    put_all(
+        text,
+        &[
+            Piece::Text("left: "),
+            Piece::Number(never),
+            Piece::Text(" threads that never ran\n"),
+        ],
+    )
+}
+
+/// Appends a line for each resource that has a cap and is in use, with who holds it where that is known.
+fn put_uses(text: &mut String, world: &World, holders: &[Holders]) -> Result<(), AllocError> {
     for resource in 1..8u32 {
         let used = world.used(resource);
-        let cap = world.cap(resource);
         if used > 0 {
-            write!(text, "resource {resource}: {used} of {cap} in use\n")?;
+            put_use(text, resource, used, world.cap(resource))?;
+            put_held(text, holders.get(resource as usize - 1))?;
         }
     }
     Ok(())
+}
+
+/// Appends how much of a resource is in use.
+fn put_use(text: &mut String, resource: u32, used: u32, cap: u32) -> Result<(), AllocError> {
+    put_all(
+        text,
+        &[
+            Piece::Text("resource "),
+            Piece::Number(u64::from(resource)),
+            Piece::Text(": "),
+            Piece::Number(u64::from(used)),
+            Piece::Text(" of "),
+            Piece::Number(u64::from(cap)),
+            Piece::Text(" in use"),
+        ],
+    )
+}
+
+/// Appends who holds units of a resource, where that is known, and the end of the line.
+fn put_held(text: &mut String, holders: Option<&Holders>) -> Result<(), AllocError> {
+    if let Some(held) = holders {
+        put_holders(text, held)?;
+    }
+    text.push_str("\n")
+}
+
+/// Appends who holds units of a resource, the first 20 threads of them. What a thread gave back beyond what it took was another's.
+fn put_holders(text: &mut String, holders: &Holders) -> Result<(), AllocError> {
+    let mut shown: u64 = 0;
+    for (thread, units) in &holders.held {
+        if *units != 0 {
+            if shown < LISTED {
+                put_holder(text, shown == 0, u64::from(*thread), *units)?;
+            }
+            shown = shown.saturating_add(1);
+        }
+    }
+    put_others(text, shown.saturating_sub(LISTED))
+}
+
+/// Appends a thread that holds units of a resource.
+fn put_holder(
+    text: &mut String,
+    is_first: bool,
+    thread: u64,
+    units: i64,
+) -> Result<(), AllocError> {
+    put_all(
+        text,
+        &[
+            Piece::Text(if is_first { ": " } else { ", " }),
+            Piece::Text(if units < 0 { "-" } else { "" }),
+            Piece::Number(units.unsigned_abs()),
+            Piece::Text(" by thread "),
+            Piece::Number(thread),
+        ],
+    )
+}
+
+/// Appends how many more threads hold units, where there are any.
+fn put_others(text: &mut String, more: u64) -> Result<(), AllocError> {
+    if more == 0 {
+        return Ok(());
+    }
+    put_all(
+        text,
+        &[
+            Piece::Text(", the others by "),
+            Piece::Number(more),
+            Piece::Text(" more threads"),
+        ],
+    )
 }
 
 /// Appends where the segment of a thread was cut.
@@ -62,28 +152,63 @@ fn put_cut(
     thread: u32,
     stop: Stop,
 ) -> Result<(), AllocError> {
-    write!(text, "stopped: thread {thread}")?;
-    if let Some(standing) = standing_of(world, thread) {
-        if let Some((function, fact)) = function_at(world.accepted(), standing.pc) {
-            text.push_str(" in ")?;
-            places.put_function(text, function)?;
-            let op = operation_at(world.accepted(), function, fact, standing.pc);
-            put_reason(text, stop, standing)?;
-            put_where(
-                alloc,
-                text,
-                places,
-                function,
-                index_bound(stop, standing),
-                op,
-            )?;
-            text.push_str("\n")?;
-            if is_in_its_frame(stop, op) {
-                put_calls(text, places, world, standing.sp, fact)?;
-            }
-            return Ok(());
-        }
+    put_all(
+        text,
+        &[
+            Piece::Text("stopped: thread "),
+            Piece::Number(u64::from(thread)),
+        ],
+    )?;
+    match standing_of(world, thread) {
+        Some(standing) => put_standing(alloc, text, places, world, stop, standing),
+        None => text.push_str("\n"),
     }
+}
+
+/// Appends where a thread that was cut stands.
+fn put_standing(
+    alloc: Global,
+    text: &mut String,
+    places: &Places,
+    world: &World,
+    stop: Stop,
+    standing: Standing,
+) -> Result<(), AllocError> {
+    match function_at(world.accepted(), standing.pc) {
+        Some((function, fact)) => {
+            let op = operation_at(world.accepted(), function, fact, standing.pc);
+            put_inside(alloc, text, places, function, stop, standing, op)?;
+            if is_in_its_frame(stop, op) {
+                put_calls(text, places, world, standing.sp, fact)
+            } else {
+                Ok(())
+            }
+        }
+        None => text.push_str("\n"),
+    }
+}
+
+/// Appends in which function and why the run stopped, the place, and the end of the line.
+fn put_inside(
+    alloc: Global,
+    text: &mut String,
+    places: &Places,
+    function: u32,
+    stop: Stop,
+    standing: Standing,
+    op: Option<&Op>,
+) -> Result<(), AllocError> {
+    text.push_str(" in ")?;
+    places.put_function(text, function)?;
+    put_reason(text, stop, standing)?;
+    put_where(
+        alloc,
+        text,
+        places,
+        function,
+        index_bound(stop, standing),
+        op,
+    )?;
     text.push_str("\n")
 }
 
@@ -99,11 +224,9 @@ fn standing_of(world: &World, number: u32) -> Option<Standing> {
 
 /// Appends why the run stopped.
 fn put_reason(text: &mut String, stop: Stop, standing: Standing) -> Result<(), AllocError> {
-    let index = standing.t0.cast_signed();
-    let bound = standing.t1;
     match stop {
-        Stop::Trap(TrapKind::Index) => write!(text, ": index {index} of {bound} words"),
-        Stop::Trap(TrapKind::Table) => write!(text, ": index {index} of {bound} members"),
+        Stop::Trap(TrapKind::Index) => put_index(text, standing, " words"),
+        Stop::Trap(TrapKind::Table) => put_index(text, standing, " members"),
         Stop::Trap(TrapKind::Resource) => {
             text.push_str(": a resource that isn't there, or an amount out of range")
         }
@@ -112,6 +235,21 @@ fn put_reason(text: &mut String, stop: Stop, standing: Standing) -> Result<(), A
         Stop::Fuel => text.push_str(": as many instructions are done as --fuel says"),
         Stop::Threads => text.push_str(": 65,535 threads live"),
     }
+}
+
+/// Appends an index and its bound, in words or members.
+fn put_index(text: &mut String, standing: Standing, unit: &str) -> Result<(), AllocError> {
+    let index = standing.t0.cast_signed();
+    put_all(
+        text,
+        &[
+            Piece::Text(if index < 0 { ": index -" } else { ": index " }),
+            Piece::Number(u64::from(index.unsigned_abs())),
+            Piece::Text(" of "),
+            Piece::Number(u64::from(standing.t1)),
+            Piece::Text(unit),
+        ],
+    )
 }
 
 /// The number of words of the array, where the run stopped at an index past it.
@@ -141,13 +279,18 @@ fn put_where(
         }
         Some(Op::LoadLocal { .. }) => put_local(alloc, text, places, function, bound, false),
         Some(Op::StoreLocal { .. }) => put_local(alloc, text, places, function, bound, true),
-        Some(other) => match site_of(other) {
-            Some(site) => {
-                text.push_str(", at ")?;
-                places.put_site_text(text, site)
-            }
-            None => Ok(()),
-        },
+        Some(other) => put_call(text, places, site_of(other)),
+        None => Ok(()),
+    }
+}
+
+/// Appends the place of a call, where there is one.
+fn put_call(text: &mut String, places: &Places, site: Option<u32>) -> Result<(), AllocError> {
+    match site {
+        Some(site) => {
+            text.push_str(", at ")?;
+            places.put_site_text(text, site)
+        }
         None => Ok(()),
     }
 }
@@ -190,36 +333,53 @@ fn put_calls(
     sp: u32,
     innermost: &FunctionFact,
 ) -> Result<(), AllocError> {
-    let accepted = world.accepted();
     let mut low = sp;
     let mut fact = innermost;
     for _ in 0..MOST_CALLS {
-        let Some(returns) = return_of(world, low, fact) else {
+        let Some(call) = call_above(world, low, fact) else {
             return Ok(());
         };
-        if returns <= END_STUB {
-            return Ok(());
-        }
-        let call = returns - 4;
-        let Some((function, caller)) = function_at(accepted, call) else {
-            return Ok(());
-        };
-        let Some(op) = operation_at(accepted, function, caller, call) else {
-            return Ok(());
-        };
-        if let Some(site) = site_of(op) {
-            text.push_str("  called at ")?;
-            places.put_site(text, site)?;
-            text.push_str("\n")?;
-        }
+        put_caller(text, places, call.site)?;
         let Some(next) = below(world, low, fact) else {
             return Ok(());
         };
         low = next;
-        fact = caller;
+        fact = call.caller;
     }
     match return_of(world, low, fact) {
         Some(returns) if returns > END_STUB => text.push_str("  and by more calls above\n"),
         _ => Ok(()),
     }
+}
+
+/// A call that a frame returns to: its site, and its function.
+#[derive(Clone, Copy)]
+struct CallAbove<'a> {
+    site: Option<u32>,
+    caller: &'a FunctionFact,
+}
+
+/// The call that a frame returns to; none where that isn't known, and of the frame that began its thread.
+fn call_above<'a>(world: &'a World, low: u32, fact: &FunctionFact) -> Option<CallAbove<'a>> {
+    let returns = return_of(world, low, fact)?;
+    if returns <= END_STUB {
+        return None;
+    }
+    let call = returns - 4;
+    let (function, caller) = function_at(world.accepted(), call)?;
+    let op = operation_at(world.accepted(), function, caller, call)?;
+    Some(CallAbove {
+        site: site_of(op),
+        caller,
+    })
+}
+
+/// Appends a line for the call of a site.
+fn put_caller(text: &mut String, places: &Places, site: Option<u32>) -> Result<(), AllocError> {
+    let Some(site) = site else {
+        return Ok(());
+    };
+    text.push_str("  called at ")?;
+    places.put_site(text, site)?;
+    text.push_str("\n")
 }
