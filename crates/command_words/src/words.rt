@@ -18,10 +18,14 @@ pub fn read_words<'a>(alloc: Global, words: &'a Vec<String>) -> Result<Command<'
         return Err(WordsError::NotWords);
     }
     match parse(alloc, words) {
-        Ok(matches) => match command_of(&matches) {
-            Some(command) => Ok(command),
-            None => Err(WordsError::NotWords),
-        },
+        Ok(matches) => {
+            let command = command_of(&matches);
+            drop(matches);
+            match command {
+                Some(command) => Ok(command),
+                None => Err(WordsError::NotWords),
+            }
+        }
         Err(error) => Err(error),
     }
 }
