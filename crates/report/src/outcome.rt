@@ -4,7 +4,7 @@ use crate::subject::{Subject, subject_of};
 use crate::wanted::Wanted;
 use cap_io::{CleanSink, CleanSource, Shelf, Sink, Source, put_all};
 use choice_reasons::Holders;
-use report_run::{make_once_more, make_run};
+use report_run::{let_go, make_once_more, make_run};
 use report_text::{
     Decided, Places, ReportError, last_line, put_blocking, put_line, put_report, put_times,
     times_of,
@@ -162,7 +162,7 @@ fn show_run<F: Shelf, K: Sink, E: Sink>(
     );
     drop(source);
     let shown = show_made(alloc, wanted, times, log.bytes(), &last, shelf, out);
-    drop(last);
+    let_go(last);
     drop(log);
     match shown {
         Ok(()) => Ok(status),

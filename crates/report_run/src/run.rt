@@ -34,3 +34,8 @@ pub fn make_once_more<F: Shelf>(
 ) -> Option<Told> {
     run_start::make_once_more(alloc, words, shelf, log)
 }
+
+/// Lets the world at the stop of a run go: `let_go` of `run_start`.
+pub fn let_go(world: Option<World>) {
+    run_start::let_go(world)
+}

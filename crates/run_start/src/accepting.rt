@@ -66,15 +66,50 @@ pub(crate) fn accept_files<F: Shelf>(
     image: &str,
     certificate: &str,
 ) -> Option<Accepted> {
-    let image = shelf.load(alloc, image, u32::MAX).ok()?;
-    let certificate = shelf.load(alloc, certificate, u32::MAX).ok()?;
-    let source = shelf.load(alloc, source, MOST_BYTES).ok()?;
-    accept_bytes(
-        alloc,
-        source.as_slice(),
-        image.as_slice(),
-        certificate.as_slice(),
-    )
+    match shelf.load(alloc, image, u32::MAX) {
+        Ok(image) => {
+            let accepted = accept_loaded(alloc, shelf, source, image.as_slice(), certificate);
+            drop(image);
+            accepted
+        }
+        Err(_) => None,
+    }
+}
+
+/// The bytes of an image, with the files of its certificate and its source, accepted.
+fn accept_loaded<F: Shelf>(
+    alloc: Global,
+    shelf: &mut F,
+    source: &str,
+    image: &[u8],
+    certificate: &str,
+) -> Option<Accepted> {
+    match shelf.load(alloc, certificate, u32::MAX) {
+        Ok(certificate) => {
+            let accepted = accept_claimed(alloc, shelf, source, image, certificate.as_slice());
+            drop(certificate);
+            accepted
+        }
+        Err(_) => None,
+    }
+}
+
+/// The bytes of an image and its certificate, with the file of its source, accepted.
+fn accept_claimed<F: Shelf>(
+    alloc: Global,
+    shelf: &mut F,
+    source: &str,
+    image: &[u8],
+    certificate: &[u8],
+) -> Option<Accepted> {
+    match shelf.load(alloc, source, MOST_BYTES) {
+        Ok(source) => {
+            let accepted = accept_bytes(alloc, source.as_slice(), image, certificate);
+            drop(source);
+            accepted
+        }
+        Err(_) => None,
+    }
 }
 
 /// The bytes of a source, an image and a certificate, accepted.

@@ -9,4 +9,4 @@ mod accepting;
 mod ranges;
 mod starting;
 
-pub use starting::make_once_more;
+pub use starting::{let_go, make_once_more};

@@ -31,6 +31,11 @@ pub fn make_once_more<F: Shelf>(
     }
 }
 
+/// Lets the world at the stop of a run go. How a world falls is then proved here, and not once more in the crate that calls this.
+pub fn let_go(world: Option<World>) {
+    drop(world)
+}
+
 /// Makes the run that a command asks for once more.
 fn start_command<F: Shelf>(
     alloc: Global,
