@@ -48,21 +48,13 @@ const EXAMPLE_CODE: &[u32] = &[
 const FOUR: &[u8] = b"CAP1\x02\x00\x00\x00\x01\x00\x00\x00\x00\x00\x00\x00\x02\x00\x00\x00\
 \x01\x00\x00\x00\x04\x03\x02\x01\xff\xff\xff\xff\x04\x00\x00\x00\x05\x00\x00\x00";
 
-// The first bytes of the example, so many of them.
-fn beginning(length: usize) -> &'static [u8] {
-    match LONG.get(..length) {
-        Some(bytes) => bytes,
-        None => &[],
-    }
-}
-
 // Whether an image without a table word is written as these bytes.
 fn is_written(alloc: Global, image: &Image, want: &[u8]) -> bool
     requires { IsWithinLimits image.now }
 {
     match write_image(alloc, image) {
         Ok(bytes) => {
-            let same = are_bytes(&bytes, want);
+            let same = bytes.as_slice() == want;
             drop(bytes);
             same
         }
@@ -70,27 +62,14 @@ fn is_written(alloc: Global, image: &Image, want: &[u8]) -> bool
     }
 }
 
-fn are_bytes(bytes: &[u8], want: &[u8]) -> bool {
-    bytes == want
-}
-
-fn are_words(words: &[u32], want: &[u32]) -> bool {
-    words == want
-}
-
-// Whether an image has these words and no table word.
-fn has_words(image: &Image, code: &[u32], globals: &[u32], entries: &[u32]) -> bool {
-    are_words(image.code.as_slice(), code)
-        && are_words(image.globals.as_slice(), globals)
-        && image.tables.is_empty()
-        && are_words(image.entries.as_slice(), entries)
-}
-
 // Whether the bytes are an image of these words without a table word, and are written again.
 fn comes_back(alloc: Global, bytes: &[u8], code: &[u32], globals: &[u32], entries: &[u32]) -> bool {
     match read_image(alloc, bytes) {
         Ok(image) => {
-            let read = has_words(&image, code, globals, entries);
+            let read = image.code.as_slice() == code
+                && image.globals.as_slice() == globals
+                && image.tables.is_empty()
+                && image.entries.as_slice() == entries;
             let written = is_written(alloc, &image, bytes);
             drop(image);
             read && written
@@ -99,12 +78,12 @@ fn comes_back(alloc: Global, bytes: &[u8], code: &[u32], globals: &[u32], entrie
     }
 }
 
-fn example_comes_back(alloc: Global) -> bool {
-    comes_back(alloc, beginning(LENGTH), EXAMPLE_CODE, &[], &[0x1008])
-}
-
-fn four_words_come_back(alloc: Global) -> bool {
-    comes_back(alloc, FOUR, &[1, 0x0102_0304], &[u32::MAX], &[4, 5])
+#[test]
+fn images_are_read_and_written(rt: HostRuntime) {
+    let alloc = rt.alloc();
+    let example = comes_back(alloc, &LONG[..LENGTH], EXAMPLE_CODE, &[], &[0x1008]);
+    let four = comes_back(alloc, FOUR, &[1, 0x0102_0304], &[u32::MAX], &[4, 5]);
+    assert!(rt; example && four);
 }
 
 const MAGIC: u32 = 1;
@@ -187,41 +166,21 @@ const OTHERS: &[(&[u8], u32, u32)] = &[
     ),
 ];
 
-fn is_refused(alloc: Global, bytes: &[u8], kind: u32, place: u32) -> bool {
-    let (found, at) = refusal(alloc, bytes);
-    found == kind && at == place
-}
-
-fn beginnings_are_refused(alloc: Global, rows: &[(usize, u32, u32)]) -> bool {
-    for (length, kind, place) in rows {
-        if !is_refused(alloc, beginning(*length), *kind, *place) {
-            return false;
-        }
+#[test]
+fn other_bytes_are_refused(rt: HostRuntime) {
+    let mut right = true;
+    for &(length, kind, place) in BEGINNINGS {
+        right = right
+            && length <= LONG.len()
+            && refusal(rt.alloc(), &LONG[..length]) == (kind, place);
     }
-    true
-}
-
-fn all_are_refused(alloc: Global, rows: &[(&[u8], u32, u32)]) -> bool {
-    for (bytes, kind, place) in rows {
-        if !is_refused(alloc, bytes, *kind, *place) {
-            return false;
-        }
+    for &(bytes, kind, place) in OTHERS {
+        right = right && refusal(rt.alloc(), bytes) == (kind, place);
     }
-    true
-}
-
-fn has_name(which: Which, want: &str) -> bool {
-    which.name() == want
+    assert!(rt; right);
 }
 
 #[test]
-fn images(rt: HostRuntime) {
-    let alloc = rt.alloc();
-    let right = example_comes_back(alloc)
-        && four_words_come_back(alloc)
-        && beginnings_are_refused(alloc, BEGINNINGS)
-        && all_are_refused(alloc, OTHERS)
-        && has_name(Which::Functions, "functions")
-        && has_name(Which::Entries, "entries");
-    assert!(rt; right);
+fn limits_have_names(rt: HostRuntime) {
+    assert!(rt; Which::Functions.name() == "functions" && Which::Entries.name() == "entries");
 }

@@ -1,9 +1,9 @@
 // Lists of words: those that are refused, and those with the command that they ask for, from the table of commands and
 // options.
 use command_words::{Audit, Command, Placement, Policy, Rule, Tickets, WordsError, read_words};
-use std::alloc::Global;
+use std::alloc::{AllocError, Global};
 
-// Lists that are no word list: one a line, with a blank between the words. The last one has tickets for 65 threads.
+// Lists that are no word list: one a line, with a blank between the words.
 const REFUSED: &str = "help
 serve
 serve P Q
@@ -73,8 +73,7 @@ graph P --extra 0
 demo 1 --extra 1
 run P I C --chunk 64
 build P I
-check P I C D
-serve P --rule stride --tickets 0=1,1=1,2=1,3=1,4=1,5=1,6=1,7=1,8=1,9=1,10=1,11=1,12=1,13=1,14=1,15=1,16=1,17=1,18=1,19=1,20=1,21=1,22=1,23=1,24=1,25=1,26=1,27=1,28=1,29=1,30=1,31=1,32=1,33=1,34=1,35=1,36=1,37=1,38=1,39=1,40=1,41=1,42=1,43=1,44=1,45=1,46=1,47=1,48=1,49=1,50=1,51=1,52=1,53=1,54=1,55=1,56=1,57=1,58=1,59=1,60=1,61=1,62=1,63=1,64=1";
+check P I C D";
 
 const PLACEMENT: Placement = Placement {
     chunk: 4096,
@@ -94,66 +93,48 @@ const POLICY: Policy = Policy {
     knee: 0,
 };
 
-// Puts a word behind others, and tells whether there was memory.
-fn put_word(alloc: Global, words: &mut Vec<String>, word: &str) -> bool {
-    match String::from_str(alloc, word) {
-        Ok(word) => matches!(words.push(word), Ok(())),
-        Err(_) => false,
-    }
-}
-
-// The words of a line, and whether they are all.
-fn words_of(alloc: Global, line: &str) -> (Vec<String>, bool) {
+// The words of a line.
+fn words_of(alloc: Global, line: &str) -> Result<Vec<String>, AllocError> {
     let mut words = Vec::new(alloc);
-    let mut are_all = true;
     for word in line.split(' ') {
-        are_all = put_word(alloc, &mut words, word) && are_all;
+        words.push(String::from_str(alloc, word)?)?;
     }
-    (words, are_all)
-}
-
-fn are_refused(alloc: Global, words: &Vec<String>) -> bool {
-    matches!(read_words(alloc, words), Err(WordsError::NotWords))
+    Ok(words)
 }
 
 // Whether the words of a line are refused.
 fn is_refused(alloc: Global, line: &str) -> bool {
-    let (words, are_all) = words_of(alloc, line);
-    let refused = are_refused(alloc, &words);
+    let Ok(words) = words_of(alloc, line) else {
+        return false;
+    };
+    let refused = matches!(read_words(alloc, &words), Err(WordsError::NotWords));
     drop(words);
-    refused && are_all
-}
-
-fn no_words_are_refused(alloc: Global) -> bool {
-    let none = Vec::new(alloc);
-    let refused = are_refused(alloc, &none);
-    drop(none);
     refused
 }
 
-fn all_are_refused(alloc: Global, lines: &str) -> bool {
-    for line in lines.split('\n') {
-        if !is_refused(alloc, line) {
-            return false;
-        }
+#[test]
+fn other_words_are_refused(rt: HostRuntime) {
+    let alloc = rt.alloc();
+    let none = Vec::new(alloc);
+    let mut right = matches!(read_words(alloc, &none), Err(WordsError::NotWords));
+    drop(none);
+    for line in REFUSED.split('\n') {
+        right = right && is_refused(alloc, line);
     }
-    true
-}
-
-// Whether the words ask for this command.
-fn ask(alloc: Global, words: &Vec<String>, want: &Command<'_>) -> bool {
-    match read_words(alloc, words) {
-        Ok(command) => command == *want,
-        Err(_) => false,
-    }
+    assert!(rt; right);
 }
 
 // Whether the words of a line ask for this command.
 fn asks(alloc: Global, line: &str, want: &Command<'_>) -> bool {
-    let (words, are_all) = words_of(alloc, line);
-    let asked = ask(alloc, &words, want);
+    let Ok(words) = words_of(alloc, line) else {
+        return false;
+    };
+    let asked = match read_words(alloc, &words) {
+        Ok(command) => command == *want,
+        Err(_) => false,
+    };
     drop(words);
-    asked && are_all
+    asked
 }
 
 const SERVE: Command<'static> = Command::Serve {
@@ -289,118 +270,97 @@ fn serve_under(policy: Policy) -> Command<'static> {
     }
 }
 
-// Tickets for 64 threads, as many as may have some.
-const MOST: &str =
-    "serve P --rule stride --tickets 0=1,1=1,2=1,3=1,4=1,5=1,6=1,7=1,8=1,9=1,10=1,11=1,12=1,13=1,14=1,15=1,16=1,17=1,18=1,19=1,20=1,21=1,22=1,23=1,24=1,25=1,26=1,27=1,28=1,29=1,30=1,31=1,32=1,33=1,34=1,35=1,36=1,37=1,38=1,39=1,40=1,41=1,42=1,43=1,44=1,45=1,46=1,47=1,48=1,49=1,50=1,51=1,52=1,53=1,54=1,55=1,56=1,57=1,58=1,59=1,60=1,61=1,62=1,63=1";
-
-// Whether the line asks for `serve P` under `--rule stride`, with one ticket for each of so many threads.
-fn asks_one_ticket_each(alloc: Global, line: &str, threads: usize) -> bool {
-    asks(alloc, line, &serve_under(one_ticket_each(threads)))
+// The line `serve P --rule stride --tickets 0=1,1=1,..`, with a ticket for each of so many threads.
+fn line_of(alloc: Global, threads: u32) -> Result<String, AllocError> {
+    let mut line = String::from_str(alloc, "serve P --rule stride --tickets 0=1")?;
+    for thread in 1..threads {
+        line.push_str(&format!(in alloc; ",{thread}=1")?)?;
+    }
+    Ok(line)
 }
 
-// Beside 1,024 chunks of 4,096 bytes 61,440 of 1,024 are as many as a pool may have.
-const SERVE_MOST_EXTRA: Command<'static> = Command::Serve {
-    source: "P",
-    placement: PLACEMENT,
-    policy: Policy {
-        extra: 61_440,
-        extra_bytes: 1024,
-        ..POLICY
-    },
-};
+#[test]
+fn tickets_are_given_to_64_threads_at_most(rt: HostRuntime) {
+    let alloc = rt.alloc();
+    let right = match (line_of(alloc, 64), line_of(alloc, 65)) {
+        (Ok(most), Ok(more)) => {
+            asks(alloc, &most, &serve_under(one_ticket_each(64))) & is_refused(alloc, &more)
+        }
+        _ => false,
+    };
+    assert!(rt; right);
+}
 
-const SERVE_SMALL_EXTRA: Command<'static> = Command::Serve {
-    source: "P",
-    placement: PLACEMENT,
-    policy: Policy {
-        extra: 0,
-        extra_bytes: 32,
-        ..POLICY
-    },
-};
+#[test]
+fn the_rule_of_choices_and_the_knee_are_read(rt: HostRuntime) {
+    let alloc = rt.alloc();
+    let right = asks(
+        alloc,
+        "serve P --rule stride --knee 500 --tickets 0=3,7=1024",
+        &serve_under(stride_policy()),
+    ) & asks(
+        alloc,
+        "serve --rule stride P",
+        &serve_under(one_ticket_each(0)),
+    ) & asks(alloc, "serve P --rule graph --knee 0", &SERVE);
+    assert!(rt; right);
+}
 
-// `run` learns the size of the first chunks from its certificate alone, so its words may ask for more.
-const RUN_MORE_EXTRA: Command<'static> = Command::Run {
-    source: "P",
-    image: "I",
-    certificate: "C",
-    policy: Policy {
-        extra: 61_441,
-        extra_bytes: 1024,
+// A policy with so many chunks of a second size.
+fn with_extra(extra: u32, extra_bytes: u32) -> Policy {
+    Policy {
+        extra,
+        extra_bytes,
         ..POLICY
-    },
-};
+    }
+}
 
-// Each function below has the lines of a few commands: the facts of many in one are dear to prove.
-fn serves_are_asked(alloc: Global) -> bool {
-    asks(alloc, "serve P", &SERVE)
-        && asks(alloc, "serve P --rule graph --knee 0", &SERVE)
-        && asks(
+// Beside 1,024 chunks of 4,096 bytes 61,440 of 1,024 are as many as a pool may have; `run` learns the size of the first from
+// its certificate alone, so its words may ask for more.
+#[test]
+fn chunks_of_a_second_size_are_read(rt: HostRuntime) {
+    let alloc = rt.alloc();
+    let run = Command::Run {
+        source: "P",
+        image: "I",
+        certificate: "C",
+        policy: with_extra(61_441, 1024),
+    };
+    let right = asks(
+        alloc,
+        "serve --extra-size 1024 P --extra 61440",
+        &serve_under(with_extra(61_440, 1024)),
+    ) & asks(
+        alloc,
+        "serve P --extra-size 32",
+        &serve_under(with_extra(0, 32)),
+    ) & asks(alloc, "run P I C --extra 61441 --extra-size 1024", &run);
+    assert!(rt; right);
+}
+
+#[test]
+fn word_lists_ask_for_a_command(rt: HostRuntime) {
+    let alloc = rt.alloc();
+    let right = asks(alloc, "serve P", &SERVE)
+        & asks(
             alloc,
             "serve --chunk 64 P --max-path 48 --chunks 128",
             &SERVE_SMALL,
         )
-}
-
-fn serves_with_extra_are_asked(alloc: Global) -> bool {
-    asks(
-        alloc,
-        "serve --extra-size 1024 P --extra 61440",
-        &SERVE_MOST_EXTRA,
-    ) && asks(alloc, "serve P --extra-size 32", &SERVE_SMALL_EXTRA)
-}
-
-fn runs_are_asked(alloc: Global) -> bool {
-    asks(
-        alloc,
-        "run --caps 1=3,7=1000000 P --fuel 0 I --backlog 1 C --high 1 --low 0 --chunks 65536 --extra 65536 --extra-size 32",
-        &RUN,
-    ) && asks(
-        alloc,
-        "run P I C --extra 61441 --extra-size 1024",
-        &RUN_MORE_EXTRA,
-    )
-}
-
-fn builds_are_asked(alloc: Global) -> bool {
-    asks(alloc, "build P I C --chunk 96", &BUILD) && asks(alloc, "check P I C", &CHECK)
-}
-
-fn graphs_and_demos_are_asked(alloc: Global) -> bool {
-    asks(alloc, "graph --max-path 4080 P", &GRAPH) && asks(alloc, "demo 1000", &DEMO)
-}
-
-fn audits_are_asked(alloc: Global) -> bool {
-    asks(alloc, "audit P L", &AUDIT)
-        && asks(
+        & asks(
+            alloc,
+            "run --caps 1=3,7=1000000 P --fuel 0 I --backlog 1 C --high 1 --low 0 --chunks 65536 --extra 65536 --extra-size 32",
+            &RUN,
+        )
+        & asks(alloc, "build P I C --chunk 96", &BUILD)
+        & asks(alloc, "check P I C", &CHECK)
+        & asks(alloc, "graph --max-path 4080 P", &GRAPH)
+        & asks(alloc, "demo 1000", &DEMO)
+        & asks(alloc, "audit P L", &AUDIT)
+        & asks(
             alloc,
             "audit --steps 0 P --extra 65536 --knee 999 L --caps 1=1 --fuel 0",
             &AUDIT_OF_FEW_STEPS,
-        )
-}
-
-fn strides_are_asked(alloc: Global) -> bool {
-    asks(
-        alloc,
-        "serve P --rule stride --knee 500 --tickets 0=3,7=1024",
-        &serve_under(stride_policy()),
-    ) && asks_one_ticket_each(alloc, "serve --rule stride P", 0)
-        && asks_one_ticket_each(alloc, MOST, 64)
-}
-
-fn all_are_asked(alloc: Global) -> bool {
-    serves_are_asked(alloc)
-        && serves_with_extra_are_asked(alloc)
-        && runs_are_asked(alloc)
-        && builds_are_asked(alloc)
-        && graphs_and_demos_are_asked(alloc)
-        && audits_are_asked(alloc)
-        && strides_are_asked(alloc)
-}
-
-#[test]
-fn lists(rt: HostRuntime) {
-    let alloc = rt.alloc();
-    let right = no_words_are_refused(alloc) && all_are_refused(alloc, REFUSED);
-    assert!(rt; right && all_are_asked(alloc));
+        );
+    assert!(rt; right);
 }

@@ -59,56 +59,38 @@ const OTHERS: &[&[u8]] = &[
 // Whether an entry is put as this line and a line feed.
 fn is_put(alloc: Global, entry: &Entry, want: &[u8]) -> bool {
     let mut out = CleanSink::new(alloc);
-    let put = matches!(put_entry(alloc, &mut out, entry), Ok(()));
-    let same = are_bytes(out.bytes(), want);
+    let put = put_entry(alloc, &mut out, entry).is_ok() && out.bytes() == want;
     drop(out);
-    put && same
-}
-
-fn are_bytes(bytes: &[u8], want: &[u8]) -> bool {
-    bytes == want
-}
-
-// The entry of a line with its line feed.
-fn entry_of(line: &[u8]) -> Option<Entry> {
-    match line.split_last() {
-        Some((_, text)) => entry_in(text),
-        None => None,
-    }
-}
-
-fn entry_in(text: &[u8]) -> Option<Entry> {
-    match read_entry(text) {
-        Ok(entry) => Some(entry),
-        Err(LogError::Line) => None,
-    }
+    put
 }
 
 // Whether a line is read, and its entry put as it was.
 fn comes_back(alloc: Global, line: &[u8]) -> bool {
-    match entry_of(line) {
-        Some(entry) => is_put(alloc, &entry, line),
+    match line.split_last() {
+        Some((_, text)) => match read_entry(text) {
+            Ok(entry) => is_put(alloc, &entry, line),
+            Err(LogError::Line) => false,
+        },
         None => false,
     }
 }
 
-// Whether each line is read and printed as it was.
-fn all_come_back(alloc: Global, lines: &[&[u8]]) -> bool {
-    for line in lines {
-        if !comes_back(alloc, line) {
-            return false;
-        }
+#[test]
+fn each_line_is_read_and_printed_as_it_was(rt: HostRuntime) {
+    let mut right = true;
+    for line in LINES {
+        right = right && comes_back(rt.alloc(), line);
     }
-    true
+    assert!(rt; right);
 }
 
-fn all_are_refused(texts: &[&[u8]]) -> bool {
-    for text in texts {
-        if matches!(entry_in(text), Some(_)) {
-            return false;
-        }
+#[test]
+fn other_lines_are_refused(rt: HostRuntime) {
+    let mut right = true;
+    for line in OTHERS {
+        right = right && read_entry(line).is_err();
     }
-    true
+    assert!(rt; right);
 }
 
 const DROPPED: Entry = Entry::Dropped {
@@ -126,8 +108,8 @@ const CUT: Entry = Entry::Stop(StopLine::Cut {
     free: 3,
 });
 
-// Whether an entry whose key has two sites has its line.
-fn a_block_is_put(alloc: Global) -> bool {
+#[test]
+fn entries_have_the_lines_of_the_table(rt: HostRuntime) {
     let block = Entry::Block {
         thread: 4,
         node: 9,
@@ -135,11 +117,6 @@ fn a_block_is_put(alloc: Global) -> bool {
         cost: 5,
         free: 6,
     };
-    is_put(alloc, &block, b"block 4 9 12<3 5 6\n")
-}
-
-// Whether one with two averages has its line.
-fn an_edge_is_put(alloc: Global) -> bool {
     let edge = Entry::Edge {
         from: 1,
         to: 2,
@@ -147,19 +124,16 @@ fn an_edge_is_put(alloc: Global) -> bool {
         cost: 768,
         changes: Averages::new(&[-256, 170_141_183_460_469_231_731_687_303_715_884_105_727]),
     };
-    is_put(
-        alloc,
-        &edge,
-        b"edge 1 2 3 768 -256 170141183460469231731687303715884105727\n",
-    )
-}
-
-fn a_drop_is_put(alloc: Global) -> bool {
-    is_put(alloc, &DROPPED, b"drop 18446744073709551615 data 3 -1\n")
-}
-
-fn a_stop_is_put(alloc: Global) -> bool {
-    is_put(alloc, &CUT, b"stop trap 1 resource 2 3\n")
+    let alloc = rt.alloc();
+    let right = is_put(alloc, &DROPPED, b"drop 18446744073709551615 data 3 -1\n")
+        & is_put(alloc, &block, b"block 4 9 12<3 5 6\n")
+        & is_put(
+            alloc,
+            &edge,
+            b"edge 1 2 3 768 -256 170141183460469231731687303715884105727\n",
+        )
+        & is_put(alloc, &CUT, b"stop trap 1 resource 2 3\n");
+    assert!(rt; right);
 }
 
 const END: Entry = Entry::End {
@@ -170,20 +144,6 @@ const END: Entry = Entry::End {
 
 const END_LINE: &[u8] = b"end 0 31 1022\n";
 
-// How the end is put: 1 where it is, 0 where a write fails, and 2 where memory is wanting.
-fn put_end(alloc: Global, out: &mut MemSink) -> u32 {
-    match put_entry(alloc, out, &END) {
-        Ok(()) => 1,
-        Err(PutError::WriteFault) => 0,
-        Err(PutError::Memory) => 2,
-    }
-}
-
-// Whether these bytes are a prefix of the line, and all of it where it is whole.
-fn is_prefix(bytes: &[u8], is_whole: bool) -> bool {
-    END_LINE.starts_with(bytes) && (!is_whole || bytes.len() == END_LINE.len())
-}
-
 // Whether a sink that takes so many bytes a call and fails at that call has a prefix of the line, and all of it where
 // that call doesn't come.
 fn leaves_a_prefix(alloc: Global, per_call: u32, failing: u64) -> bool
@@ -192,47 +152,45 @@ fn leaves_a_prefix(alloc: Global, per_call: u32, failing: u64) -> bool
     let Ok(fails) = Vec::from_slice(alloc, &[failing]) else {
         return false;
     };
-    let is_whole = (END_LINE.len().div_ceil(per_call as usize) as u64) < failing;
+    let calls = END_LINE.len().div_ceil(per_call as usize) as u64;
     let mut out = MemSink::new(alloc, per_call, fails);
-    let answer = put_end(alloc, &mut out);
-    let prefix = is_prefix(out.bytes(), is_whole);
+    let answer = put_entry(alloc, &mut out, &END);
+    let length = out.bytes().len();
+    let prefix = END_LINE.starts_with(out.bytes());
     drop(out);
-    prefix && answer == u32::from(is_whole)
+    match answer {
+        Ok(()) => prefix && calls < failing && length == END_LINE.len(),
+        Err(PutError::WriteFault) => prefix && failing <= calls,
+        Err(PutError::Memory) => false,
+    }
 }
 
-fn each_leaves_a_prefix(alloc: Global, per_call: u32) -> bool
-    requires { 1 ≤ per_call }
-{
+#[test]
+fn a_failed_write_leaves_a_prefix(rt: HostRuntime) {
+    let mut right = true;
     for failing in 1..=14 {
-        if !leaves_a_prefix(alloc, per_call, failing) {
-            return false;
+        for per_call in [1, 2, 100] {
+            right = right && leaves_a_prefix(rt.alloc(), per_call, failing);
         }
     }
-    true
+    assert!(rt; right);
 }
 
 /// How many times over the lines go through a writer: 9,570 bytes, which are two of its buffers and a part of one.
 const TIMES: u32 = 30;
 
-// Puts each of the lines behind the text, and tells whether there was memory.
-fn put_lines(text: &mut Vec<u8>, lines: &[&[u8]]) -> bool {
-    for line in lines {
-        if matches!(text.extend_from_slice(line), Err(_)) {
-            return false;
-        }
-    }
-    true
-}
-
-// The lines of the table, so many times over, or fewer where memory is wanting.
-fn long_log(alloc: Global) -> Vec<u8> {
+// The lines of the table, so many times over.
+fn long_log(alloc: Global) -> Option<Vec<u8>> {
     let mut text = Vec::new(alloc);
     for _ in 0..TIMES {
-        if !put_lines(&mut text, LINES) {
-            break;
+        for line in LINES {
+            if text.extend_from_slice(line).is_err() {
+                drop(text);
+                return None;
+            }
         }
     }
-    text
+    Some(text)
 }
 
 // Puts the entries of the lines through a writer, so many times over, and tells whether each was put and, where one was
@@ -250,7 +208,7 @@ fn put_through<K: Sink>(alloc: Global, out: &mut K) -> Option<bool> {
             put = put && answer;
         }
     }
-    let finished = matches!(writer.finish(out), Ok(()));
+    let finished = writer.finish(out).is_ok();
     if lasts && (put || !finished) {
         Some(finished)
     } else {
@@ -260,18 +218,18 @@ fn put_through<K: Sink>(alloc: Global, out: &mut K) -> Option<bool> {
 
 // Whether the entry of a line is put.
 fn put_line<K: Sink>(writer: &mut LogWriter, out: &mut K, line: &[u8]) -> bool {
-    match entry_of(line) {
-        Some(entry) => matches!(writer.put(out, &entry), Ok(())),
+    match line.split_last() {
+        Some((_, text)) => match read_entry(text) {
+            Ok(entry) => writer.put(out, &entry).is_ok(),
+            Err(LogError::Line) => false,
+        },
         None => false,
     }
 }
 
-// The length of a log that goes through a writer whole.
-const WHOLE: usize = 9_570;
-
-// Whether a sink that takes so many bytes a call and fails at that call, 0 for none, has so many bytes of the long log,
-// and all where it didn't fail.
-fn leaves_of_log(alloc: Global, per_call: u32, failing: u64, length: usize) -> bool
+// Whether a sink that takes so many bytes a call and fails at that call, 0 for none, has all of the long log, and where
+// it failed so many bytes of it.
+fn leaves_of_log(alloc: Global, per_call: u32, failing: u64, length: Option<usize>) -> bool
     requires { 1 ≤ per_call }
 {
     let Ok(fails) = Vec::from_slice(alloc, &[failing]) else {
@@ -281,66 +239,46 @@ fn leaves_of_log(alloc: Global, per_call: u32, failing: u64, length: usize) -> b
     let put = put_through(alloc, &mut out);
     let left = is_left(alloc, out.bytes(), length);
     drop(out);
-    match put {
-        Some(put) => left && put == (length == WHOLE),
-        None => false,
-    }
+    left && put == Some(length.is_none())
 }
 
-// Whether these bytes are the first of the long log, so many of them.
-fn is_left(alloc: Global, bytes: &[u8], length: usize) -> bool {
-    let text = long_log(alloc);
-    let left = text.len() == WHOLE && text.starts_with(bytes) && bytes.len() == length;
+// Whether these bytes are the first of the long log, so many of them, or all.
+fn is_left(alloc: Global, bytes: &[u8], length: Option<usize>) -> bool {
+    let Some(text) = long_log(alloc) else {
+        return false;
+    };
+    let left = text.starts_with(bytes) && bytes.len() == length.unwrap_or(text.len());
     drop(text);
     left
 }
 
-// The bytes that a sink takes a call, the call at which it fails, and how many bytes it then has.
-type Row = (u32, u64, usize);
-
-fn all_leave(alloc: Global, rows: &[Row]) -> bool {
-    for (per_call, failing, length) in rows {
-        if *per_call == 0 || !leaves_of_log(alloc, *per_call, *failing, *length) {
-            return false;
-        }
+#[test]
+fn a_log_goes_through_a_writer_whole(rt: HostRuntime) {
+    let mut right = true;
+    for per_call in [1, 100, 4096, 100_000] {
+        right = right && leaves_of_log(rt.alloc(), per_call, 0, None);
     }
-    true
-}
-
-// A log goes through whole, whatever the pieces; and each of its writes may fail: a buffer of 4,096 bytes is three calls of
-// 1,500 bytes, 1,500 and 1,096, and the last has 1,378.
-const ROWS: &[Row] = &[
-    (1, 0, WHOLE),
-    (100, 0, WHOLE),
-    (4096, 0, WHOLE),
-    (100_000, 0, WHOLE),
-    (1500, 1, 0),
-    (1500, 2, 1500),
-    (1500, 3, 3000),
-    (1500, 4, 4096),
-    (1500, 5, 5596),
-    (1500, 6, 7096),
-    (1500, 7, 8192),
-    (1500, 8, WHOLE),
-];
-
-fn entries_have_their_lines(alloc: Global) -> bool {
-    a_drop_is_put(alloc) && a_block_is_put(alloc) && an_edge_is_put(alloc) && a_stop_is_put(alloc)
-}
-
-fn a_failed_write_leaves_a_prefix(alloc: Global) -> bool {
-    each_leaves_a_prefix(alloc, 1)
-        && each_leaves_a_prefix(alloc, 2)
-        && each_leaves_a_prefix(alloc, 100)
+    assert!(rt; right);
 }
 
 #[test]
-fn logs(rt: HostRuntime) {
+fn each_write_of_a_log_may_fail(rt: HostRuntime) {
     let alloc = rt.alloc();
-    let right = all_come_back(alloc, LINES)
-        && all_are_refused(OTHERS)
-        && entries_have_their_lines(alloc)
-        && a_failed_write_leaves_a_prefix(alloc)
-        && all_leave(alloc, ROWS);
+    let mut right = true;
+    // A buffer of 4,096 bytes is three calls of 1,500 bytes, 1,500 and 1,096; the last has 1,378.
+    for (failing, length) in FAILING {
+        right = right && leaves_of_log(alloc, 1500, *failing, Some(*length));
+    }
+    right = right && leaves_of_log(alloc, 1500, 8, None);
     assert!(rt; right);
 }
+
+const FAILING: &[(u64, usize)] = &[
+    (1, 0),
+    (2, 1500),
+    (3, 3000),
+    (4, 4096),
+    (5, 5596),
+    (6, 7096),
+    (7, 8192),
+];

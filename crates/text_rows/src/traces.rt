@@ -17,11 +17,6 @@ fn numbers_of(event: Event) -> (u64, u32, u32) {
     }
 }
 
-fn are_numbers_of(event: Event, want: (u64, u32, u32)) -> bool {
-    let (time, channel, value) = numbers_of(event);
-    time == want.0 && channel == want.1 && value == want.2
-}
-
 const NONE: (u64, u64, u64) = (0, 0, 0);
 
 const READ_FAULT: (u64, u64, u64) = (0, 1, 0);
@@ -29,10 +24,6 @@ const READ_FAULT: (u64, u64, u64) = (0, 1, 0);
 const LINE_2: (u64, u64, u64) = (2, 0, 0);
 
 const FALLING: (u64, u64, u64) = (2, 6, 7);
-
-fn is_same(refusal: (u64, u64, u64), other: (u64, u64, u64)) -> bool {
-    refusal.0 == other.0 && refusal.1 == other.1 && refusal.2 == other.2
-}
 
 // A refusal as numbers: the line, its time and the earlier one.
 fn refusal_of(error: TraceError) -> (u64, u64, u64) {
@@ -65,21 +56,21 @@ fn gives<S: Source>(
         match reader.next(source) {
             Ok(Some(event)) => match left.split_first() {
                 Some((first, rest)) => {
-                    same = are_numbers_of(event, *first) && same;
+                    same = same && numbers_of(event) == *first;
                     left = rest;
                 }
                 None => same = false,
             },
-            Ok(None) => same = is_same(last, NONE) && same,
+            Ok(None) => same = same && last == NONE,
             Err(error) => {
                 let refused = refusal_of(error);
-                same = (is_same(last, NONE) || is_same(last, refused)) && same;
+                same = same && (last == NONE || last == refused);
                 last = refused;
             }
         }
     }
     drop(reader);
-    same && left.is_empty() && is_same(last, refusal)
+    same && left.is_empty() && last == refusal
 }
 
 const TRACE: &[u8] = b"arrive 0 0
@@ -122,55 +113,13 @@ fn memory_gives(
     right
 }
 
-// A trace of one line of eleven bytes, and of three lines.
-const LINE: &[u8] = b"arrive 0 7\n";
-
-const THREE_LINES: &[u8] = b"arrive 0 1\narrive 1 2\narrive 2 3\n";
-
-const THREE_EVENTS: &[(u64, u32, u32)] = &[(0, ARRIVAL, 1), (1, ARRIVAL, 2), (2, ARRIVAL, 3)];
-
-const TWO_EVENTS: &[(u64, u32, u32)] = &[(0, ARRIVAL, 1), (1, ARRIVAL, 2)];
-
-/// A trace, the bytes of a call, the calls that fail, the events, and the refusal behind them.
-type Row = (
-    &'static [u8],
-    u32,
-    &'static [u64],
-    &'static [(u64, u32, u32)],
-    (u64, u64, u64),
-);
-
-// Events come in order whatever the pieces. Each read may fail: the one that meets the end, and the eleven of a line of eleven
-// bytes. Nothing is read while a whole line is held: the second read comes behind the three lines that the first one gave, and
-// for the rest of a line that the first one cut.
-const ROWS: &[Row] = &[
-    (TRACE, 1, &[], EVENTS, NONE),
-    (TRACE, 2, &[], EVENTS, NONE),
-    (TRACE, 3, &[], EVENTS, NONE),
-    (TRACE, 100, &[], EVENTS, NONE),
-    (LINE, 1, &[12], &[(0, ARRIVAL, 7)], READ_FAULT),
-    (LINE, 1, &[1], &[], READ_FAULT),
-    (LINE, 1, &[2], &[], READ_FAULT),
-    (LINE, 1, &[3], &[], READ_FAULT),
-    (LINE, 1, &[4], &[], READ_FAULT),
-    (LINE, 1, &[5], &[], READ_FAULT),
-    (LINE, 1, &[6], &[], READ_FAULT),
-    (LINE, 1, &[7], &[], READ_FAULT),
-    (LINE, 1, &[8], &[], READ_FAULT),
-    (LINE, 1, &[9], &[], READ_FAULT),
-    (LINE, 1, &[10], &[], READ_FAULT),
-    (LINE, 1, &[11], &[], READ_FAULT),
-    (THREE_LINES, 100, &[2], THREE_EVENTS, READ_FAULT),
-    (THREE_LINES, 30, &[2], TWO_EVENTS, READ_FAULT),
-];
-
-fn all_give(alloc: Global, rows: &[Row]) -> bool {
-    for (bytes, per_call, fails, want, refusal) in rows {
-        if *per_call == 0 || !memory_gives(alloc, bytes, *per_call, fails, want, *refusal) {
-            return false;
-        }
+#[test]
+fn events_come_in_order_whatever_the_pieces(rt: HostRuntime) {
+    let mut right = true;
+    for per_call in [1, 2, 3, 100] {
+        right = right && memory_gives(rt.alloc(), TRACE, per_call, &[], EVENTS, NONE);
     }
-    true
+    assert!(rt; right);
 }
 
 // Lines behind one of time 7. The last has 65 bytes.
@@ -197,21 +146,37 @@ const REFUSED: &[&[u8]] = &[
     b"11111111111111111111111111111111111111111111111111111111111111111",
 ];
 
-// Puts bytes behind a text, and tells whether there was memory.
-fn puts(text: &mut Vec<u8>, bytes: &[u8]) -> bool {
-    matches!(text.extend_from_slice(bytes), Ok(()))
-}
-
 // Whether a line behind one of time 7 is refused so, for good.
 fn is_refused(alloc: Global, line: &[u8], refusal: (u64, u64, u64)) -> bool {
     let mut text = Vec::new(alloc);
-    let whole = puts(&mut text, b"arrive 7 7\n")
-        && puts(&mut text, line)
-        && puts(&mut text, b"\narrive 8 8\n");
+    let whole = text.extend_from_slice(b"arrive 7 7\n").is_ok()
+        && text.extend_from_slice(line).is_ok()
+        && text.extend_from_slice(b"\narrive 8 8\n").is_ok();
     let mut source = CleanSource::new(text);
     let right = gives(alloc, &mut source, &[(7, ARRIVAL, 7)], refusal);
     drop(source);
     whole && right
+}
+
+#[test]
+fn other_lines_are_refused_for_good(rt: HostRuntime) {
+    let mut right = is_refused(rt.alloc(), b"arrive 6 0", FALLING);
+    for line in REFUSED {
+        right = right && is_refused(rt.alloc(), line, LINE_2);
+    }
+    assert!(rt; right);
+}
+
+#[test]
+fn each_read_may_fail(rt: HostRuntime) {
+    let alloc = rt.alloc();
+    let line = b"arrive 0 7\n";
+    // The read that meets the end, and the eleven reads of a line of eleven bytes.
+    let mut right = memory_gives(alloc, line, 1, &[12], &[(0, ARRIVAL, 7)], READ_FAULT);
+    for call in 1..=11 {
+        right = right && memory_gives(alloc, line, 1, &[call], &[], READ_FAULT);
+    }
+    assert!(rt; right);
 }
 
 /// How many lines a long trace has: each has 17 bytes with its LF, and 18 from the time 1,000 on, so that each 4,096 bytes end in the midst of one.
@@ -221,9 +186,9 @@ const LONG_LINES: u64 = 1_000;
 fn long_trace(alloc: Global) -> Option<Vec<u8>> {
     let mut text = Vec::new(alloc);
     for line in 0..LONG_LINES {
-        let whole = puts(&mut text, b"arrive ")
-            && matches!(put_dec(&mut text, i128::from(line) + 100), Ok(()))
-            && puts(&mut text, b" 12345\n");
+        let whole = text.extend_from_slice(b"arrive ").is_ok()
+            && put_dec(&mut text, i128::from(line) + 100).is_ok()
+            && text.extend_from_slice(b" 12345\n").is_ok();
         if !whole {
             drop(text);
             return None;
@@ -249,7 +214,7 @@ fn gives_long<S: Source>(alloc: Global, source: &mut S) -> bool {
 // Whether the next event is the arrival of 12345 at that time.
 fn next_is<S: Source>(reader: &mut TraceReader, source: &mut S, time: u64) -> bool {
     match reader.next(source) {
-        Ok(Some(event)) => are_numbers_of(event, (time, ARRIVAL, 12_345)),
+        Ok(Some(event)) => numbers_of(event) == (time, ARRIVAL, 12_345),
         Ok(None) | Err(_) => false,
     }
 }
@@ -267,30 +232,23 @@ fn long_in_pieces(alloc: Global, per_call: u32) -> bool
     right
 }
 
-fn all_are_refused(alloc: Global, lines: &[&[u8]]) -> bool {
-    for line in lines {
-        if !is_refused(alloc, line, LINE_2) {
-            return false;
-        }
+#[test]
+fn lines_go_on_across_the_end_of_a_block(rt: HostRuntime) {
+    let mut right = true;
+    for per_call in [7, 4095, 4096, 5000, 100_000] {
+        right = right && long_in_pieces(rt.alloc(), per_call);
     }
-    true
-}
-
-fn all_are_long(alloc: Global, per_call: &[u32]) -> bool {
-    for bytes in per_call {
-        if *bytes == 0 || !long_in_pieces(alloc, *bytes) {
-            return false;
-        }
-    }
-    true
+    assert!(rt; right);
 }
 
 #[test]
-fn traces(rt: HostRuntime) {
+fn nothing_is_read_while_a_whole_line_is_held(rt: HostRuntime) {
     let alloc = rt.alloc();
-    let right = all_give(alloc, ROWS)
-        && is_refused(alloc, b"arrive 6 0", FALLING)
-        && all_are_refused(alloc, REFUSED)
-        && all_are_long(alloc, &[7, 4095, 4096, 5000, 100_000]);
+    let events = [(0, ARRIVAL, 1), (1, ARRIVAL, 2), (2, ARRIVAL, 3)];
+    // The second read comes behind the three lines that the first one gave.
+    let lines = b"arrive 0 1\narrive 1 2\narrive 2 3\n";
+    let mut right = memory_gives(alloc, lines, 100, &[2], &events, READ_FAULT);
+    // It comes for the rest of a line that the first one cut.
+    right = right && memory_gives(alloc, lines, 30, &[2], &events[..2], READ_FAULT);
     assert!(rt; right);
 }
