@@ -1,11 +1,10 @@
 // The numbers of a tree's calls by the places of their names.
 //
 // `site_numbers` takes a tree as it is read and answers, call by call in the order of the tree, how many calls have their names
-// before its name in the text (specs/Ranks.antt of `grammar_places`). `c_hoist` gives these numbers to the calls of a rewritten tree,
-// in which calls don't stand in the order of the text.
+// before its name in the text (specs/Ranks.antt of `grammar_places`). The places are those of `call_places`. `c_hoist` gives these
+// numbers to the calls of a rewritten tree, in which calls don't stand in the order of the text.
 #![tactic(auto)]
 
-mod call_places;
 mod numbers;
 
 pub use numbers::site_numbers;

@@ -4,8 +4,8 @@ ghost use Rattle.c_tree.specs.RawProgramView.{raw_program_tree};
 ghost use Rattle.c_tree.specs.WellScoped.{AreSiteNumbers};
 ghost use Rattle.grammar_places.specs.Ranks.{lesser, ranks, site_numbers};
 
-use crate::call_places::call_places;
 use c_tree::RawProgram;
+use call_places::places_of_calls;
 use std::alloc::{AllocError, Global};
 
 /// The number of each call of a tree, in the order of the tree: how many calls have their names before its name in the text.
@@ -17,7 +17,7 @@ pub fn site_numbers(alloc: Global, raw: &RawProgram) -> Result<Vec<u32>, AllocEr
     ensures numbers { IfOk result (λ ns. ns.items ≡ site_numbers (raw_program_tree raw.now)) }
     ensures distinct { IfOk result (λ ns. AreSiteNumbers ns.items) }
 {
-    let places = call_places(alloc, raw)?;
+    let places = places_of_calls(alloc, raw)?;
     if places.len() > u32::MAX as usize {
         return Err(AllocError);
     }

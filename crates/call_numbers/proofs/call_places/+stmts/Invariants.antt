@@ -1,8 +1,0 @@
-use Rattle.std.proofs.Common.{◌≡◌, ◌++◌, drop}
-use Rattle.c_tree.specs.RawViews.{raw_stmt_trees}
-use Rattle.grammar_places.specs.Nested.{is_call}
-use Rattle.grammar_places.specs.Places.{stmts_places}
-use Rattle.call_numbers.proofs.call_places.+stmts.Given as goal
-
-abbrev pub invariant-add_stmts-loop-stmt : goal.invariant-add_stmts-loop-stmt
-invariant-add_stmts-loop-stmt l = l.places.items ++ stmts_places is_call (raw_stmt_trees (drop l.stmt-index l.stmts)) ≡ l.initial.places.items ++ stmts_places is_call (raw_stmt_trees l.stmts)

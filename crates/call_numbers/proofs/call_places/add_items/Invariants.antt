@@ -1,8 +1,0 @@
-use Rattle.std.proofs.Common.{◌≡◌, ◌++◌, drop}
-use Rattle.c_tree.specs.RawViews.{raw_item_trees}
-use Rattle.grammar_places.specs.Nested.{is_call}
-use Rattle.grammar_places.specs.Places.{items_places}
-use Rattle.call_numbers.proofs.call_places.add_items.Given as goal
-
-abbrev pub invariant-loop-item : goal.invariant-loop-item
-invariant-loop-item l = l.places.items ++ items_places is_call (raw_item_trees (drop l.item-index l.items)) ≡ l.initial.places.items ++ items_places is_call (raw_item_trees l.items)
