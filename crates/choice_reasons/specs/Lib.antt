@@ -2,3 +2,4 @@ pub mod Counts
 pub mod Courses
 pub mod Holds
 pub mod Reasons
+pub mod Spells

@@ -1,29 +1,15 @@
 use crate::lines::RequestsLine;
-use order_statistics::{Spread, spread_of};
+use report_figures::spread_of;
 use run_numbers::Numbers;
-use run_pictures::{Piece, put_all};
+use run_pictures::put_form;
 use std::alloc::{AllocError, Global};
 
-/// The request with the greatest latency: when it arrived, and the thread that took it.
+/// How long a request took: from when it arrived to an answer, and the thread that took it.
 #[derive(Clone, Copy)]
-struct Slowest {
+struct Latency {
     ticks: u64,
     arrived: u64,
     thread: u32,
-}
-
-/// How long requests took.
-#[derive(Drop)]
-struct Latencies {
-    ticks: Vec<u64>,
-    slowest: Option<Slowest>,
-}
-
-/// How long requests took to their first answers, and to their last ones.
-#[derive(Drop)]
-struct Answered {
-    firsts: Latencies,
-    lasts: Latencies,
 }
 
 /// Appends the lines on requests: how many came, were dropped, were taken and were answered, and how long that took, from a
@@ -34,117 +20,126 @@ pub(crate) fn put_requests(
     numbers: &Numbers,
     times: &[u64],
 ) -> Result<(), AllocError> {
-    let answered = answered_in(alloc, numbers, times)?;
-    let Answered { firsts, lasts } = answered;
     let line = RequestsLine {
         came: numbers.arrivals.len() as u64,
         dropped: numbers.dropped,
         taken: numbers.takes.len() as u64,
-        answered: firsts.ticks.len() as u64,
+        answered: answered_in(numbers, times),
     };
     write!(text, "{line}\n")?;
-    put_latency(text, "first", firsts)?;
-    put_latency(text, "last", lasts)
+    put_latencies(alloc, text, FIRST, numbers, times, false)?;
+    put_latencies(alloc, text, LAST, numbers, times, true)
 }
 
-/// No latency so far.
-fn no_latencies(alloc: Global) -> Latencies {
-    Latencies {
-        ticks: Vec::new(alloc),
-        slowest: None,
-    }
-}
-
-/// How long each request that was answered took.
-fn answered_in(alloc: Global, numbers: &Numbers, times: &[u64]) -> Result<Answered, AllocError> {
-    let mut found = Answered {
-        firsts: no_latencies(alloc),
-        lasts: no_latencies(alloc),
-    };
-    let arrivals = numbers.arrivals.as_slice();
-    let takes = numbers.takes.as_slice();
-    let mut request: usize = 0;
-    for answers in numbers.answers.as_slice() {
-        if let (Some(given), Some(wait)) = (*answers, takes.get(request)) {
-            if let Some(arrived) = arrival_of(arrivals, times, request) {
-                add(&mut found.firsts, given.first, arrived, wait.thread)?;
-                add(&mut found.lasts, given.last, arrived, wait.thread)?;
-            }
+/// How many requests were answered.
+fn answered_in(numbers: &Numbers, times: &[u64]) -> u64 {
+    let mut answered: u64 = 0;
+    for request in 0..numbers.answers.len() {
+        if latency_of(numbers, times, request, false).is_some() {
+            answered = answered.saturating_add(1);
         }
-        request = request.saturating_add(1);
     }
-    Ok(found)
+    answered
 }
 
-/// Adds the latency of a request that arrived then, and was answered then by that thread.
-fn add(found: &mut Latencies, at: u64, arrived: u64, thread: u32) -> Result<(), AllocError> {
-    let slow = Slowest {
-        ticks: at.saturating_sub(arrived),
-        arrived,
-        thread,
-    };
-    found.ticks.push(slow.ticks)?;
-    found.slowest = Some(slower(found.slowest, slow));
-    Ok(())
-}
-
-/// When the request of that number came, by the trace.
-fn arrival_of(arrivals: &[u64], times: &[u64], request: usize) -> Option<u64> {
-    let line = arrivals.get(request).copied()?;
-    times.get(line as usize).copied()
+/// Adds how long each request that was answered took to its first answer, or to its last one. The answer is the one that took
+/// longest, the earliest of such.
+fn add_latencies(
+    ticks: &mut Vec<u64>,
+    numbers: &Numbers,
+    times: &[u64],
+    to_last: bool,
+) -> Result<Option<Latency>, AllocError> {
+    let mut slowest = None;
+    for request in 0..numbers.answers.len() {
+        if let Some(latency) = latency_of(numbers, times, request, to_last) {
+            slowest = Some(slower(slowest, latency));
+            ticks.push(latency.ticks)?;
+        }
+    }
+    Ok(slowest)
 }
 
 /// The slower of two, and the earlier where they took as long.
-fn slower(before: Option<Slowest>, one: Slowest) -> Slowest {
+fn slower(before: Option<Latency>, one: Latency) -> Latency {
     match before {
         Some(slow) => { if slow.ticks < one.ticks { one } else { slow } }
         None => one,
     }
 }
 
-/// Appends the line on latencies to the first or the last answer.
-fn put_latency(text: &mut String, which: &str, mut found: Latencies) -> Result<(), AllocError> {
-    let Some(spread) = spread_of(found.ticks.as_mut_slice()) else {
-        return Ok(());
-    };
-    put_spread(text, which, spread)?;
-    match found.slowest {
-        Some(slow) => put_slow(text, slow),
-        None => text.push_str("\n"),
+/// How long the request of that number took to its first answer, or to its last one; none where it has none.
+fn latency_of(numbers: &Numbers, times: &[u64], request: usize, to_last: bool) -> Option<Latency> {
+    match (
+        numbers.answers.as_slice().get(request),
+        numbers.takes.as_slice().get(request),
+        arrival_of(numbers, times, request),
+    ) {
+        (Some(Some(given)), Some(take), Some(arrived)) => {
+            let answered = if to_last { given.last } else { given.first };
+            Some(Latency {
+                ticks: answered.saturating_sub(arrived),
+                arrived,
+                thread: take.thread,
+            })
+        }
+        _ => None,
     }
 }
 
-/// Appends how latencies are spread, in ticks.
-fn put_spread(text: &mut String, which: &str, spread: Spread) -> Result<(), AllocError> {
-    put_all(
-        text,
-        &[
-            Piece::Text("latency to the "),
-            Piece::Text(which),
-            Piece::Text(" answer: least "),
-            Piece::Number(spread.least),
-            Piece::Text(", median "),
-            Piece::Number(spread.median),
-            Piece::Text(", 90th "),
-            Piece::Number(spread.ninetieth),
-            Piece::Text(", 99th "),
-            Piece::Number(spread.ninety_ninth),
-            Piece::Text(", greatest "),
-            Piece::Number(spread.greatest),
-        ],
-    )
+/// When the request of that number came, by the trace.
+fn arrival_of(numbers: &Numbers, times: &[u64], request: usize) -> Option<u64> {
+    match numbers.arrivals.as_slice().get(request) {
+        Some(line) => times.get(*line as usize).copied(),
+        None => None,
+    }
 }
 
-/// Appends the request that took longest, and the end of the line.
-fn put_slow(text: &mut String, slow: Slowest) -> Result<(), AllocError> {
-    put_all(
-        text,
-        &[
-            Piece::Text(" (arrived "),
-            Piece::Number(slow.arrived),
-            Piece::Text(", thread "),
-            Piece::Number(u64::from(slow.thread)),
-            Piece::Text(")\n"),
-        ],
-    )
+/// The line on latencies to the first answer, and to the last one.
+const FIRST: &str =
+    "latency to the first answer: least $, median $, 90th $, 99th $, greatest $ (arrived $, thread $)\n";
+
+const LAST: &str =
+    "latency to the last answer: least $, median $, 90th $, 99th $, greatest $ (arrived $, thread $)\n";
+
+/// Appends the line on latencies of that form, in ticks; nothing where there are none.
+fn put_latencies(
+    alloc: Global,
+    text: &mut String,
+    form: &str,
+    numbers: &Numbers,
+    times: &[u64],
+    to_last: bool,
+) -> Result<(), AllocError> {
+    let mut ticks = Vec::new(alloc);
+    match add_latencies(&mut ticks, numbers, times, to_last) {
+        Ok(Some(slowest)) => put_spread(text, form, ticks.as_mut_slice(), slowest),
+        Ok(None) => Ok(()),
+        Err(error) => Err(error),
+    }
+}
+
+/// Appends the same, by what each took and the one that took longest.
+fn put_spread(
+    text: &mut String,
+    form: &str,
+    ticks: &mut [u64],
+    slowest: Latency,
+) -> Result<(), AllocError> {
+    match spread_of(ticks) {
+        Some(spread) => put_form(
+            text,
+            form,
+            &[
+                spread.least,
+                spread.median,
+                spread.ninetieth,
+                spread.ninety_ninth,
+                spread.greatest,
+                slowest.arrived,
+                slowest.thread as u64,
+            ],
+        ),
+        None => Ok(()),
+    }
 }

@@ -1,6 +1,8 @@
 use crate::places::Places;
-use run_history::{History, Standing, Thread, Wait};
-use run_numbers::Takes;
+use crate::report::is_one;
+use crate::takes::Takes;
+use run_history::{History, Standing, Wait};
+use run_pictures::put_form;
 use std::alloc::AllocError;
 
 /// The most threads that are listed.
@@ -18,67 +20,69 @@ pub(crate) fn put_left(
 ) -> Result<u64, AllocError> {
     let mut left: u64 = 0;
     for thread in 0..threads {
-        if let Some(known) = history.thread(thread) {
-            if is_left(known) {
-                if left < LISTED {
-                    put_thread(text, places, thread, known)?;
-                    if !is_at_accept(known, accepts) {
-                        put_take(text, places, takes.lasts.get(&thread).copied())?;
-                    }
-                    text.push_str("\n")?;
-                }
-                left = left.saturating_add(1);
+        if let Some(standing) = standing_left(history, thread) {
+            if left < LISTED {
+                put_standing(text, places, thread, standing)?;
+                put_take(text, places, last_take(takes, accepts, thread, standing))?;
             }
+            left = left.saturating_add(1);
         }
     }
     if left > LISTED {
-        let more = left - LISTED;
-        write!(text, "left: {more} more threads\n")?;
+        put_form(text, "left: $ more threads\n", &[left - LISTED])?;
     }
     Ok(left)
 }
 
-/// Whether a thread of which this is known hasn't ended.
-fn is_left(known: Thread) -> bool {
-    match known.standing {
-        Standing::Ended => false,
-        _ => true,
+/// Where a thread stands that has run and hasn't ended.
+fn standing_left(history: &History, thread: u32) -> Option<Standing> {
+    match history.thread(thread) {
+        Some(known) => match known.standing {
+            Standing::Ended => None,
+            standing => Some(standing),
+        },
+        None => None,
     }
 }
 
-/// Appends the line of a thread that is left.
-fn put_thread(
+/// Appends where a thread stands that is left.
+fn put_standing(
     text: &mut String,
     places: &Places,
     thread: u32,
-    known: Thread,
+    standing: Standing,
 ) -> Result<(), AllocError> {
-    match known.standing {
-        Standing::Runs => write!(text, "left: thread {thread}, whose segment was cut"),
+    match standing {
         Standing::Waits { site, since, .. } => {
-            write!(text, "left: thread {thread} waits at ")?;
+            put_form(text, "left: thread $ waits at ", &[thread as u64])?;
             places.put_site_text(text, site)?;
-            write!(text, " since {since}")
+            put_form(text, " since $", &[since])
         }
-        Standing::Ended => Ok(()),
+        _ => put_form(
+            text,
+            "left: thread $, whose segment was cut",
+            &[thread as u64],
+        ),
     }
 }
 
-/// Whether a thread of which this is known waits at `accept`: it is done with its request.
-fn is_at_accept(known: Thread, accepts: &[bool]) -> bool {
-    match known.standing {
-        Standing::Waits { site, .. } => accepts.get(site as usize).copied().unwrap_or(false),
-        _ => false,
+/// The wait at `take` that a thread which stands so went past last, where there was one since it took its request; none where it
+/// waits at `accept`: it is done with its request.
+fn last_take(takes: &Takes, accepts: &[bool], thread: u32, standing: Standing) -> Option<Wait> {
+    match standing {
+        Standing::Waits { site, .. } if is_one(accepts, site) => None,
+        _ => takes.lasts.get(&thread).copied(),
     }
 }
 
-/// Appends the `take` that a thread went past last, where there was one since it took its request.
+/// Appends the `take` that a thread went past last, where there was one, and the end of its line.
 fn put_take(text: &mut String, places: &Places, last: Option<Wait>) -> Result<(), AllocError> {
-    if let Some(wait) = last {
-        let until = wait.until;
-        text.push_str(", went past ")?;
-        places.put_site_text(text, wait.site)?;
-        write!(text, " at {until}")?;
+    match last {
+        Some(wait) => {
+            text.push_str(", went past ")?;
+            places.put_site_text(text, wait.site)?;
+            put_form(text, " at $\n", &[wait.until])
+        }
+        None => text.push_str("\n"),
     }
-    Ok(())
 }

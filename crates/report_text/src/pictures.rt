@@ -6,7 +6,12 @@ use run_history::{Happening, History, Standing, Wait};
 use run_pictures::{GraphEdge, Rows, put_drawing, put_graph, put_timeline};
 use schedule_log::{Entry, read_entry};
 use std::alloc::{AllocError, Global};
-use std::collections::BTreeMap;
+use std::collections::{BTreeMap, BTreeSet};
+
+/// What takes in what the lines of a log tell, one after another.
+trait Telling {
+    fn take(&mut self, told: Happening) -> Result<(), AllocError>;
+}
 
 /// What a log tells of the size of its timeline.
 #[derive(Drop)]
@@ -15,10 +20,28 @@ struct Survey {
     end: u64,
     /// How many threads ran.
     threads: u64,
-    /// One more than the greatest number of a thread that ran.
-    most: u32,
     /// The sites at which threads waited or still wait.
-    sites: BTreeMap<u32, bool>,
+    sites: BTreeSet<u32>,
+}
+
+impl Telling for Survey {
+    fn take(&mut self, told: Happening) -> Result<(), AllocError> {
+        match told {
+            Happening::Started { .. } => self.threads = self.threads.saturating_add(1),
+            Happening::Waited(wait) => {
+                self.sites.insert(wait.site)?;
+            }
+            Happening::Ran { segment, .. } => self.end = segment.ended,
+            _ => (),
+        }
+        Ok(())
+    }
+}
+
+impl Telling for Rows {
+    fn take(&mut self, told: Happening) -> Result<(), AllocError> {
+        self.add(told)
+    }
 }
 
 /// Appends the timeline of the run with this log, as SVG. The log is read twice, and none of its entries is kept.
@@ -28,13 +51,151 @@ pub fn put_times(
     places: &Places,
     log: &[u8],
 ) -> Result<(), ReportError> {
-    let accepts = places.accepts(alloc).map_err(of_memory)?;
-    let survey = survey_of(alloc, log, accepts.as_slice())?;
+    match places.sites_of(alloc, b"accept") {
+        Ok(accepts) => put_told(alloc, text, places, log, accepts.as_slice()),
+        Err(AllocError) => Err(ReportError::Memory),
+    }
+}
+
+/// Appends the same, where it is known of each site whether its call is `accept`.
+fn put_told(
+    alloc: Global,
+    text: &mut String,
+    places: &Places,
+    log: &[u8],
+    accepts: &[bool],
+) -> Result<(), ReportError> {
+    let mut survey = Survey {
+        end: 0,
+        threads: 0,
+        sites: BTreeSet::new(alloc),
+    };
+    match tell(alloc, log, accepts, &mut survey) {
+        Ok(()) => put_surveyed(alloc, text, places, log, accepts, &survey),
+        Err(error) => Err(error),
+    }
+}
+
+/// Appends the same, with that survey.
+fn put_surveyed(
+    alloc: Global,
+    text: &mut String,
+    places: &Places,
+    log: &[u8],
+    accepts: &[bool],
+    survey: &Survey,
+) -> Result<(), ReportError> {
     let wide = if survey.threads > 100 { 3 } else { 1 };
-    let rows = rows_of(alloc, log, accepts.as_slice(), &survey, wide)?;
-    let sites = sites_in(alloc, &survey).map_err(of_memory)?;
-    let names = names_of(alloc, places, sites.as_slice()).map_err(of_memory)?;
-    put_timeline(text, &rows, sites.as_slice(), names.as_slice()).map_err(of_memory)
+    let mut rows = Rows::new(alloc, survey.end, wide);
+    match tell(alloc, log, accepts, &mut rows) {
+        Ok(()) => of_text(put_rows(alloc, text, places, survey, &rows)),
+        Err(error) => Err(error),
+    }
+}
+
+/// What is answered where a picture was put, or couldn't be.
+fn of_text(put: Result<(), AllocError>) -> Result<(), ReportError> {
+    match put {
+        Ok(()) => Ok(()),
+        Err(AllocError) => Err(ReportError::Memory),
+    }
+}
+
+/// Has all lines of a log told, and then the waits that are under way when the run ends, as if they ended then.
+fn tell<T: Telling>(
+    alloc: Global,
+    log: &[u8],
+    accepts: &[bool],
+    to: &mut T,
+) -> Result<(), ReportError> {
+    let mut history = History::new(alloc);
+    let mut threads: u32 = 0;
+    let mut end: u64 = 0;
+    for line in Lines::new(log) {
+        let told = told_by(&mut history, line, accepts)?;
+        match told {
+            Happening::Started { thread, .. } => threads = threads.max(thread.saturating_add(1)),
+            Happening::Ran { segment, .. } => end = segment.ended,
+            _ => (),
+        }
+        to.take(told)?;
+    }
+    for thread in 0..threads {
+        if let Some(wait) = wait_left(&history, thread, end) {
+            to.take(Happening::Waited(wait))?;
+        }
+    }
+    Ok(())
+}
+
+/// What one line more of a log tells.
+fn told_by(history: &mut History, line: &[u8], accepts: &[bool]) -> Result<Happening, ReportError> {
+    match read_entry(line) {
+        Ok(entry) => match history.tell(&entry, accepts) {
+            Ok(told) => Ok(told),
+            Err(_) => Err(ReportError::Log),
+        },
+        Err(_) => Err(ReportError::Log),
+    }
+}
+
+/// The wait of a thread that is still under way when the run ends, at that clock.
+fn wait_left(history: &History, thread: u32, end: u64) -> Option<Wait> {
+    match history.thread(thread) {
+        Some(known) => match known.standing {
+            Standing::Waits { site, since, .. } => Some(Wait {
+                thread,
+                site,
+                since,
+                until: end,
+                request: None,
+            }),
+            _ => None,
+        },
+        None => None,
+    }
+}
+
+/// Appends the timeline with these rows.
+fn put_rows(
+    alloc: Global,
+    text: &mut String,
+    places: &Places,
+    survey: &Survey,
+    rows: &Rows,
+) -> Result<(), AllocError> {
+    let mut sites = Vec::new(alloc);
+    let mut names = Vec::new(alloc);
+    match add_sites(alloc, places, survey, &mut sites, &mut names) {
+        Ok(()) => put_timeline(text, rows, sites.as_slice(), names.as_slice()),
+        Err(error) => Err(error),
+    }
+}
+
+/// Adds the sites of a survey, and their names.
+fn add_sites(
+    alloc: Global,
+    places: &Places,
+    survey: &Survey,
+    sites: &mut Vec<u32>,
+    names: &mut Vec<String>,
+) -> Result<(), AllocError> {
+    for site in &survey.sites {
+        sites.push(*site)?;
+        add_name(names, name_of(alloc, places, &[*site]))?;
+    }
+    Ok(())
+}
+
+/// Adds a name that was made, where it could be.
+fn add_name(names: &mut Vec<String>, made: Result<String, AllocError>) -> Result<(), AllocError> {
+    match made {
+        Ok(name) => match names.push(name) {
+            Ok(()) => Ok(()),
+            Err(_) => Err(AllocError),
+        },
+        Err(error) => Err(error),
+    }
 }
 
 /// Appends the blocking graph of the run with this log, as SVG or as DOT.
@@ -47,23 +208,25 @@ pub fn put_blocking(
 ) -> Result<(), ReportError> {
     let mut edges = Vec::new(alloc);
     let mut nodes: BTreeMap<u32, SiteKey> = BTreeMap::new(alloc);
-    for line in Lines::new(log) {
-        match read_entry(line) {
-            Ok(entry) => note(&mut edges, &mut nodes, &entry).map_err(of_memory)?,
-            Err(_) => return Err(ReportError::Log),
-        }
+    match note_all(&mut edges, &mut nodes, log) {
+        Ok(()) => of_text(put_nodes(alloc, text, places, &nodes, edges.as_slice(), is_dot)),
+        Err(error) => Err(error),
     }
-    let names = node_names(alloc, places, &nodes).map_err(of_memory)?;
-    let put = if is_dot {
-        put_graph(text, names.as_slice(), edges.as_slice())
-    } else {
-        put_drawing(text, names.as_slice(), edges.as_slice())
-    };
-    put.map_err(of_memory)
 }
 
-fn of_memory(_error: AllocError) -> ReportError {
-    ReportError::Memory
+/// Notes the nodes and the edges of a log.
+fn note_all(
+    edges: &mut Vec<GraphEdge>,
+    nodes: &mut BTreeMap<u32, SiteKey>,
+    log: &[u8],
+) -> Result<(), ReportError> {
+    for line in Lines::new(log) {
+        match read_entry(line) {
+            Ok(entry) => of_text(note(edges, nodes, &entry)),
+            Err(_) => Err(ReportError::Log),
+        }?;
+    }
+    Ok(())
 }
 
 /// Notes the node of a `block`, by its key, and an edge.
@@ -73,167 +236,82 @@ fn note(
     entry: &Entry,
 ) -> Result<(), AllocError> {
     match entry {
-        Entry::Block { node, key, .. } => {
-            nodes.insert(*node, *key)?;
-            Ok(())
-        }
+        Entry::Block { node, key, .. } => match nodes.insert(*node, *key) {
+            Ok(_) => Ok(()),
+            Err(_) => Err(AllocError),
+        },
         Entry::Edge {
             from,
             to,
             count,
             cost,
             changes,
-        } => {
-            edges.push(GraphEdge {
-                from: *from,
-                to: *to,
-                count: *count,
-                cost: *cost,
-                changes: *changes,
-            })?;
-            Ok(())
-        }
+        } => match edges.push(GraphEdge {
+            from: *from,
+            to: *to,
+            count: *count,
+            cost: *cost,
+            changes: *changes,
+        }) {
+            Ok(()) => Ok(()),
+            Err(_) => Err(AllocError),
+        },
         _ => Ok(()),
     }
 }
 
-/// The names of the nodes by their numbers: 0 is where threads begin, 1 where they end, and from 2 on stand the places at which
+/// Appends the blocking graph with these nodes and edges.
+fn put_nodes(
+    alloc: Global,
+    text: &mut String,
+    places: &Places,
+    nodes: &BTreeMap<u32, SiteKey>,
+    edges: &[GraphEdge],
+    is_dot: bool,
+) -> Result<(), AllocError> {
+    let mut names = Vec::new(alloc);
+    match add_nodes(alloc, places, nodes, &mut names) {
+        Ok(()) if is_dot => put_graph(text, names.as_slice(), edges),
+        Ok(()) => put_drawing(text, names.as_slice(), edges),
+        Err(error) => Err(error),
+    }
+}
+
+/// Adds the names of the nodes by their numbers: 0 is where threads begin, 1 where they end, and from 2 on stand the places at which
 /// they block, each with the line and column of the calls that led to it, the innermost first.
-fn node_names(
+fn add_nodes(
     alloc: Global,
     places: &Places,
     nodes: &BTreeMap<u32, SiteKey>,
-) -> Result<Vec<String>, AllocError> {
-    let mut names = Vec::new(alloc);
-    names.push(word_of(alloc, "start")?)?;
-    names.push(word_of(alloc, "end")?)?;
+    names: &mut Vec<String>,
+) -> Result<(), AllocError> {
+    add_name(names, String::from_str(alloc, "start"))?;
+    add_name(names, String::from_str(alloc, "end"))?;
     for (_, key) in nodes {
-        let mut name = String::new(alloc);
-        put_key(&mut name, places, key)?;
-        names.push(name)?;
-    }
-    Ok(names)
-}
-
-/// Appends the place of a key's innermost site, and the lines and columns of the others.
-fn put_key(name: &mut String, places: &Places, key: &SiteKey) -> Result<(), AllocError> {
-    let mut is_innermost = true;
-    for site in key.sites() {
-        if is_innermost {
-            places.put_site(name, *site)?;
-        } else {
-            name.push_str(" < ")?;
-            places.put_line(name, *site)?;
-        }
-        is_innermost = false;
+        add_name(names, name_of(alloc, places, key.sites()))?;
     }
     Ok(())
 }
 
-/// A word as a name.
-fn word_of(alloc: Global, word: &str) -> Result<String, AllocError> {
+/// The place of the innermost of the sites of a key, and the lines and columns of the others.
+fn name_of(alloc: Global, places: &Places, sites: &[u32]) -> Result<String, AllocError> {
     let mut name = String::new(alloc);
-    name.push_str(word)?;
-    Ok(name)
-}
-
-/// What a log tells of the size of its timeline.
-fn survey_of(alloc: Global, log: &[u8], accepts: &[bool]) -> Result<Survey, ReportError> {
-    let mut history = History::new(alloc);
-    let mut survey = Survey {
-        end: 0,
-        threads: 0,
-        most: 0,
-        sites: BTreeMap::new(alloc),
-    };
-    for line in Lines::new(log) {
-        match told_by(&mut history, line, accepts)? {
-            Happening::Started { thread, .. } => {
-                survey.threads = survey.threads.saturating_add(1);
-                survey.most = survey.most.max(thread.saturating_add(1));
-            }
-            Happening::Waited(wait) => {
-                if survey.sites.insert(wait.site, true).is_err() {
-                    return Err(ReportError::Memory);
-                }
-            }
-            Happening::Ran { segment, .. } => survey.end = segment.ended,
-            _ => (),
-        }
-    }
-    for thread in 0..survey.most {
-        if let Some(wait) = wait_left(&history, thread, survey.end) {
-            if survey.sites.insert(wait.site, true).is_err() {
-                return Err(ReportError::Memory);
-            }
-        }
-    }
-    Ok(survey)
-}
-
-/// The wait of a thread that is still under way when the run ends, at that clock.
-fn wait_left(history: &History, thread: u32, end: u64) -> Option<Wait> {
-    match history.thread(thread)?.standing {
-        Standing::Waits { site, since, .. } => Some(Wait {
-            thread,
-            site,
-            since,
-            until: end,
-            request: None,
-        }),
-        _ => None,
+    match put_key(&mut name, places, sites) {
+        Ok(()) => Ok(name),
+        Err(error) => Err(error),
     }
 }
 
-/// The rows of the timeline of a log with that survey, with places of so many columns.
-fn rows_of(
-    alloc: Global,
-    log: &[u8],
-    accepts: &[bool],
-    survey: &Survey,
-    wide: u32,
-) -> Result<Rows, ReportError> {
-    let mut history = History::new(alloc);
-    let mut rows = Rows::new(alloc, survey.end, wide);
-    for line in Lines::new(log) {
-        let told = told_by(&mut history, line, accepts)?;
-        rows.add(told).map_err(of_memory)?;
-    }
-    for thread in 0..survey.most {
-        if let Some(wait) = wait_left(&history, thread, survey.end) {
-            rows.add(Happening::Waited(wait)).map_err(of_memory)?;
-        }
-    }
-    Ok(rows)
-}
-
-/// What one line more of a log tells.
-fn told_by(history: &mut History, line: &[u8], accepts: &[bool]) -> Result<Happening, ReportError> {
-    let Ok(entry) = read_entry(line) else {
-        return Err(ReportError::Log);
-    };
-    match history.tell(&entry, accepts) {
-        Ok(told) => Ok(told),
-        Err(_) => Err(ReportError::Log),
-    }
-}
-
-/// The sites at which threads waited, rising.
-fn sites_in(alloc: Global, survey: &Survey) -> Result<Vec<u32>, AllocError> {
-    let mut sites = Vec::new(alloc);
-    for (site, _) in &survey.sites {
-        sites.push(*site)?;
-    }
-    Ok(sites)
-}
-
-/// The names of sites.
-fn names_of(alloc: Global, places: &Places, sites: &[u32]) -> Result<Vec<String>, AllocError> {
-    let mut names = Vec::new(alloc);
+/// Appends the same.
+fn put_key(name: &mut String, places: &Places, sites: &[u32]) -> Result<(), AllocError> {
+    let mut is_innermost = true;
     for site in sites {
-        let mut name = String::new(alloc);
-        places.put_site(&mut name, *site)?;
-        names.push(name)?;
+        if is_innermost {
+            places.put_site(name, *site)
+        } else {
+            places.put_line_below(name, *site)
+        }?;
+        is_innermost = false;
     }
-    Ok(names)
+    Ok(())
 }

@@ -3,9 +3,10 @@ ghost use Rattle.std.specs.Prelude.{◌≤◌, length, IfOk};
 use crate::elements::{Element, elements_of};
 use c_lex::{Mark, Token, TokenKind, lex};
 use c_parse::parse_nested;
-use c_tree::RawItem;
+use c_tree::{RawItem, RawProgram};
 use call_places::places_of_calls;
-use source_positions::position_of;
+use report_figures::{Position, position_of};
+use run_pictures::put_form;
 use std::alloc::{AllocError, Global};
 
 /// Why a source has no places.
@@ -24,88 +25,98 @@ pub struct Places {
     file: String,
     source: Vec<u8>,
     tokens: Vec<Token>,
+    names: Names,
+}
+
+/// Where names of a source stand.
+#[derive(Drop)]
+struct Names {
     /// The place of each call's name, by the number of its site.
     calls: Vec<u32>,
     /// The places of the names of the functions that are defined, by their numbers: rising.
     functions: Vec<u32>,
-    /// The places of the names of the globals that are declared, by their numbers.
+    /// The places of the names of the globals that are declared, arrays and others, by their numbers.
     globals: Vec<u32>,
+}
+
+/// An array of a function: a global one by its number, or those of its local ones that have so many words.
+#[derive(Clone, Copy)]
+enum Array {
+    Global(u32),
+    Local(u32),
 }
 
 impl Places {
     /// The places of the source of these bytes, in the file of that name.
     pub fn read(alloc: Global, file: String, source: Vec<u8>) -> Result<Places, PlacesError> {
-        let tokens = tokens_of(alloc, source.as_slice())?;
-        let Ok(raw) = parse_nested(alloc, source.as_slice(), tokens.as_slice()) else {
-            return Err(PlacesError::Source);
-        };
-        let calls = places_of_calls(alloc, &raw).map_err(|_| PlacesError::Memory)?;
-        let functions = functions_of(alloc, raw.items()).map_err(|_| PlacesError::Memory)?;
-        let globals = globals_of(alloc, raw.items()).map_err(|_| PlacesError::Memory)?;
-        Ok(Places {
-            file,
-            source,
-            tokens,
-            calls,
-            functions,
-            globals,
-        })
-    }
-
-    /// For each site, whether its call is `accept`.
-    pub fn accepts(&self, alloc: Global) -> Result<Vec<bool>, AllocError> {
-        self.sites_of(alloc, b"accept")
-    }
-
-    /// For each site, whether its call is `take`.
-    pub fn takes(&self, alloc: Global) -> Result<Vec<bool>, AllocError> {
-        self.sites_of(alloc, b"take")
+        match tokens_of(alloc, source.as_slice()) {
+            Ok(tokens) => match names_in(alloc, source.as_slice(), tokens.as_slice()) {
+                Ok(names) => Ok(Places {
+                    file,
+                    source,
+                    tokens,
+                    names,
+                }),
+                Err(error) => Err(error),
+            },
+            Err(error) => Err(error),
+        }
     }
 
     /// For each site, whether its call has that name.
-    fn sites_of(&self, alloc: Global, name: &[u8]) -> Result<Vec<bool>, AllocError> {
+    pub(crate) fn sites_of(&self, alloc: Global, name: &[u8]) -> Result<Vec<bool>, AllocError> {
         let mut sites = Vec::new(alloc);
-        for at in self.calls.as_slice() {
-            sites.push(name_in(rest_of(self.source.as_slice(), *at)) == name)?;
+        for at in self.names.calls.as_slice() {
+            sites.push(self.name_at(*at) == name)?;
         }
         Ok(sites)
     }
 
     /// Appends where a site stands, what is called there and in which function: `server.c:12:5 accept in worker`.
     pub fn put_site(&self, text: &mut String, site: u32) -> Result<(), AllocError> {
-        match self.calls.as_slice().get(site as usize) {
-            Some(at) => self.put_call(text, *at),
-            None => write!(text, "site {site}"),
+        match self.call(site) {
+            Some(at) => {
+                self.put_place(text, at)?;
+                put_bytes(text, self.name_at(at))?;
+                self.put_inside(text, at)
+            }
+            None => put_number(text, site),
         }
     }
 
     /// Appends the same with the whole text of the call: `server.c:12:5 take(1, n) in worker`. Of a long one the beginning stands
     /// there.
     pub fn put_site_text(&self, text: &mut String, site: u32) -> Result<(), AllocError> {
-        match self.calls.as_slice().get(site as usize) {
+        match self.call(site) {
             Some(at) => {
-                self.put_place(text, *at)?;
-                text.push_str(" ")?;
-                put_call_text(text, self.source.as_slice(), self.tokens.as_slice(), *at)?;
-                self.put_inside(text, *at)
+                self.put_place(text, at)?;
+                put_call_text(text, self.source.as_slice(), self.tokens.as_slice(), at)?;
+                self.put_inside(text, at)
             }
-            None => write!(text, "site {site}"),
+            None => put_number(text, site),
         }
     }
 
-    /// Appends the line and the column of a site: `12:5`.
-    pub fn put_line(&self, text: &mut String, site: u32) -> Result<(), AllocError> {
-        match self.calls.as_slice().get(site as usize) {
-            Some(at) => self.put_position(text, *at),
-            None => write!(text, "site {site}"),
+    /// Appends the line and the column of a site whose call led to the one before: ` < 12:5`.
+    pub(crate) fn put_line_below(&self, text: &mut String, site: u32) -> Result<(), AllocError> {
+        match self.call(site) {
+            Some(at) => {
+                let position = self.position(at);
+                put_form(
+                    text,
+                    " < $:$",
+                    &[position.line as u64, position.column as u64],
+                )
+            }
+            None => put_form(text, " < site $", &[site as u64]),
         }
     }
 
     /// Appends the name of the function of that number, in the order of their definitions.
     pub fn put_function(&self, text: &mut String, function: u32) -> Result<(), AllocError> {
-        match self.functions.as_slice().get(function as usize) {
-            Some(at) => put_name(text, rest_of(self.source.as_slice(), *at)),
-            None => write!(text, "function {function}"),
+        match self.names.functions.as_slice().get(function as usize) {
+            Some(at) => put_bytes(text, self.name_at(*at)),
+            None => put_form(text, "function $", &[function as u64]),
         }
     }
 
@@ -119,17 +130,7 @@ impl Places {
         array: u32,
         assigns: bool,
     ) -> Result<(), AllocError> {
-        let elements = self.elements(alloc, function)?;
-        let source = self.source.as_slice();
-        let mut found = Vec::new(alloc);
-        if let Some(name) = self.globals.as_slice().get(array as usize) {
-            for element in elements.as_slice() {
-                if is_access(element, assigns) && is_same_name(source, element.at, *name) {
-                    found.push(element.at)?;
-                }
-            }
-        }
-        self.put_some(text, found.as_slice())
+        self.put_elements(alloc, text, function, Array::Global(array), assigns)
     }
 
     /// The same of its local arrays of so many words.
@@ -141,90 +142,122 @@ impl Places {
         words: u32,
         assigns: bool,
     ) -> Result<(), AllocError> {
-        let elements = self.elements(alloc, function)?;
-        let source = self.source.as_slice();
-        let mut found = Vec::new(alloc);
-        for element in elements.as_slice() {
-            if is_access(element, assigns)
-                && is_declared(source, elements.as_slice(), element.at, words)
-            {
-                found.push(element.at)?;
-            }
-        }
-        self.put_some(text, found.as_slice())
+        self.put_elements(alloc, text, function, Array::Local(words), assigns)
     }
 
-    /// The elements of arrays and the declarations of arrays in the text of a function.
-    fn elements(&self, alloc: Global, function: u32) -> Result<Vec<Element>, AllocError> {
-        let functions = self.functions.as_slice();
-        let from = functions
-            .get(function as usize)
-            .copied()
-            .unwrap_or(u32::MAX);
-        let to = functions
-            .get((function as usize).saturating_add(1))
-            .copied()
-            .unwrap_or(u32::MAX);
-        elements_of(alloc, self.tokens.as_slice(), from, to)
-    }
-
-    /// Appends up to four places of names with these, and how many more there are.
-    fn put_some(&self, text: &mut String, places: &[u32]) -> Result<(), AllocError> {
+    /// The same of an array.
+    fn put_elements(
+        &self,
+        alloc: Global,
+        text: &mut String,
+        function: u32,
+        array: Array,
+        assigns: bool,
+    ) -> Result<(), AllocError> {
+        let number = function as usize;
+        let from = self.function(number);
+        let to = self.function(number.saturating_add(1));
+        let elements = elements_of(alloc, self.tokens.as_slice(), from, to)?;
         let mut shown: u64 = 0;
-        for at in places {
-            if shown < SHOWN {
-                text.push_str(if shown == 0 { ", at " } else { " or " })?;
-                self.put_place(text, *at)?;
-                text.push_str(" ")?;
-                put_name(text, rest_of(self.source.as_slice(), *at))?;
+        for element in elements.as_slice() {
+            if element.declared.is_none()
+                && element.is_assigned == assigns
+                && self.is_of(array, element.at, elements.as_slice())
+            {
+                if shown < SHOWN {
+                    self.put_element(text, element.at, shown == 0)?;
+                }
+                shown = shown.saturating_add(1);
             }
-            shown = shown.saturating_add(1);
         }
         if shown > SHOWN {
-            let more = shown - SHOWN;
-            write!(text, " or at {more} more places")?;
+            put_form(text, " or at $ more places", &[shown - SHOWN])
+        } else {
+            Ok(())
         }
-        Ok(())
     }
 
-    /// Appends where the call with a name at that place stands.
-    fn put_call(&self, text: &mut String, at: u32) -> Result<(), AllocError> {
+    /// Whether the name at that place is that of an array, in a function with these elements and declarations.
+    fn is_of(&self, array: Array, at: u32, elements: &[Element]) -> bool {
+        match array {
+            Array::Global(number) => match self.names.globals.as_slice().get(number as usize) {
+                Some(name) => self.name_at(at) == self.name_at(*name),
+                None => false,
+            },
+            Array::Local(words) => self.is_declared(at, words, elements),
+        }
+    }
+
+    /// Whether the name at that place is one that is declared as an array of so many words.
+    fn is_declared(&self, at: u32, words: u32, elements: &[Element]) -> bool {
+        for element in elements {
+            if element.declared == Some(words) && self.name_at(element.at) == self.name_at(at) {
+                return true;
+            }
+        }
+        false
+    }
+
+    /// Appends the place of an element.
+    fn put_element(&self, text: &mut String, at: u32, is_first: bool) -> Result<(), AllocError> {
+        text.push_str(if is_first { ", at " } else { " or " })?;
         self.put_place(text, at)?;
-        text.push_str(" ")?;
-        put_name(text, rest_of(self.source.as_slice(), at))?;
-        self.put_inside(text, at)
+        put_bytes(text, self.name_at(at))
+    }
+
+    /// The place of the name of the call of a site.
+    fn call(&self, site: u32) -> Option<u32> {
+        self.names.calls.as_slice().get(site as usize).copied()
+    }
+
+    /// Where the function of that number begins; behind all places where there is none.
+    fn function(&self, number: usize) -> u32 {
+        match self.names.functions.as_slice().get(number) {
+            Some(at) => *at,
+            None => u32::MAX,
+        }
     }
 
     /// Appends in which function a place stands.
     fn put_inside(&self, text: &mut String, at: u32) -> Result<(), AllocError> {
-        match function_at(self.functions.as_slice(), at) {
+        match function_at(self.names.functions.as_slice(), at) {
             Some(function) => {
                 text.push_str(" in ")?;
-                put_name(text, rest_of(self.source.as_slice(), function))
+                put_bytes(text, self.name_at(function))
             }
             None => Ok(()),
         }
     }
 
-    /// Appends a place: `server.c:12:5`.
+    /// Appends a place, and a blank: `server.c:12:5 `.
     fn put_place(&self, text: &mut String, at: u32) -> Result<(), AllocError> {
+        let position = self.position(at);
         text.push_str(self.file.as_str())?;
-        text.push_str(":")?;
-        self.put_position(text, at)
+        put_form(
+            text,
+            ":$:$ ",
+            &[position.line as u64, position.column as u64],
+        )
     }
 
-    /// Appends the line and the column of a place: `12:5`.
-    fn put_position(&self, text: &mut String, at: u32) -> Result<(), AllocError> {
+    /// The line and the column of a place.
+    fn position(&self, at: u32) -> Position {
         let source = self.source.as_slice();
-        let inside = (at as usize).min(source.len());
-        if source.len() <= MOST_BYTES {
-            let position = position_of(source, inside);
-            let line = position.line;
-            let column = position.column;
-            write!(text, "{line}:{column}")
-        } else {
-            Ok(())
+        let text = &source[..source.len().min(MOST_BYTES)];
+        position_of(text, (at as usize).min(text.len()))
+    }
+
+    /// The name that begins at a place.
+    fn name_at(&self, at: u32) -> &[u8] {
+        let rest = rest_of(self.source.as_slice(), at);
+        let mut length: usize = 0;
+        for byte in rest {
+            if !is_of_name(*byte) {
+                return &rest[..length.min(rest.len())];
+            }
+            length = length.saturating_add(1);
         }
+        rest
     }
 }
 
@@ -244,66 +277,70 @@ fn tokens_of(alloc: Global, source: &[u8]) -> Result<Vec<Token>, PlacesError>
     if source.len() > MOST_BYTES {
         return Err(PlacesError::Source);
     }
-    lex(alloc, source).map_err(|_| PlacesError::Source)
-}
-
-/// The places of the names of the functions that items define.
-fn functions_of(alloc: Global, items: &[RawItem]) -> Result<Vec<u32>, AllocError> {
-    let mut functions = Vec::new(alloc);
-    for item in items {
-        if let RawItem::Function(function) = item {
-            functions.push(function.name.at)?;
-        }
+    match lex(alloc, source) {
+        Ok(tokens) => Ok(tokens),
+        Err(_) => Err(PlacesError::Source),
     }
-    Ok(functions)
 }
 
-/// The places of the names of the globals that items declare, arrays and others.
-fn globals_of(alloc: Global, items: &[RawItem]) -> Result<Vec<u32>, AllocError> {
-    let mut globals = Vec::new(alloc);
+/// Where the names of a source with these tokens stand.
+fn names_in(alloc: Global, source: &[u8], tokens: &[Token]) -> Result<Names, PlacesError>
+    requires { length source.now ≤ 1048576 }
+{
+    match parse_nested(alloc, source, tokens) {
+        Ok(raw) => {
+            let names = names_of(alloc, &raw);
+            drop(raw);
+            match names {
+                Ok(names) => Ok(names),
+                Err(AllocError) => Err(PlacesError::Memory),
+            }
+        }
+        Err(_) => Err(PlacesError::Source),
+    }
+}
+
+/// Where the names of a source stand that is read.
+fn names_of(alloc: Global, raw: &RawProgram) -> Result<Names, AllocError> {
+    match places_of_calls(alloc, raw) {
+        Ok(calls) => {
+            let mut names = Names {
+                calls,
+                functions: Vec::new(alloc),
+                globals: Vec::new(alloc),
+            };
+            match add_items(&mut names, raw.items()) {
+                Ok(()) => Ok(names),
+                Err(error) => Err(error),
+            }
+        }
+        Err(error) => Err(error),
+    }
+}
+
+/// Adds where the names of functions and globals stand.
+fn add_items(names: &mut Names, items: &[RawItem]) -> Result<(), AllocError> {
     for item in items {
         match item {
-            RawItem::Global { name, .. } => globals.push(name.at)?,
-            RawItem::GlobalArray { name, .. } => globals.push(name.at)?,
-            RawItem::Table(_) => (),
-            RawItem::Prototype(_) => (),
-            RawItem::Function(_) => (),
-        }
+            RawItem::Global { name, .. } => push(&mut names.globals, name.at),
+            RawItem::GlobalArray { name, .. } => push(&mut names.globals, name.at),
+            RawItem::Table(_) => Ok(()),
+            RawItem::Prototype(_) => Ok(()),
+            RawItem::Function(function) => push(&mut names.functions, function.name.at),
+        }?;
     }
-    Ok(globals)
+    Ok(())
 }
 
-/// Whether an element is read, or a value is assigned to it.
-fn is_access(element: &Element, assigns: bool) -> bool {
-    element.declared.is_none() && element.is_assigned == assigns
+/// Adds a place.
+fn push(places: &mut Vec<u32>, at: u32) -> Result<(), AllocError> {
+    places.push(at)?;
+    Ok(())
 }
 
-/// Whether the name at that place is one that is declared as an array of so many words.
-fn is_declared(source: &[u8], elements: &[Element], at: u32, words: u32) -> bool {
-    let mut is_found = false;
-    for element in elements {
-        if element.declared == Some(words) && is_same_name(source, element.at, at) {
-            is_found = true;
-        }
-    }
-    is_found
-}
-
-/// Whether the same name stands at two places.
-fn is_same_name(source: &[u8], one: u32, other: u32) -> bool {
-    name_in(rest_of(source, one)) == name_in(rest_of(source, other))
-}
-
-/// The name that a text begins with.
-fn name_in(text: &[u8]) -> &[u8] {
-    let mut length: usize = 0;
-    for byte in text {
-        if !is_of_name(*byte) {
-            return &text[..length.min(text.len())];
-        }
-        length = length.saturating_add(1);
-    }
-    text
+/// Appends a site by its number, where it has no place.
+fn put_number(text: &mut String, site: u32) -> Result<(), AllocError> {
+    put_form(text, "site $", &[site as u64])
 }
 
 /// Appends the text of the call whose name stands at that place, with one blank for each white space in it.
@@ -320,16 +357,15 @@ fn put_call_text(
     for byte in &rest[..shown] {
         let is_blank = *byte <= b' ';
         if !is_blank {
-            text.push(char::from(*byte))?;
+            text.push(char::from(*byte))
         } else if !was_blank {
-            text.push_str(" ")?;
-        }
+            text.push_str(" ")
+        } else {
+            Ok(())
+        }?;
         was_blank = is_blank;
     }
-    if shown < length {
-        text.push_str(" ..")?;
-    }
-    Ok(())
+    text.push_str(if shown < length { " .." } else { "" })
 }
 
 /// The place behind the parenthesis that closes the call whose name stands at that place.
@@ -374,12 +410,9 @@ fn is_of_name(byte: u8) -> bool {
     byte.is_ascii_alphanumeric() || byte == b'_'
 }
 
-/// Appends the name that a text begins with.
-fn put_name(text: &mut String, bytes: &[u8]) -> Result<(), AllocError> {
+/// Appends bytes as characters.
+pub(crate) fn put_bytes(text: &mut String, bytes: &[u8]) -> Result<(), AllocError> {
     for byte in bytes {
-        if !is_of_name(*byte) {
-            return Ok(());
-        }
         text.push(char::from(*byte))?;
     }
     Ok(())

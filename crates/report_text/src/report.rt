@@ -1,14 +1,14 @@
 use crate::latencies::put_requests;
 use crate::left::put_left;
 use crate::lines::ChunksLine;
-use crate::places::Places;
+use crate::places::{Places, put_bytes};
+use crate::reading::{ReadError, Reading, Watch, WatchError, numbers_of};
+use crate::takes::Takes;
 use crate::waits::put_waits;
 use cap_word::SiteKey;
-use choice_reasons::Choices;
-use gate_spells::{Marks, Spells};
+use choice_reasons::{Choices, Marks, Spells};
 use run_history::Happening;
-use run_numbers::{ReadError, Takes, Watch, WatchError, numbers_of};
-use run_pictures::{Piece, put_all};
+use run_pictures::put_form;
 use schedule_log::{Entry, Item};
 use std::alloc::{AllocError, Global};
 
@@ -19,6 +19,12 @@ pub enum ReportError {
     Log,
     /// There is no memory.
     Memory,
+}
+
+impl From<AllocError> for ReportError {
+    fn from(_error: AllocError) -> ReportError {
+        ReportError::Memory
+    }
 }
 
 /// What a run by the blocking graph tells that was made once more.
@@ -48,7 +54,7 @@ struct Course<'a> {
     accepts: &'a [bool],
     /// And whether it is `take`.
     at_take: &'a [bool],
-    marks: Marks,
+    options: Options,
     /// The wait at `take` that each thread went past last, since it took its request.
     takes: Takes,
     /// One more than the greatest number of a thread that ran.
@@ -66,28 +72,25 @@ struct Course<'a> {
 
 impl<'a> Watch for Course<'a> {
     fn see(&mut self, entry: &Entry, told: Happening) -> Result<(), WatchError> {
-        if self.takes.add(told, self.at_take).is_err() {
-            return Err(WatchError::Memory);
-        }
-        self.take(entry, told);
-        let knee = self.marks.knee.min(999);
-        match self.spells.with(Marks { knee, ..self.marks }, told) {
-            Some(spells) => {
-                self.spells = spells;
-                Ok(())
-            }
-            None => Err(WatchError::Ended),
+        match self.takes.add(told, self.at_take) {
+            Ok(()) => self.take(entry, told),
+            Err(AllocError) => Err(WatchError::Memory),
         }
     }
 }
 
 impl<'a> Course<'a> {
     /// Before the first entry.
-    fn new(alloc: Global, accepts: &'a [bool], at_take: &'a [bool], marks: Marks) -> Course<'a> {
+    fn new(
+        alloc: Global,
+        accepts: &'a [bool],
+        at_take: &'a [bool],
+        options: Options,
+    ) -> Course<'a> {
         Course {
             accepts,
             at_take,
-            marks,
+            options,
             takes: Takes::new(alloc),
             threads: 0,
             choices: 0,
@@ -99,8 +102,8 @@ impl<'a> Course<'a> {
         }
     }
 
-    /// Takes one entry more, and what it tells; the gate is as it was before.
-    fn take(&mut self, entry: &Entry, told: Happening) {
+    /// Takes one entry more, and what it tells; at a choice the gate is as it was before.
+    fn take(&mut self, entry: &Entry, told: Happening) -> Result<(), WatchError> {
         match entry {
             Entry::Run { thread, .. } => {
                 self.threads = self.threads.max(thread.saturating_add(1));
@@ -122,6 +125,15 @@ impl<'a> Course<'a> {
             Happening::Ran { segment, .. } => self.ended = segment.ended,
             _ => (),
         }
+        let marks = self.options.marks;
+        let knee = marks.knee.min(999);
+        match self.spells.with(Marks { knee, ..marks }, told) {
+            Some(spells) => {
+                self.spells = spells;
+                Ok(())
+            }
+            None => Err(WatchError::Ended),
+        }
     }
 
     /// Takes a choice, by what it tells.
@@ -142,7 +154,15 @@ impl<'a> Course<'a> {
 /// Whether the innermost call of a key is `accept`.
 fn is_accept_at(accepts: &[bool], key: &SiteKey) -> bool {
     match key.sites().first() {
-        Some(site) => accepts.get(*site as usize).copied().unwrap_or(false),
+        Some(site) => is_one(accepts, *site),
+        None => false,
+    }
+}
+
+/// Whether a site is one of these.
+pub(crate) fn is_one(sites: &[bool], site: u32) -> bool {
+    match sites.get(site as usize) {
+        Some(is_one) => *is_one,
         None => false,
     }
 }
@@ -159,42 +179,66 @@ pub fn put_report(
     options: Options,
     decided: Option<Decided>,
 ) -> Result<u64, ReportError> {
-    let accepts = places.accepts(alloc).map_err(of_memory)?;
-    let at_take = places.takes(alloc).map_err(of_memory)?;
-    let mut course = Course::new(alloc, accepts.as_slice(), at_take.as_slice(), options.marks);
-    let read = numbers_of(
-        alloc,
-        log,
-        accepts.as_slice(),
-        options.marks.chunks,
-        &mut course,
-    );
-    let reading = read.map_err(of_reading)?;
+    match (
+        places.sites_of(alloc, b"accept"),
+        places.sites_of(alloc, b"take"),
+    ) {
+        (Ok(accepts), Ok(at_take)) => {
+            let course = Course::new(alloc, accepts.as_slice(), at_take.as_slice(), options);
+            put_course(alloc, text, places, times, log, course, decided)
+        }
+        _ => Err(ReportError::Memory),
+    }
+}
+
+/// Appends the report on the run with this log, by what is read off it beside its numbers.
+fn put_course(
+    alloc: Global,
+    text: &mut String,
+    places: &Places,
+    times: &[u64],
+    log: &[u8],
+    mut course: Course,
+    decided: Option<Decided>,
+) -> Result<u64, ReportError> {
+    let accepts = course.accepts;
+    let chunks = course.options.marks.chunks;
+    match numbers_of(alloc, log, accepts, chunks, &mut course) {
+        Ok(reading) => {
+            let put = put_reading(alloc, text, places, times, &reading, &course, decided);
+            drop(reading);
+            match put {
+                Ok(left) => Ok(left),
+                Err(AllocError) => Err(ReportError::Memory),
+            }
+        }
+        Err(ReadError::Memory) => Err(ReportError::Memory),
+        Err(_) => Err(ReportError::Log),
+    }
+}
+
+/// Appends the report on what was read. The answer is how many of the threads that ran are left.
+fn put_reading(
+    alloc: Global,
+    text: &mut String,
+    places: &Places,
+    times: &[u64],
+    reading: &Reading,
+    course: &Course,
+    decided: Option<Decided>,
+) -> Result<u64, AllocError> {
     let numbers = &reading.numbers;
-    put_requests(alloc, text, numbers, times).map_err(of_memory)?;
-    put_waits(alloc, text, places, numbers.waits.as_slice()).map_err(of_memory)?;
-    put_choices(text, numbers.most_held, &course, options, decided).map_err(of_memory)?;
+    put_requests(alloc, text, numbers, times)?;
+    put_waits(alloc, text, places, numbers.waits.as_slice())?;
+    put_choices(text, numbers.most_held, course, decided)?;
     put_left(
         text,
         places,
         &reading.history,
         &course.takes,
-        accepts.as_slice(),
+        course.accepts,
         course.threads,
     )
-    .map_err(of_memory)
-}
-
-/// Why there is no report, where the log isn't read to its end.
-fn of_reading(error: ReadError) -> ReportError {
-    match error {
-        ReadError::Memory => ReportError::Memory,
-        ReadError::Line | ReadError::Count | ReadError::Ended => ReportError::Log,
-    }
-}
-
-fn of_memory(_error: AllocError) -> ReportError {
-    ReportError::Memory
 }
 
 /// Appends the lines on chunks, choices and the gate.
@@ -202,12 +246,15 @@ fn put_choices(
     text: &mut String,
     most_held: u32,
     course: &Course,
-    options: Options,
     decided: Option<Decided>,
 ) -> Result<(), AllocError> {
-    put_chunks(text, most_held, options.marks.chunks, course.choices)?;
-    put_reasons(text, decided)?;
-    if !options.has_caps {
+    let line = ChunksLine {
+        most_held,
+        chunks: course.options.marks.chunks,
+    };
+    write!(text, "{line}")?;
+    put_reasons(text, course.choices, decided)?;
+    if !course.options.has_caps {
         return put_gate(text, course.spells, course.ended, Some(course.held_back));
     }
     match decided {
@@ -216,33 +263,24 @@ fn put_choices(
     }
 }
 
-/// Appends the line on chunks, and how many choices there were.
-fn put_chunks(
+/// Appends how many choices there were, and what decided them, where that is known.
+fn put_reasons(
     text: &mut String,
-    most_held: u32,
-    chunks: u32,
     choices: u64,
+    decided: Option<Decided>,
 ) -> Result<(), AllocError> {
-    let line = ChunksLine { most_held, chunks };
-    write!(text, "{line}\nchoices: {choices}")
-}
-
-/// Appends what decided the choices, where that is known, and the end of the line.
-fn put_reasons(text: &mut String, decided: Option<Decided>) -> Result<(), AllocError> {
     match decided {
-        Some(known) => put_all(
+        Some(known) => put_form(
             text,
+            "\nchoices: $, by score $, by the gate $, by turn $\n",
             &[
-                Piece::Text(", by score "),
-                Piece::Number(known.choices.by_score),
-                Piece::Text(", by the gate "),
-                Piece::Number(known.choices.by_gate),
-                Piece::Text(", by turn "),
-                Piece::Number(known.choices.by_turn),
-                Piece::Text("\n"),
+                choices,
+                known.choices.by_score,
+                known.choices.by_gate,
+                known.choices.by_turn,
             ],
         ),
-        None => text.push_str("\n"),
+        None => put_form(text, "\nchoices: $\n", &[choices]),
     }
 }
 
@@ -255,42 +293,19 @@ fn put_gate(
 ) -> Result<(), AllocError> {
     let since = spells.since.unwrap_or(ended);
     let ticks = spells.ticks.saturating_add(ended.saturating_sub(since));
-    put_spells(text, spells.times, ticks)?;
-    put_held_back(text, held_back)?;
+    put_form(
+        text,
+        "gate: closed $ times, for $ ticks in all",
+        &[spells.times, ticks],
+    )?;
+    if let Some(choices) = held_back {
+        put_form(text, ", held a request back at $ choices", &[choices])?;
+    }
     text.push_str(if spells.is_open() {
         "\n"
     } else {
         ", closed at the end\n"
     })
-}
-
-/// Appends how often the gate was closed, and for how many ticks.
-fn put_spells(text: &mut String, times: u64, ticks: u64) -> Result<(), AllocError> {
-    put_all(
-        text,
-        &[
-            Piece::Text("gate: closed "),
-            Piece::Number(times),
-            Piece::Text(" times, for "),
-            Piece::Number(ticks),
-            Piece::Text(" ticks in all"),
-        ],
-    )
-}
-
-/// Appends at how many choices the gate held a request back, where that is known.
-fn put_held_back(text: &mut String, held_back: Option<u64>) -> Result<(), AllocError> {
-    match held_back {
-        Some(choices) => put_all(
-            text,
-            &[
-                Piece::Text(", held a request back at "),
-                Piece::Number(choices),
-                Piece::Text(" choices"),
-            ],
-        ),
-        None => Ok(()),
-    }
 }
 
 /// The last line of a log. It looks back from the end, up to the line feed before it.
@@ -309,8 +324,6 @@ pub fn last_line(log: &[u8]) -> &[u8] {
 
 /// Appends a line of a log.
 pub fn put_line(text: &mut String, line: &[u8]) -> Result<(), AllocError> {
-    for byte in line {
-        text.push(char::from(*byte))?;
-    }
+    put_bytes(text, line)?;
     text.push_str("\n")
 }

@@ -1,6 +1,6 @@
 use crate::lines::WaitsPart;
 use crate::places::Places;
-use order_statistics::{spread_of, total_of};
+use report_figures::{spread_of, total_of};
 use run_numbers::WaitLength;
 use std::alloc::{AllocError, Global};
 use std::collections::BTreeMap;

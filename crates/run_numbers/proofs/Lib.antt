@@ -1,3 +1,1 @@
 mod EmptyPlaces
-pub mod Gathered
-pub mod Readings

@@ -22,13 +22,13 @@ pub(crate) fn one_more(before: Option<Answers>, at: u64) -> Option<Answers>
             last: at,
             count: 1,
         }),
-        Some(answers) => {
-            let count = answers.count.checked_add(1)?;
-            Some(Answers {
+        Some(answers) => match answers.count.checked_add(1) {
+            Some(count) => Some(Answers {
                 first: answers.first,
                 last: at,
                 count,
-            })
-        }
+            }),
+            None => None,
+        },
     }
 }

@@ -4,7 +4,7 @@ ghost use Rattle.run_numbers.specs.Answers.{answers_at};
 use crate::answers::{Answers, one_more};
 use run_history::{Happening, Segment, Wait};
 use schedule_log::Item;
-use std::alloc::Global;
+use std::alloc::{AllocError, Global};
 
 /// Why numbers go no further.
 #[derive(Clone, Copy)]
@@ -87,9 +87,15 @@ impl Numbers {
         ensures { (chunks clock : ℕ) → OnOk result (IsOneMore chunks (Came clock item) self.old self.new) }
     {
         let line = self.events;
-        self.events = line.checked_add(1).ok_or(NumbersError::Count)?;
+        let Some(events) = line.checked_add(1) else {
+            return Err(NumbersError::Count);
+        };
+        self.events = events;
         match item {
-            Item::Arrive { .. } => self.arrivals.push(line).map_err(|_| NumbersError::Memory),
+            Item::Arrive { .. } => match self.arrivals.push(line) {
+                Ok(()) => Ok(()),
+                Err(_) => Err(NumbersError::Memory),
+            },
             Item::Data { .. } => Ok(()),
         }
     }
@@ -98,12 +104,18 @@ impl Numbers {
     fn lose(&mut self, item: Item) -> Result<(), NumbersError>
         ensures { (chunks clock : ℕ) → OnOk result (IsOneMore chunks (Lost clock item) self.old self.new) }
     {
-        self.events = self.events.checked_add(1).ok_or(NumbersError::Count)?;
+        let Some(events) = self.events.checked_add(1) else {
+            return Err(NumbersError::Count);
+        };
+        self.events = events;
         match item {
-            Item::Arrive { .. } => {
-                self.dropped = self.dropped.checked_add(1).ok_or(NumbersError::Count)?;
-                Ok(())
-            }
+            Item::Arrive { .. } => match self.dropped.checked_add(1) {
+                Some(dropped) => {
+                    self.dropped = dropped;
+                    Ok(())
+                }
+                None => Err(NumbersError::Count),
+            },
             Item::Data { .. } => Ok(()),
         }
     }
@@ -112,18 +124,22 @@ impl Numbers {
     fn wait(&mut self, wait: Wait) -> Result<(), NumbersError>
         ensures { (chunks : ℕ) → OnOk result (IsOneMore chunks (Waited wait) self.old self.new) }
     {
-        let ticks = wait
-            .until
-            .checked_sub(wait.since)
-            .ok_or(NumbersError::Count)?;
+        let Some(ticks) = wait.until.checked_sub(wait.since) else {
+            return Err(NumbersError::Count);
+        };
         let length = WaitLength {
             site: wait.site,
             ticks,
         };
-        self.waits.push(length).map_err(|_| NumbersError::Memory)?;
+        let Ok(()) = self.waits.push(length) else {
+            return Err(NumbersError::Memory);
+        };
         match wait.request {
             None => Ok(()),
-            Some(_) => self.takes.push(wait).map_err(|_| NumbersError::Memory),
+            Some(_) => match self.takes.push(wait) {
+                Ok(()) => Ok(()),
+                Err(_) => Err(NumbersError::Memory),
+            },
         }
     }
 
@@ -131,9 +147,13 @@ impl Numbers {
     fn rest(&mut self, segment: Segment, chunks: u32, free: u32) -> Result<(), NumbersError>
         ensures { OnOk result (IsOneMore chunks (Ran segment free) self.old self.new) }
     {
-        self.answer(segment)?;
-        self.most_held = self.most_held.max(chunks.saturating_sub(free));
-        Ok(())
+        match self.answer(segment) {
+            Ok(()) => {
+                self.most_held = self.most_held.max(chunks.saturating_sub(free));
+                Ok(())
+            }
+            Err(error) => Err(error),
+        }
     }
 
     /// The answers of a segment.
@@ -148,20 +168,26 @@ impl Numbers {
             return Ok(());
         };
         let place = request as usize;
-        make_places(&mut self.answers, place)?;
-        let answers = one_more(self.answers[place], segment.ended).ok_or(NumbersError::Count)?;
-        self.answers[place] = Some(answers);
-        Ok(())
+        let Ok(()) = make_places(&mut self.answers, place) else {
+            return Err(NumbersError::Memory);
+        };
+        match one_more(self.answers[place], segment.ended) {
+            Some(answers) => {
+                self.answers[place] = Some(answers);
+                Ok(())
+            }
+            None => Err(NumbersError::Count),
+        }
     }
 }
 
 /// Makes places for the answers to all requests up to this one.
-fn make_places(answers: &mut Vec<Option<Answers>>, place: usize) -> Result<(), NumbersError>
+fn make_places(answers: &mut Vec<Option<Answers>>, place: usize) -> Result<(), AllocError>
     ensures same { (request : ℕ) → OnOk result (answers_at answers.new.items request ≡ answers_at answers.old.items request) }
     ensures there { OnOk result (place < length answers.new.items) }
 {
     while answers.len() <= place {
-        answers.push(None).map_err(|_| NumbersError::Memory)?;
+        answers.push(None)?;
     }
     Ok(())
 }

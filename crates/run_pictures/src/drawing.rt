@@ -1,6 +1,6 @@
 use crate::graph::{GraphEdge, put_label};
 use crate::head::put_head;
-use crate::pieces::{Piece, put_all};
+use crate::pieces::{Piece, put_all, put_form};
 use std::alloc::AllocError;
 
 /// The height from one node to the next.
@@ -29,12 +29,12 @@ pub fn put_drawing(
     names: &[String],
     edges: &[GraphEdge],
 ) -> Result<(), AllocError> {
-    let bottom = (names.len() as u64).saturating_mul(STEP).saturating_add(10);
+    let bottom = top_of(names.len() as u64);
     put_head(text, WIDTH, bottom.saturating_add(20))?;
     put_arrows(text, edges)?;
     put_boxes(text, names)?;
     put_labels(text, edges)?;
-    put_meaning(text, bottom)
+    put_form(text, MEANING, &[LEFT, bottom])
 }
 
 /// The tip of the arrows.
@@ -43,21 +43,7 @@ const TIP: &str =
 
 /// What the labels mean, and the end of the picture.
 const MEANING: &str =
-    "\">n x c: n segments went so, with c instructions on average; then the average change of what they hold, where there is one</text>\n</svg>\n";
-
-/// Appends what the labels mean, at that height, and the end of the picture.
-fn put_meaning(text: &mut String, bottom: u64) -> Result<(), AllocError> {
-    put_all(
-        text,
-        &[
-            Piece::Text("<text x=\""),
-            Piece::Number(LEFT),
-            Piece::Text("\" y=\""),
-            Piece::Number(bottom),
-            Piece::Text(MEANING),
-        ],
-    )
-}
+    "<text x=\"$\" y=\"$\">n x c: n segments went so, with c instructions on average; then the average change of what they hold, where there is one</text>\n</svg>\n";
 
 /// Appends the arrows, and before them their tip.
 fn put_arrows(text: &mut String, edges: &[GraphEdge]) -> Result<(), AllocError> {
@@ -86,47 +72,27 @@ fn put_labels(text: &mut String, edges: &[GraphEdge]) -> Result<(), AllocError> 
     Ok(())
 }
 
+/// The frame of a node's box, and the number in it.
+const FRAME: &str =
+    "<rect x=\"$\" y=\"$\" width=\"$\" height=\"$\" fill=\"#eef3fa\" stroke=\"#000000\"/>\n<text x=\"$\" y=\"$\">$: ";
+
 /// Appends the box of a node.
 fn put_box(text: &mut String, node: u64, name: &str) -> Result<(), AllocError> {
     let y = top_of(node);
-    put_frame(text, y)?;
-    put_box_text(text, y.saturating_add(19), node, name)
-}
-
-/// Appends the frame of a box with that upper side.
-fn put_frame(text: &mut String, y: u64) -> Result<(), AllocError> {
-    put_all(
+    put_form(
         text,
+        FRAME,
         &[
-            Piece::Text("<rect x=\""),
-            Piece::Number(LEFT),
-            Piece::Text("\" y=\""),
-            Piece::Number(y),
-            Piece::Text("\" width=\""),
-            Piece::Number(RIGHT - LEFT),
-            Piece::Text("\" height=\""),
-            Piece::Number(BOX),
-            Piece::Text("\" fill=\"#eef3fa\" stroke=\"#000000\"/>\n"),
+            LEFT,
+            y,
+            RIGHT - LEFT,
+            BOX,
+            LEFT + 8,
+            y.saturating_add(19),
+            node,
         ],
-    )
-}
-
-/// Appends the text in a node's box, at that height.
-fn put_box_text(text: &mut String, base: u64, node: u64, name: &str) -> Result<(), AllocError> {
-    put_all(
-        text,
-        &[
-            Piece::Text("<text x=\""),
-            Piece::Number(LEFT + 8),
-            Piece::Text("\" y=\""),
-            Piece::Number(base),
-            Piece::Text("\">"),
-            Piece::Number(node),
-            Piece::Text(": "),
-            Piece::Escaped(name),
-            Piece::Text("</text>\n"),
-        ],
-    )
+    )?;
+    put_all(text, &[Piece::Escaped(name), Piece::Text("</text>\n")])
 }
 
 /// The upper side of a node's box.
@@ -145,109 +111,70 @@ struct Arrow {
 
 /// The arrow of an edge.
 fn arrow_of(edge: &GraphEdge) -> Arrow {
-    let between = u64::from(edge.from.abs_diff(edge.to));
+    let between = edge.from.abs_diff(edge.to) as u64;
     Arrow {
-        start: top_of(u64::from(edge.from)).saturating_add(20),
-        end: top_of(u64::from(edge.to)).saturating_add(10),
-        bow: between.saturating_mul(BOW).saturating_add(30).min(FARTHEST),
+        start: top_of(edge.from as u64).saturating_add(20),
+        end: top_of(edge.to as u64).saturating_add(10),
+        bow: between.saturating_mul(BOW).saturating_add(30),
         goes_down: edge.from < edge.to,
     }
 }
 
+/// An arrow from a side, which bows out and comes back to it with its tip.
+const ARROW: &str =
+    "<path d=\"M$,$ C$,$ $,$ $,$\" fill=\"none\" stroke=\"#555555\" marker-end=\"url(#tip)\"/>\n";
+
 /// Appends an arrow.
 fn put_arrow(text: &mut String, edge: &GraphEdge) -> Result<(), AllocError> {
     let arrow = arrow_of(edge);
-    let side = if arrow.goes_down { RIGHT } else { LEFT };
-    let far = far_of(arrow);
-    put_bow(text, side, far, arrow.start)?;
-    put_tip(text, side, far, arrow.end)
-}
-
-/// How far right or left an arrow bows out.
-fn far_of(arrow: Arrow) -> u64 {
     let bow = arrow.bow.min(FARTHEST);
-    if arrow.goes_down {
-        RIGHT + bow
+    let (side, far) = if arrow.goes_down {
+        (RIGHT, RIGHT + bow)
     } else {
-        LEFT - bow
-    }
-}
-
-/// Appends the part of an arrow that begins at a side and bows out from it, at that height.
-fn put_bow(text: &mut String, side: u64, far: u64, y: u64) -> Result<(), AllocError> {
-    put_all(
+        (LEFT, LEFT - bow)
+    };
+    put_form(
         text,
+        ARROW,
         &[
-            Piece::Text("<path d=\"M"),
-            Piece::Number(side),
-            Piece::Text(","),
-            Piece::Number(y),
-            Piece::Text(" C"),
-            Piece::Number(far),
-            Piece::Text(","),
-            Piece::Number(y),
-            Piece::Text(" "),
+            side,
+            arrow.start,
+            far,
+            arrow.start,
+            far,
+            arrow.end,
+            side,
+            arrow.end,
         ],
     )
 }
 
-/// Appends the part of an arrow that comes back to a side, at that height, with its tip.
-fn put_tip(text: &mut String, side: u64, far: u64, y: u64) -> Result<(), AllocError> {
-    put_all(
-        text,
-        &[
-            Piece::Number(far),
-            Piece::Text(","),
-            Piece::Number(y),
-            Piece::Text(" "),
-            Piece::Number(side),
-            Piece::Text(","),
-            Piece::Number(y),
-            Piece::Text("\" fill=\"none\" stroke=\"#555555\" marker-end=\"url(#tip)\"/>\n"),
-        ],
-    )
-}
+/// The head of a label on a white ground that begins at a place, and of one that ends there.
+const BEGINS: &str =
+    "<text x=\"$\" y=\"$\" text-anchor=\"start\" paint-order=\"stroke\" stroke=\"#ffffff\" stroke-width=\"4\">";
 
-/// Appends the label of an arrow, on a white ground.
+const ENDS: &str =
+    "<text x=\"$\" y=\"$\" text-anchor=\"end\" paint-order=\"stroke\" stroke=\"#ffffff\" stroke-width=\"4\">";
+
+/// Appends the label of an arrow.
 fn put_arrow_label(text: &mut String, edge: &GraphEdge) -> Result<(), AllocError> {
     let arrow = arrow_of(edge);
-    put_label_head(text, label_x(arrow), label_y(arrow, edge), arrow.goes_down)?;
+    let bow = arrow.bow.min(FARTHEST) * 3 / 4 + 4;
+    let y = label_y(arrow, edge);
+    if arrow.goes_down {
+        put_form(text, BEGINS, &[RIGHT + bow, y])?;
+    } else {
+        put_form(text, ENDS, &[LEFT - bow, y])?;
+    }
     put_label(text, edge)?;
     text.push_str("</text>\n")
-}
-
-/// Where the label of an arrow begins, or ends where the arrow doesn't go down.
-fn label_x(arrow: Arrow) -> u64 {
-    let bow = arrow.bow.min(FARTHEST);
-    if arrow.goes_down {
-        RIGHT + bow * 3 / 4 + 4
-    } else {
-        LEFT - bow * 3 / 4 - 4
-    }
 }
 
 /// The height of the label of an edge's arrow. Arrows of several lengths that have the same middle have their labels at several
 /// heights.
 fn label_y(arrow: Arrow, edge: &GraphEdge) -> u64 {
-    let lower = u64::from(edge.from.abs_diff(edge.to) % 4) * 12;
+    let lower = (edge.from.abs_diff(edge.to) % 4) as u64 * 12;
     (arrow.start / 2)
         .saturating_add(arrow.end / 2)
         .saturating_add(lower)
-}
-
-/// Appends the head of a label that begins at a place, or ends there.
-fn put_label_head(text: &mut String, x: u64, y: u64, begins: bool) -> Result<(), AllocError> {
-    let anchor = if begins { "start" } else { "end" };
-    put_all(
-        text,
-        &[
-            Piece::Text("<text x=\""),
-            Piece::Number(x),
-            Piece::Text("\" y=\""),
-            Piece::Number(y),
-            Piece::Text("\" text-anchor=\""),
-            Piece::Text(anchor),
-            Piece::Text("\" paint-order=\"stroke\" stroke=\"#ffffff\" stroke-width=\"4\">"),
-        ],
-    )
 }

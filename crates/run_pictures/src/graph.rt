@@ -1,4 +1,4 @@
-use crate::pieces::{Piece, put_all};
+use crate::pieces::{Piece, put_all, put_form};
 use schedule_log::Averages;
 use std::alloc::AllocError;
 
@@ -55,15 +55,10 @@ fn put_node(text: &mut String, node: u64, name: &str) -> Result<(), AllocError> 
 
 /// Appends an arrow.
 fn put_edge(text: &mut String, edge: &GraphEdge) -> Result<(), AllocError> {
-    put_all(
+    put_form(
         text,
-        &[
-            Piece::Text("  n"),
-            Piece::Number(u64::from(edge.from)),
-            Piece::Text(" -> n"),
-            Piece::Number(u64::from(edge.to)),
-            Piece::Text(" [label=\""),
-        ],
+        "  n$ -> n$ [label=\"",
+        &[edge.from as u64, edge.to as u64],
     )?;
     put_label(text, edge)?;
     text.push_str("\"];\n")
@@ -94,29 +89,13 @@ fn put_count(text: &mut String, count: u64, cost: i128) -> Result<(), AllocError
     )
 }
 
-/// Appends an average change in units: of the chunks, or of another resource.
+/// Appends an average change in units, of the chunks or of another resource, with its sign and two digits behind the point.
 fn put_change(text: &mut String, resource: u64, average: i128) -> Result<(), AllocError> {
-    put_resource(text, resource)?;
-    put_average(text, average)
-}
-
-/// Appends the name of a resource.
-fn put_resource(text: &mut String, resource: u64) -> Result<(), AllocError> {
     if resource == 0 {
-        return text.push_str(", chunks ");
+        text.push_str(", chunks ")?;
+    } else {
+        put_form(text, ", resource $ ", &[resource])?;
     }
-    put_all(
-        text,
-        &[
-            Piece::Text(", resource "),
-            Piece::Number(resource),
-            Piece::Text(" "),
-        ],
-    )
-}
-
-/// Appends an average with its sign, and with two digits behind the point.
-fn put_average(text: &mut String, average: i128) -> Result<(), AllocError> {
     let size = average.unsigned_abs();
     put_all(
         text,

@@ -4,11 +4,11 @@ use std::alloc::AllocError;
 pub(crate) fn put_escaped(text: &mut String, name: &str) -> Result<(), AllocError> {
     for character in name.chars() {
         match character {
-            '&' => text.push_str("&amp;")?,
-            '<' => text.push_str("&lt;")?,
-            '>' => text.push_str("&gt;")?,
-            other => text.push(other)?,
-        }
+            '&' => text.push_str("&amp;"),
+            '<' => text.push_str("&lt;"),
+            '>' => text.push_str("&gt;"),
+            other => text.push(other),
+        }?;
     }
     Ok(())
 }
@@ -17,10 +17,10 @@ pub(crate) fn put_escaped(text: &mut String, name: &str) -> Result<(), AllocErro
 pub(crate) fn put_quoted(text: &mut String, name: &str) -> Result<(), AllocError> {
     for character in name.chars() {
         match character {
-            '"' => text.push_str("\\\"")?,
-            '\\' => text.push_str("\\\\")?,
-            other => text.push(other)?,
-        }
+            '"' => text.push_str("\\\""),
+            '\\' => text.push_str("\\\\"),
+            other => text.push(other),
+        }?;
     }
     Ok(())
 }

@@ -34,3 +34,23 @@ fn put(text: &mut String, piece: Piece) -> Result<(), AllocError> {
         Piece::Wide(number) => write!(text, "{number}"),
     }
 }
+
+/// Appends a form: each `$` of it stands for the next of the numbers, in decimal digits.
+pub fn put_form(text: &mut String, form: &str, numbers: &[u64]) -> Result<(), AllocError> {
+    let mut left = numbers.iter();
+    for character in form.chars() {
+        match character {
+            '$' => put_next(text, left.next()),
+            other => text.push(other),
+        }?;
+    }
+    Ok(())
+}
+
+/// Appends a number, where there is one.
+fn put_next(text: &mut String, number: Option<&u64>) -> Result<(), AllocError> {
+    match number {
+        Some(number) => write!(text, "{number}"),
+        None => Ok(()),
+    }
+}

@@ -1,5 +1,5 @@
-use run_columns::column_of;
-use run_history::{Happening, Segment, Wait};
+use report_figures::column_of;
+use run_history::Happening;
 use std::alloc::{AllocError, Global};
 use std::collections::BTreeMap;
 
@@ -53,28 +53,20 @@ impl Rows {
     /// What one entry more tells.
     pub fn add(&mut self, told: Happening) -> Result<(), AllocError> {
         match told {
-            Happening::Came { .. } => Ok(()),
-            Happening::Lost { .. } => Ok(()),
-            Happening::Started { .. } => Ok(()),
-            Happening::Waited(wait) => self.wait(wait),
-            Happening::Put { .. } => Ok(()),
-            Happening::Ran { segment, .. } => self.run(segment),
-            Happening::Nothing => Ok(()),
+            Happening::Waited(wait) => {
+                let doing = Doing::Waits { site: wait.site };
+                self.mark(wait.thread, wait.since, wait.until, doing)
+            }
+            Happening::Ran { segment, .. } => {
+                self.mark(segment.thread, segment.began, segment.ended, Doing::Runs)
+            }
+            _ => Ok(()),
         }
     }
 
     /// The threads that have a row, in the order of their numbers, with their marks in the order of time.
     pub fn rows(&self) -> &BTreeMap<u32, Vec<Mark>> {
         &self.rows
-    }
-
-    fn wait(&mut self, wait: Wait) -> Result<(), AllocError> {
-        let doing = Doing::Waits { site: wait.site };
-        self.mark(wait.thread, wait.since, wait.until, doing)
-    }
-
-    fn run(&mut self, segment: Segment) -> Result<(), AllocError> {
-        self.mark(segment.thread, segment.began, segment.ended, Doing::Runs)
     }
 
     /// The place of a clock.
