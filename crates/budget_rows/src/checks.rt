@@ -1,8 +1,8 @@
 // What the check answers.
 
 use crate::sources::{LINKED, PLAIN, SMALL, SPAWNING, TABLE, accepted_of};
+use accepted_pairs::Accepted;
 use cap_word::Words;
-use certificate_check::Accepted;
 use chunk_budget::BudgetError::{Length, Low, Root, Zero};
 use chunk_budget::{Budget, BudgetError, check_budget};
 use std::alloc::Global;

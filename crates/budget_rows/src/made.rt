@@ -3,7 +3,7 @@
 use crate::sources::{
     LINKED, MUTUAL, PLAIN, RECURSIVE, SMALL, SPAWNING, Sizes, TABLE, accepted_of, workload_of,
 };
-use certificate_check::Accepted;
+use accepted_pairs::Accepted;
 use chunk_budget::{Budget, MakeBudgetError, check_budget, make_budget};
 use std::alloc::Global;
 

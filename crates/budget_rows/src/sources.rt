@@ -3,9 +3,9 @@
 ghost use Rattle.codegen_link.specs.Plans.{AreInRange};
 ghost use Rattle.std.specs.Prelude.{IfSome};
 
+use accepted_pairs::Accepted;
 use c_scope::read_program;
 use c_tree::Program;
-use certificate_check::Accepted;
 use codegen_link::Options;
 use stack_build::build;
 use std::alloc::Global;

@@ -6,8 +6,8 @@ use Rattle.std.proofs.lemmas.Result.{on_ok_weaker}
 use Rattle.cap_io.specs.Faults.{Rose}
 use Rattle.cap_io.specs.Files.{KeepsFiles}
 use Rattle.c_tree.specs.Trees.{ProgramTree}
-use Rattle.certificate_check.specs.Accepting.{accepted_tree}
-use Rattle.certificate_check.specs.Acceptance.{Acceptance}
+use Rattle.accepted_pairs.specs.Accepting.{accepted_tree}
+use Rattle.accepted_pairs.specs.Acceptance.{Acceptance}
 use Rattle.lawful_log.specs.Setup.{Setup}
 use Rattle.schedule_log.specs.EntryText.{entry_text, log_text}
 use Rattle.schedule_log.specs.declared.entries.Entry.{Entry}

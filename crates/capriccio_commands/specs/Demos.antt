@@ -25,7 +25,7 @@ use Rattle.capriccio_commands.specs.Summary.{summary_of, summary_text, tally_of,
 use Rattle.capriccio_commands.specs.declared.summaries.Census.{Census}
 use Rattle.command_outcomes.specs.declared.ended.Ended.{Ended}
 use Rattle.schedule_log.specs.EntryText.{log_text}
-use Rattle.certificate_check.specs.Acceptance.{Acceptance}
+use Rattle.accepted_pairs.specs.Acceptance.{Acceptance}
 
 -- the sizes and the policy of `demo`
 abbrev pub demo_sizes : Options

@@ -1,7 +1,7 @@
 -- What a world is made of for a run, and which one was just made.
 use Rattle.c_lower.specs.ProgramCode.{lowered}
 use Rattle.certificate_rules.specs.Validity.{IsValid}
-use Rattle.certificate_check.specs.Accepting.{accepted_tree}
+use Rattle.accepted_pairs.specs.Accepting.{accepted_tree}
 use Rattle.command_words.specs.declared.options.Policy.{Policy as RunOptions}
 use Rattle.lawful_log.specs.Setup.{Setup}
 use Rattle.thread_core.specs.Making.{IsPolicy, IsStart}

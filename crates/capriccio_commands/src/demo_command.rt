@@ -1,7 +1,7 @@
 // The command `demo`: the workload of a number is built, accepted and run, and a summary of the run is shown.
 ghost use Rattle.std.specs.Prelude.{◌≡◌, ◌≤◌, List, MatchResult, Some};
 ghost use Rattle.c_tree.specs.ProgramView.{program_tree};
-ghost use Rattle.certificate_check.specs.Accepting.{accepted_tree};
+ghost use Rattle.accepted_pairs.specs.Accepting.{accepted_tree};
 ghost use Rattle.workload_source.specs.Programs.{program_text};
 ghost use Rattle.workload.specs.Traces.{trace_text};
 ghost use Rattle.thread_core.specs.Worlds.{Held};
@@ -17,9 +17,9 @@ ghost use Rattle.schedule_log.specs.declared.entries.Entry.{Entry};
 
 use crate::running::run_accepted;
 use crate::summaries::{Census, summary, take_census};
+use accepted_pairs::Accepted;
 use c_tree::Program;
 use cap_io::{CleanSink, CleanSource};
-use certificate_check::Accepted;
 use codegen_link::Options;
 use command_outcomes::{Ended, Fault, Stop, read_source};
 use command_words::{Policy, Rule};

@@ -5,7 +5,7 @@ ghost use Rattle.capriccio_commands.specs.FitLogs.{TakesFit};
 ghost use Rattle.command_options.specs.Options.{IsRunPolicy, IsNewMonitor};
 ghost use Rattle.capriccio_commands.specs.MadeWorlds.{IsMade, setup_in, world_policy_of};
 ghost use Rattle.pair_commands.specs.Runs.{RunsOn, pool_bytes, rule_of, setup_of};
-ghost use Rattle.certificate_check.specs.Accepting.{accepted_tree};
+ghost use Rattle.accepted_pairs.specs.Accepting.{accepted_tree};
 ghost use Rattle.choice_rules.specs.Policy.{by_graph, by_stride};
 ghost use Rattle.command_outcomes.specs.declared.stops.Stop.TheVariants.{Failed};
 ghost use Rattle.command_outcomes.specs.Steps.{RunEnds};
@@ -13,8 +13,8 @@ ghost use Rattle.resource_monitor.specs.Pressure.{AnswersCurve, IsReading, curve
 ghost use Rattle.resource_monitor.specs.declared.curves.Curve.TheVariants.{Knee};
 ghost use Rattle.stride_rule.specs.State.{new_rule};
 
+use accepted_pairs::Accepted;
 use cap_io::{Sink, Source};
-use certificate_check::Accepted;
 use command_options::{monitor_of, stride_rule_of};
 use command_outcomes::{Ended, Fault, Stop};
 use command_words::{Policy, Rule};

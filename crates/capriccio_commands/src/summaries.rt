@@ -1,6 +1,6 @@
 // The summary of a run: what is counted over its program, its certificate and its log.
 ghost use Rattle.std.specs.Prelude.{◌≡◌, ◌<◌, ◌^◌, ◌+◌, ◌+ℤ◌, ◌++◌, List, [], IfOk, OnOk, count_by, length, unsigned_abs};
-ghost use Rattle.certificate_check.specs.Accepting.{accepted_tree};
+ghost use Rattle.accepted_pairs.specs.Accepting.{accepted_tree};
 ghost use Rattle.schedule_log.specs.EntryText.{log_text};
 ghost use Rattle.schedule_log.specs.declared.entries.Entry.{Entry};
 ghost use Rattle.stack_certificate.specs.declared.sites.SiteFact.{SiteFact};
@@ -8,8 +8,8 @@ ghost use Rattle.runner.specs.Output.{IsFitText};
 ghost use Rattle.capriccio_commands.specs.FitLogs.{HasRoom};
 ghost use Rattle.capriccio_commands.specs.Summary.{links, census_of, counted, with_cost, tally_of, last_from, count_line, sum_line, census_text, tally_text, summary_text};
 
+use accepted_pairs::Accepted;
 use cap_text::{Lines, put_dec};
-use certificate_check::Accepted;
 use command_outcomes::{put_number, put_text};
 use schedule_log::{Entry, LogError, StopLine, read_entry};
 use stack_certificate::{LinkKind, SiteFact};

@@ -1,43 +1,18 @@
 -- What is known once the lower rules hold, and where the rules say nothing.
-use Rattle.std.proofs.Common.{◌≡◌, false, ℕ, zero, suc, ◌+◌, ◌^◌, ◌<◌, ◌≤◌, List, [], ◌∷◌, length, arith, refl, sym, ap, ◌∙◌, subst, Some, None, inl, inr}
-use Rattle.std.specs.Prelude.{slice_get, slice_index_or}
+use Rattle.std.proofs.Common.{◌≡◌, false, ℕ, zero, ◌+◌, ◌<◌, ◌≤◌, [], length, arith, refl, sym, ap, ◌∙◌, subst, Some, None, inl, inr}
+use Rattle.std.specs.Prelude.{slice_get}
 use Rattle.std.proofs.lemmas.Bool.{cases_lt}
 use Rattle.std.proofs.lemmas.List.{get_or_past}
-use Rattle.flat_code.specs.declared.functions.FlatFunction.{FlatFunction}
 use Rattle.flat_code.specs.declared.operations.Op.{Op}
 use Rattle.flat_code.specs.Codes.{FlatCode, function_at, operation_at}
 use Rattle.stack_image.specs.declared.images.Image.{Image}
 use Rattle.stack_certificate.specs.declared.certificates.Certificate.{Certificate}
-use Rattle.stack_certificate.specs.declared.functions.FunctionFact.{FunctionFact}
-use Rattle.stack_certificate.specs.Templates.{HasPlaces}
-use Rattle.certificate_rules.specs.Rules.{V1, V2}
+use Rattle.certificate_rules.specs.Rules.{V1}
 use Rattle.certificate_rules.specs.Validity.{Holds, IsValid, IsFirstFailure}
 use Rattle.certificate_rules.proofs.HoldsLemmas.{holds_v1, holds_outside}
-use Rattle.certificate_check.specs.First.{HoldBelow, IsFirstSpot}
-use Rattle.certificate_check.specs.Held.{IsReadable, IsFunctionRule}
-use Rattle.certificate_check.specs.declared.failures.Spot.{Spot}
-
--- V1, where the lower rules than another hold
-pub first_rule : (code : FlatCode) (image : Image) (certificate : Certificate) (rule f i : ℕ) → 2 ≤ rule → HoldBelow code image certificate rule → V1 code image certificate f i
-first_rule code image certificate rule f i le below = (below.holds 1 f i (omega arith)).v1 refl
-
--- places by recursion, from the counts of each function
-places_for : (fs : List FlatFunction) (facts : List FunctionFact) (d : FlatFunction) (e : FunctionFact) → length facts ≡ length fs →
-    ((f : ℕ) → f < length fs → length (slice_index_or facts f e).places ≡ length (slice_index_or fs f d).sizes) → HasPlaces fs facts
-places_for [] [] d e same each = tt
-places_for [] (fact ∷ facts) d e same each = absurd (omega arith)
-places_for (f ∷ fs) [] d e same each = absurd (omega arith)
-places_for (f ∷ fs) (fact ∷ facts) d e same each = (each zero (omega arith), places_for fs facts d e (omega arith) (λ k lt. each (suc k) (omega arith)))
-
-pub readable : (code : FlatCode) (image : Image) (certificate : Certificate) → length code.functions ≤ 2 ^ 32 → HoldBelow code image certificate 2 → IsReadable code certificate
-readable code image certificate few below =
-    let counts = (first_rule code image certificate 2 zero 3 (omega arith) below).functions refl in
-    record {
-      few = few;
-      functions = counts.0;
-      places = places_for code.functions certificate.functions _ _ counts.0 (λ f lt. (first_rule code image certificate 2 f 4 (omega arith) below).places refl lt);
-      rising = ((first_rule code image certificate 2 zero 5 (omega arith) below).sites refl).rising;
-    }
+use Rattle.rule_failures.specs.First.{HoldBelow, IsFirstSpot}
+use Rattle.certificate_check.specs.Answers.{IsFunctionRule}
+use Rattle.rule_failures.specs.declared.spots.Spot.{Spot}
 
 -- ---- functions that aren't there
 
@@ -62,13 +37,6 @@ past_functions code image certificate rule f i kind some past first = record {
   v10 = λ e. record { bound = λ k op there _ _. absurd (no_operation code f k op past there) };
   v11 = λ e. record { frame = λ _ lt. absurd (omega arith); bound = λ _ lt. absurd (omega arith); path = λ is. ((first i).v11 e).path is };
   v12 = λ e. absurd (omega (arith, kind.1));
-}
-
-pub v2_past : (code : FlatCode) (image : Image) (certificate : Certificate) (f i : ℕ) → length code.functions ≤ f → V2 code image certificate f i
-v2_past code image certificate f i past = record {
-  inside = λ _ lt. absurd (omega arith);
-  entry = λ _ lt. absurd (omega arith);
-  apart = λ _ lt _ _. absurd (omega arith);
 }
 
 -- ---- from rule to rule
@@ -107,21 +75,7 @@ failure_from code image certificate rule spot below first = record {
   lower_rules = λ lower g j lt. below.holds lower g j lt;
 }
 
--- ---- counts, and one function more
-
-pub counts_of : (code : FlatCode) (image : Image) (certificate : Certificate) → HoldBelow code image certificate 2 →
-    (length certificate.functions ≡ length code.functions) × (length image.entries ≡ length code.functions)
-counts_of code image certificate below = (first_rule code image certificate 2 zero 3 (omega arith) below).functions refl
-
-pub code_few : (code : FlatCode) (image : Image) (certificate : Certificate) → HoldBelow code image certificate 2 → length image.code ≤ 200000
-code_few code image certificate below = ((first_rule code image certificate 2 zero 2 (omega arith) below).words refl).1
-
-pub v2_more : (code : FlatCode) (image : Image) (certificate : Certificate) (f : ℕ) → ((g j : ℕ) → g < f → V2 code image certificate g j) → ((j : ℕ) → V2 code image certificate f j) →
-    (g j : ℕ) → g < f + 1 → V2 code image certificate g j
-v2_more code image certificate f before here g j less = elim (cases_lt g f) [
-  | inl below ↦ before g j below
-  | inr above ↦ (let is : f ≡ g = omega arith in subst (λ (n : ℕ). V2 code image certificate n j) is (here j))
-]
+-- ---- one function more
 
 pub holds_more : (code : FlatCode) (image : Image) (certificate : Certificate) (rule f : ℕ) → ((g j : ℕ) → g < f → Holds code image certificate rule g j) → ((j : ℕ) → Holds code image certificate rule f j) →
     (g j : ℕ) → g < f + 1 → Holds code image certificate rule g j

@@ -1,12 +1,3 @@
-pub mod FirstLemmas
-pub mod RisingLemmas
-pub mod MarkLemmas
 pub mod SiteLemmas
-pub mod PieceLemmas
-pub mod NamedLemmas
-pub mod CodeLemmas
 pub mod RuleLemmas
-pub mod FrameLemmas
 pub mod BelowLemmas
-pub mod FitLemmas
-pub mod CodeListLemmas

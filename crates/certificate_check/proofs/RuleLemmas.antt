@@ -1,14 +1,20 @@
 -- The first failure of a rule's own definition is that of the rule of its number.
-use Rattle.std.proofs.Common.{◌≡◌, ℕ, refl, sym, subst, Option}
+use Rattle.std.proofs.Common.{◌≡◌, ℕ, zero, ◌<◌, arith, refl, sym, subst, Option, Some, None}
 use Rattle.flat_code.specs.Codes.{FlatCode}
 use Rattle.stack_image.specs.declared.images.Image.{Image}
 use Rattle.stack_certificate.specs.declared.certificates.Certificate.{Certificate}
 use Rattle.certificate_rules.specs.Rules.{V1, V2, V3, V4, V5, V6, V7, V8, V9, V10, V11, V12}
 use Rattle.certificate_rules.specs.Validity.{Holds}
 use Rattle.certificate_rules.proofs.HoldsLemmas.{holds_v1, holds_v2, holds_v3, holds_v4, holds_v5, holds_v6, holds_v7, holds_v8, holds_v9, holds_v10, holds_v11, holds_v12}
-use Rattle.certificate_check.specs.declared.failures.Spot.{Spot}
-use Rattle.certificate_check.specs.First.{IsFirst, IsFirstSpot}
-use Rattle.certificate_check.proofs.FirstLemmas.{first_same, spot_same}
+use Rattle.rule_failures.specs.declared.spots.Spot.{Spot}
+use Rattle.rule_failures.specs.First.{IsFirst, IsFirstSpot}
+use Rattle.rule_failures.proofs.FirstLemmas.{first_same, spot_same}
+use Rattle.certificate_check.specs.Answers.{at_zero}
+
+-- a rule that means no function fails first at function 0
+pub spot_everywhere : (P : ℕ → ℕ → Type 0) (r : Option ℕ) → ((f : ℕ) → IsFirst (P f) r) → IsFirstSpot P (at_zero r)
+spot_everywhere P None h = λ f i. h f i
+spot_everywhere P (Some i) h = ((h zero).0, (h zero).1, λ g j lt. absurd (omega arith))
 
 pub first_v3 : (code : FlatCode) (image : Image) (certificate : Certificate) (rule f : ℕ) (r : Option ℕ) → rule ≡ 3 → IsFirst (λ i. V3 code certificate f i) r → IsFirst (λ i. Holds code image certificate rule f i) r
 first_v3 code image certificate rule f r e h =

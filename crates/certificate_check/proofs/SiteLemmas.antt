@@ -9,9 +9,8 @@ use Rattle.stack_certificate.specs.declared.certificates.Certificate.{Certificat
 use Rattle.certificate_rules.specs.Rules.{V9, V10}
 use Rattle.certificate_rules.specs.Sites.{certified_site}
 use Rattle.certificate_check.specs.declared.site_rules.SiteRule.{SiteRule}
-use Rattle.certificate_check.specs.First.{IsFirst}
-use Rattle.certificate_check.specs.Held.{HoldsAtSite}
-use Rattle.certificate_check.specs.LeastSite.{HoldsBelow, Fails, IsLeastSite}
+use Rattle.rule_failures.specs.First.{IsFirst}
+use Rattle.certificate_check.specs.LeastSite.{HoldsAtSite, HoldsBelow, Fails, IsLeastSite}
 
 -- what is said of one operation more
 step : (rule : SiteRule) (code : FlatCode) (certificate : Certificate) (f n site : ℕ) (op : Op) → operation_at code f n ≡ Some op → (certified_site op ≡ Some site → HoldsAtSite rule code certificate f op) →

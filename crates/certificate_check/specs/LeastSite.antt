@@ -1,11 +1,20 @@
 -- The least site of a function at which V9 or V10 fails.
-use Rattle.std.specs.Prelude.{◌≡◌, ℕ, ◌<◌, Option, Some, None}
+use Rattle.std.specs.Prelude.{◌≡◌, ℕ, ◌+◌, ◌<◌, ◌≤◌, Option, Some, None}
 use Rattle.flat_code.specs.declared.operations.Op.{Op}
 use Rattle.flat_code.specs.Codes.{FlatCode, operation_at}
 use Rattle.stack_certificate.specs.declared.certificates.Certificate.{Certificate}
-use Rattle.certificate_rules.specs.Sites.{certified_site}
+use Rattle.stack_certificate.specs.declared.sites.LinkKind.{LinkKind}
+use Rattle.stack_certificate.specs.Certificates.{fact_at}
+use Rattle.stack_certificate.specs.Templates.{kind_of}
+use Rattle.certificate_rules.specs.Sites.{callee_bound, certified_site}
+use Rattle.certificate_rules.specs.Rules.{IsNeed}
 use Rattle.certificate_check.specs.declared.site_rules.SiteRule.{SiteRule}
-use Rattle.certificate_check.specs.Held.{HoldsAtSite}
+
+-- what V9 and V10 say of an operation of function f that has a site
+abbrev pub HoldsAtSite : SiteRule → FlatCode → Certificate → ℕ → Op → Type 0
+HoldsAtSite SiteRule.Need code certificate f op = IsNeed (kind_of certificate op) (callee_bound code certificate op)
+HoldsAtSite SiteRule.Bound code certificate f op =
+    kind_of certificate op ≡ LinkKind.Plain → (fact_at certificate f).frame + callee_bound code certificate op ≤ (fact_at certificate f).bound
 
 -- among the first n operations, the one with that site, if there is one, is as the rule says
 pub record HoldsBelow (rule : SiteRule) (code : FlatCode) (certificate : Certificate) (f n site : ℕ) : Type 0 where

@@ -1,7 +1,3 @@
-pub mod First
-pub mod Held
-pub mod Marks
 pub mod LeastSite
-pub mod Acceptance
-pub mod Accepting
-pub mod CodeLists
+pub mod Answers
+pub mod Refusals

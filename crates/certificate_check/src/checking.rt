@@ -1,14 +1,14 @@
 ghost use Rattle.std.specs.Prelude.{◌≡◌, ◌^◌, ◌≤◌, IfOk, IfErr, length};
 ghost use Rattle.c_lower.specs.ProgramCode.{lowered};
 ghost use Rattle.c_tree.specs.ProgramView.{program_tree};
-ghost use Rattle.certificate_check.specs.Accepting.{Accepts, IsRefusalOf};
+ghost use Rattle.accepted_pairs.specs.Accepting.{Accepts};
+ghost use Rattle.certificate_check.specs.Refusals.{IsRefusalOf};
 ghost use Rattle.certificate_rules.specs.Validity.{IsFirstFailure, IsValid};
 ghost use Rattle.flat_code.specs.ProgramView.{program_code};
 
-use crate::accepted::Accepted;
-use crate::code_lists::code_lists;
 use crate::failures::Failure;
 use crate::first::first_failure;
+use accepted_pairs::{Accepted, code_lists_of};
 use c_lower::lower;
 use c_tree::Program;
 use flat_code::FlatProgram;
@@ -88,7 +88,7 @@ fn accept(
     ensures accepted { IfOk result (λ accepted. Accepts accepted program image certificate) }
     ensures refused { IfErr result (λ error. IsRefusalOf program image certificate error) }
 {
-    match code_lists(alloc, &flat, &image, &certificate) {
+    match code_lists_of(alloc, &flat, &image, &certificate) {
         Ok(lists) => Ok(Accepted::new(program, image, certificate, flat, lists)),
         Err(_) => {
             drop(flat);

@@ -6,10 +6,3 @@ pub struct Failure {
     pub function: u32,
     pub index: u64,
 }
-
-// Where a rule fails: the function and the index.
-#[derive(Clone, Copy, PartialEq, Eq)]
-pub struct Spot {
-    pub function: u32,
-    pub index: u64,
-}

@@ -1,20 +1,20 @@
 ghost use Rattle.std.specs.Prelude.{◌≡◌, ◌^◌, ◌<◌, ◌≤◌, IfOk, length};
 ghost use Rattle.flat_code.specs.ProgramView.{program_code};
 ghost use Rattle.certificate_rules.specs.Validity.{Holds};
-ghost use Rattle.certificate_check.specs.First.{HoldBelow, IsAnswer, IsFirst, IsFirstSpot, at_zero};
-ghost use Rattle.certificate_check.specs.Held.{IsReadable, AreTablesOf, IsFunctionRule};
+ghost use Rattle.rule_failures.specs.First.{HoldBelow, IsFirst, IsFirstSpot};
+ghost use Rattle.certificate_check.specs.Answers.{IsAnswer, at_zero, IsFunctionRule};
+ghost use Rattle.accepted_pairs.specs.Held.{IsReadable};
+ghost use Rattle.rule_failures.specs.TablesOf.{AreTablesOf};
 
-use crate::failures::{Failure, Spot};
-use crate::fit::first_unfit;
-use crate::frames::{first_outside_path, first_wrong_frame};
-use crate::image_lists::{first_wrong_global, first_wrong_member};
-use crate::operations::first_wrong_operation;
-use crate::places::first_wrong_place;
-use crate::ranges::first_wrong_range;
+use crate::failures::Failure;
 use crate::site_rules::{SiteRule, first_wrong_site};
-use crate::tables::{Tables, tables_of};
-use crate::words::{first_wrong_prologue_word, first_wrong_stub_word};
+use crate::tables::tables_of;
 use flat_code::FlatProgram;
+use rule_failures::{
+    Spot, Tables, first_outside_path, first_unfit, first_wrong_frame, first_wrong_global,
+    first_wrong_member, first_wrong_operation, first_wrong_place, first_wrong_prologue_word,
+    first_wrong_range, first_wrong_stub_word,
+};
 use stack_certificate::Certificate;
 use stack_image::Image;
 use std::alloc::{AllocError, Global};

@@ -4,13 +4,14 @@ ghost use Rattle.flat_code.specs.ProgramView.{program_code};
 ghost use Rattle.flat_code.specs.WellFormed.{IsOperation, context_of};
 ghost use Rattle.certificate_rules.specs.Sites.{callee_bound};
 ghost use Rattle.certificate_rules.specs.Rules.{V9, V10, IsNeed};
-ghost use Rattle.certificate_check.specs.First.{IsFirst};
-ghost use Rattle.certificate_check.specs.LeastSite.{IsLeastSite};
-ghost use Rattle.certificate_check.specs.Held.{IsReadable, AreTablesOf, HoldsAtSite};
+ghost use Rattle.rule_failures.specs.First.{IsFirst};
+ghost use Rattle.certificate_check.specs.LeastSite.{IsLeastSite, HoldsAtSite};
+ghost use Rattle.accepted_pairs.specs.Held.{IsReadable};
+ghost use Rattle.rule_failures.specs.TablesOf.{AreTablesOf};
 
-use crate::lookups::{certified_site_of, fact_of, function_of, kind_of_operation, operation_of};
-use crate::tables::Tables;
+use accepted_pairs::{fact_of, function_of, kind_of_operation, operation_of};
 use flat_code::{FlatProgram, Op};
+use rule_failures::{Tables, certified_site_of};
 use stack_certificate::{Certificate, FunctionFact, LinkKind};
 
 // The two rules of sites: V9 and V10.

@@ -2,21 +2,13 @@ ghost use Rattle.std.specs.Prelude.{◌≡◌, ℕ, ◌<◌, IfOk, All, length, 
 ghost use Rattle.flat_code.specs.ProgramView.{program_code};
 ghost use Rattle.stack_certificate.specs.Certificates.{global_address, table_address};
 ghost use Rattle.certificate_rules.specs.Sites.{greatest_bound};
-ghost use Rattle.certificate_check.specs.Held.{AreTablesOf};
+ghost use Rattle.rule_failures.specs.TablesOf.{AreTablesOf};
 
-use crate::lookups::fact_of;
+use accepted_pairs::fact_of;
 use flat_code::FlatProgram;
+use rule_failures::Tables;
 use stack_certificate::Certificate;
 use std::alloc::{AllocError, Global};
-
-// Where each global and table stands, and the greatest bound of each table's members: taken once, so that no operation
-// needs a search of its own.
-#[derive(Drop)]
-pub struct Tables {
-    pub global_addresses: Vec<u32>,
-    pub table_addresses: Vec<u32>,
-    pub member_bounds: Vec<u32>,
-}
 
 // What there is to know of the globals and tables of a program.
 pub(crate) fn tables_of(

@@ -1,7 +1,7 @@
 ghost use Rattle.std.specs.Prelude.{IfOk, IfErr};
 ghost use Rattle.std.specs.List.Sorted.{IsStrictlyIncreasing};
 ghost use Rattle.c_lower.specs.ProgramCode.{lowered};
-ghost use Rattle.certificate_check.specs.Accepting.{accepted_tree};
+ghost use Rattle.accepted_pairs.specs.Accepting.{accepted_tree};
 ghost use Rattle.certificate_rules.specs.Sites.{fact_numbers};
 ghost use Rattle.flat_code.specs.ProgramView.{program_code};
 ghost use Rattle.chunk_budget.specs.Budgets.{IsBudget, IsRefusal};
@@ -9,7 +9,7 @@ ghost use Rattle.chunk_budget.specs.Budgets.{IsBudget, IsRefusal};
 use crate::budgets::{Budget, BudgetError};
 use crate::roots::least_high_root;
 use crate::sites::least_low_site;
-use certificate_check::Accepted;
+use accepted_pairs::Accepted;
 use flat_code::FlatProgram;
 use stack_certificate::Certificate;
 

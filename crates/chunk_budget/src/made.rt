@@ -13,7 +13,7 @@ ghost use Rattle.chunk_budget.specs.Made.{height_asked, height_spawned, greatest
 
 use crate::heights::{Known, nothing_known, table_height};
 use crate::sites::{chunks_added, function_of};
-use certificate_check::kind_of_operation;
+use accepted_pairs::kind_of_operation;
 use flat_code::{FlatProgram, Op};
 use stack_certificate::Certificate;
 use std::alloc::{AllocError, Global};

@@ -2,7 +2,7 @@ ghost use Rattle.std.specs.Prelude.{ℕ, ◌<◌, length, IfOk, IfErr};
 ghost use Rattle.std.specs.List.{AllByRecursion};
 ghost use Rattle.std.specs.List.Sorted.{IsStrictlyIncreasing};
 ghost use Rattle.c_lower.specs.ProgramCode.{lowered};
-ghost use Rattle.certificate_check.specs.Accepting.{accepted_tree};
+ghost use Rattle.accepted_pairs.specs.Accepting.{accepted_tree};
 ghost use Rattle.certificate_rules.specs.Sites.{fact_numbers};
 ghost use Rattle.flat_code.specs.ProgramView.{program_code};
 ghost use Rattle.call_cycles.specs.Cycles.{IsOnCycle};
@@ -11,9 +11,9 @@ ghost use Rattle.chunk_budget.specs.LeastBudgets.{IsLeastBudget, IsCycleRefusal}
 
 use crate::budgets::{Budget, MakeBudgetError};
 use crate::made::{highest_root, least_heights};
+use accepted_pairs::Accepted;
 use call_cycles::{OrderError, bottom_up_order};
 use cap_word::Words;
-use certificate_check::Accepted;
 use flat_code::FlatProgram;
 use stack_certificate::Certificate;
 use std::alloc::{AllocError, Global};

@@ -12,7 +12,7 @@ ghost use Rattle.chunk_budget.specs.Tests.{low_call, low_site};
 
 use crate::heights::{Known, nothing_known, table_height};
 use crate::least::lesser;
-use certificate_check::kind_of_operation;
+use accepted_pairs::kind_of_operation;
 use flat_code::{FlatFunction, FlatProgram, Op};
 use stack_certificate::{Certificate, LinkKind};
 

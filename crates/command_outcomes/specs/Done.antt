@@ -8,7 +8,7 @@ use Rattle.command_outcomes.specs.declared.faults.Fault.{Fault}
 use Rattle.command_outcomes.specs.declared.faults.Fault.TheVariants.{Read, Write, Memory}
 use Rattle.command_outcomes.specs.FaultLines.{fault_status, fault_line}
 use Rattle.command_outcomes.specs.Outcome.{Outcome, Ran}
-use Rattle.certificate_check.specs.Accepting.{accepted_tree}
+use Rattle.accepted_pairs.specs.Accepting.{accepted_tree}
 use Rattle.lawful_log.specs.Good.{checked_of}
 use Rattle.lawful_log.specs.Setup.{Setup, setting_of, start_machine}
 use Rattle.machine_world.specs.Runs.{Action, after_actions}

@@ -3,7 +3,7 @@
 ghost use Rattle.codegen_link.specs.Plans.{AreInRange};
 
 use crate::{Outcome, accepted_of, begin, run_on};
-use certificate_check::Accepted;
+use accepted_pairs::Accepted;
 use codegen_link::Options;
 use std::alloc::Global;
 

@@ -6,9 +6,9 @@ ghost use Rattle.flat_code.specs.declared.operations.Op.{Op};
 ghost use Rattle.segment_run.specs.Contexts.{checked_of, code_of, local_of, AreOf, IsOwned, IsReady};
 ghost use Rattle.segment_run.specs.Safe.{RestsAtCall};
 
+use accepted_pairs::Accepted;
 use c_scope::read_program;
 use cap_word::{Ask, SiteKey, add};
-use certificate_check::Accepted;
 use chunk_pool::ChunkPool;
 use codegen_link::Options;
 use segment_run::{

@@ -5,8 +5,8 @@ ghost use Rattle.segment_run.specs.Contexts.{checked_of, code_of, local_of, AreO
 
 use crate::cases::{DEEP, NARROW, ONCE, leads_to};
 use crate::{Begun, Outcome, accepted_of, begin};
+use accepted_pairs::Accepted;
 use cap_word::Ask;
-use certificate_check::Accepted;
 use codegen_link::Options;
 use rv_machine::{Regs, StepResult, step};
 use segment_run::{Areas, Context, Fuel, Segment, run_segment};

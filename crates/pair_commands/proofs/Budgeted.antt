@@ -5,8 +5,9 @@ use Rattle.std.specs.Global.{Vec}
 use Rattle.c_tree.specs.ProgramView.{program_tree}
 use Rattle.c_tree.specs.Trees.{ProgramTree}
 use Rattle.c_tree.specs.declared.programs.Program.{Program}
-use Rattle.certificate_check.specs.Accepting.{accepted_tree, IsRefusalOf}
-use Rattle.certificate_check.specs.Acceptance.{Acceptance}
+use Rattle.accepted_pairs.specs.Accepting.{accepted_tree}
+use Rattle.certificate_check.specs.Refusals.{IsRefusalOf}
+use Rattle.accepted_pairs.specs.Acceptance.{Acceptance}
 use Rattle.certificate_check.specs.declared.checking.CheckError.{CheckError}
 use Rattle.certificate_check.specs.declared.checking.CheckError.TheVariants as checking
 use Rattle.command_outcomes.specs.Outcome.{printed}

@@ -6,10 +6,11 @@ use Rattle.c_tree.specs.Trees.{ProgramTree}
 use Rattle.c_lower.specs.ProgramCode.{lowered}
 use Rattle.c_tree.specs.ProgramView.{program_tree}
 use Rattle.c_tree.specs.declared.programs.Program.{Program}
-use Rattle.certificate_check.specs.Accepting.{accepted_tree, IsRefusalOf}
+use Rattle.accepted_pairs.specs.Accepting.{accepted_tree}
+use Rattle.certificate_check.specs.Refusals.{IsRefusalOf}
 use Rattle.certificate_check.specs.declared.checking.CheckError.{CheckError}
 use Rattle.certificate_check.specs.declared.checking.CheckError.TheVariants as checking
-use Rattle.certificate_check.specs.Acceptance.{Acceptance}
+use Rattle.accepted_pairs.specs.Acceptance.{Acceptance}
 use Rattle.codegen_link.specs.declared.options.Options.{Options}
 use Rattle.command_words.specs.declared.options.Policy.{Policy as RunOptions}
 use Rattle.stack_build.specs.Builds.{IsLaidOut}

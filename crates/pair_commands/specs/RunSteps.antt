@@ -1,7 +1,7 @@
 -- What the steps to a run hand on, and why a run doesn't begin.
 use Rattle.std.specs.Prelude.{ℕ, ◌≡◌, List, Option}
-use Rattle.certificate_check.specs.Accepting.{accepted_tree}
-use Rattle.certificate_check.specs.Acceptance.{Acceptance}
+use Rattle.accepted_pairs.specs.Accepting.{accepted_tree}
+use Rattle.accepted_pairs.specs.Acceptance.{Acceptance}
 use Rattle.certificate_check.specs.declared.checking.CheckError.{CheckError}
 use Rattle.certificate_check.specs.declared.checking.CheckError.TheVariants as checking
 use Rattle.command_words.specs.declared.options.Policy.{Policy as RunOptions}

@@ -2,7 +2,7 @@
 ghost use Rattle.std.specs.Prelude.{◌≡◌, ◌≤◌, ℕ, List, Option, length, MatchResult};
 ghost use Rattle.cap_io.specs.Files.{KeepsFiles};
 ghost use Rattle.c_tree.specs.ProgramView.{program_tree};
-ghost use Rattle.certificate_check.specs.Accepting.{accepted_tree};
+ghost use Rattle.accepted_pairs.specs.Accepting.{accepted_tree};
 ghost use Rattle.codegen_link.specs.Plans.{AreInRange};
 ghost use Rattle.command_words.specs.declared.options.Policy.{Policy as RunOptions};
 ghost use Rattle.command_outcomes.specs.Loads.{AfterSource};
@@ -13,9 +13,10 @@ ghost use Rattle.command_outcomes.specs.Steps.{IsStop, IsShelfStop};
 
 use crate::layouts::layout_stop;
 use crate::pairs::{ReadPair, read_pair};
+use accepted_pairs::Accepted;
 use c_tree::Program;
 use cap_io::Shelf;
-use certificate_check::{Accepted, CheckError, check};
+use certificate_check::{CheckError, check};
 use codegen_link::Options;
 use command_outcomes::{Cause, Document, Fault, Stop, load, load_three, read_source};
 use command_words::Policy;

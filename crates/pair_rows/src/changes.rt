@@ -1,10 +1,11 @@
 // A pair with some things changed, and the checker's answer on it.
 
 use crate::pairs::{Of, Pair, pair_of};
+use accepted_pairs::Accepted;
 use c_scope::read_program;
 use c_tree::Program;
 use cap_word::Words;
-use certificate_check::{Accepted, CheckError, check};
+use certificate_check::{CheckError, check};
 use certificate_text::read_cert;
 use stack_certificate::Certificate;
 use stack_image::Image;

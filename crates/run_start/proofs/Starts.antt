@@ -4,7 +4,7 @@ use Rattle.chunk_pool.specs.Pool.{Taken, taken_for}
 use Rattle.machine_world.specs.Areas.{Areas}
 use Rattle.machine_world.specs.Runs.{empty_world, started_on, start_world}
 use Rattle.machine_world.specs.Threads.{World}
-use Rattle.certificate_check.specs.Acceptance.{Acceptance}
+use Rattle.accepted_pairs.specs.Acceptance.{Acceptance}
 use Rattle.thread_core.specs.Worlds.{Held}
 use Rattle.thread_core.specs.Making.{IsStart}
 use Rattle.thread_core.specs.declared.policy.WorldPolicy.{WorldPolicy}

@@ -3,10 +3,11 @@ ghost use Rattle.std.specs.Prelude.{◌≤◌, length};
 ghost use Rattle.codegen_link.specs.Plans.{AreInRange};
 
 use crate::ranges::are_in_range;
+use accepted_pairs::Accepted;
 use c_hoist::read_nested;
 use c_tree::Program;
 use cap_io::Shelf;
-use certificate_check::{Accepted, check};
+use certificate_check::check;
 use certificate_text::read_cert;
 use codegen_link::Options;
 use command_words::Placement;

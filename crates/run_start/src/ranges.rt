@@ -4,7 +4,7 @@ ghost use Rattle.codegen_link.specs.Plans.{AreInRange};
 ghost use Rattle.resource_monitor.specs.Monitor.{SmallCaps};
 ghost use Rattle.thread_core.specs.Making.{IsPolicy};
 
-use certificate_check::Accepted;
+use accepted_pairs::Accepted;
 use codegen_link::Options;
 use thread_core::WorldPolicy;
 

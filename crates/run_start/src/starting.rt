@@ -8,8 +8,8 @@ ghost use Rattle.thread_core.specs.Making.{IsPolicy};
 
 use crate::accepting::{accept_files, accept_source};
 use crate::ranges::{are_small, is_policy};
+use accepted_pairs::Accepted;
 use cap_io::Shelf;
-use certificate_check::Accepted;
 use choice_reasons::Choosing;
 use command_words::{Command, Policy, Rule, read_words};
 use resource_monitor::{Curve, Gauge, Measure, Monitor, past_knee};

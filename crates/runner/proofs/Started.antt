@@ -6,7 +6,7 @@ use Rattle.c_lower.specs.ProgramCode.{lowered}
 use Rattle.c_mean.specs.World as source
 use Rattle.c_tree.specs.Trees.{ProgramTree}
 use Rattle.c_tree.specs.WellScoped.{IsWellScoped}
-use Rattle.certificate_check.specs.Accepting.{accepted_tree}
+use Rattle.accepted_pairs.specs.Accepting.{accepted_tree}
 use Rattle.certificate_rules.specs.Validity.{IsValid}
 use Rattle.chunk_pool.specs.Pool.{Taken, IsPool, start_pool, taken_for}
 use Rattle.chunk_pool.proofs.PoolStart.{IsPool-start_bytes}

@@ -4,7 +4,7 @@ use Rattle.std.specs.Io.KnownBytes.{Appends}
 use Rattle.cap_io.specs.Faults.{Rose}
 use Rattle.cap_word.specs.declared.stops.Stop.TheVariants as cut
 use Rattle.cap_word.specs.declared.threads.ThreadId.{ThreadId}
-use Rattle.certificate_check.specs.Accepting.{accepted_tree}
+use Rattle.accepted_pairs.specs.Accepting.{accepted_tree}
 use Rattle.choice_rules.specs.Policy.{Rule, by_graph}
 use Rattle.lawful_log.specs.Good.{IsGoodLog, checked_of}
 use Rattle.lawful_log.specs.Lawful.{IsLawfulLog}

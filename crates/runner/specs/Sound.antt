@@ -1,7 +1,7 @@
 -- What the calls of an accepted program tell of it.
 use Rattle.std.specs.Prelude.{◌≡◌, ◌%◌, ◌≤◌}
-use Rattle.certificate_check.specs.Acceptance.{Acceptance}
-use Rattle.certificate_check.specs.Accepting.{accepted_tree}
+use Rattle.accepted_pairs.specs.Acceptance.{Acceptance}
+use Rattle.accepted_pairs.specs.Accepting.{accepted_tree}
 use Rattle.certificate_rules.specs.Validity.{IsValid}
 use Rattle.c_lower.specs.ProgramCode.{lowered}
 

@@ -34,8 +34,8 @@ use Rattle.segment_steps.proofs.Needs.{NeedsFit-valid}
 use Rattle.segment_run.specs.Contexts.{AreOf, IsOwned, IsReady}
 use Rattle.segment_run.specs.Kept.{AreKept}
 use Rattle.segment_run.proofs.Forming.{areas_formed}
-use Rattle.certificate_check.specs.Accepting.{accepted_tree}
-use Rattle.certificate_check.specs.declared.accepted.Accepted.{Accepted}
+use Rattle.accepted_pairs.specs.Accepting.{accepted_tree}
+use Rattle.accepted_pairs.specs.declared.accepted.Accepted.{Accepted}
 use Rattle.segment_run.specs.Starting.{first_arguments}
 use Rattle.stack_certificate.specs.Certificates.{fact_at}
 use Rattle.stack_certificate.specs.declared.certificates.Certificate.{Certificate}

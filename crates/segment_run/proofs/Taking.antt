@@ -4,7 +4,7 @@ use Rattle.chunk_pool.specs.Pool.{Pool, Taken, taken_for, IsTaken, shape_of}
 use Rattle.chunk_pool.proofs.NeedLaws.{taken_for-shape}
 use Rattle.chunk_pool.proofs.ShapeLaws.{count-same, words_of-same, payload_place_of-same, first_bytes-same}
 use Rattle.machine_world.specs.Areas.{Areas}
-use Rattle.certificate_check.specs.declared.accepted.Accepted.{Accepted}
+use Rattle.accepted_pairs.specs.declared.accepted.Accepted.{Accepted}
 use Rattle.segment_run.specs.Contexts.{AreOf}
 use Rattle.segment_run.specs.Payloads.{IsPayloadOf}
 use Rattle.segment_run.specs.declared.areas.Payload.{Payload}

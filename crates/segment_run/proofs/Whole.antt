@@ -4,7 +4,7 @@ use Rattle.std.specs.Prelude.{nat_lt}
 use Rattle.c_lower.specs.ProgramCode.{lowered}
 use Rattle.c_tree.specs.Trees.{ProgramTree}
 use Rattle.c_tree.specs.WellScoped.{IsWellScoped}
-use Rattle.certificate_check.specs.declared.accepted.Accepted.{Accepted}
+use Rattle.accepted_pairs.specs.declared.accepted.Accepted.{Accepted}
 use Rattle.certificate_rules.specs.Validity.{IsValid}
 use Rattle.flat_code.specs.Codes.{result_place}
 use Rattle.stack_certificate.specs.declared.certificates.Certificate.{Certificate}

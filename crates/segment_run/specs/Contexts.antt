@@ -5,8 +5,8 @@ use Rattle.rv_code.specs.declared.instructions.Instr.{Instr}
 use Rattle.rv_machine.specs.Step.{instruction_at}
 use Rattle.chunk_pool.specs.Pool.{Pool, IsHeld, chunk_at, first_bytes}
 use Rattle.c_lower.specs.ProgramCode.{lowered}
-use Rattle.certificate_check.specs.Accepting.{accepted_tree}
-use Rattle.certificate_check.specs.declared.accepted.Accepted.{Accepted}
+use Rattle.accepted_pairs.specs.Accepting.{accepted_tree}
+use Rattle.accepted_pairs.specs.declared.accepted.Accepted.{Accepted}
 use Rattle.machine_world.specs.Areas.{Areas}
 use Rattle.machine_world.specs.Local.{Core, Local, saved_tp}
 use Rattle.machine_world.specs.Places.{Checked}

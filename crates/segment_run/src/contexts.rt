@@ -1,8 +1,8 @@
 ghost use Rattle.std.specs.Prelude.{◌≡◌, ℕ, ◌+◌, ◌-◌, ◌^◌, ◌<◌, List, length};
 ghost use Rattle.c_lower.specs.ProgramCode.{lowered};
 ghost use Rattle.c_mean.specs.Frames.{Waiting};
-ghost use Rattle.certificate_check.specs.Accepting.{accepted_tree};
-ghost use Rattle.certificate_check.specs.declared.accepted.Accepted.{Accepted};
+ghost use Rattle.accepted_pairs.specs.Accepting.{accepted_tree};
+ghost use Rattle.accepted_pairs.specs.declared.accepted.Accepted.{Accepted};
 ghost use Rattle.certificate_rules.specs.Validity.{IsValid};
 ghost use Rattle.machine_world.specs.Areas.{Areas};
 ghost use Rattle.machine_world.specs.WellFormed.{AreWords};

@@ -8,7 +8,7 @@ ghost use Rattle.stack_certificate.specs.Certificates.{fact_at};
 ghost use Rattle.segment_run.specs.Contexts.{checked_of};
 ghost use Rattle.segment_run.specs.Lookups.{HasEntry};
 
-use certificate_check::Accepted;
+use accepted_pairs::Accepted;
 use flat_code::{FlatFunction, FlatProgram, Op};
 use stack_certificate::{Certificate, FunctionFact};
 

@@ -1,14 +1,14 @@
 // Where an address stands in the code.
 ghost use Rattle.std.specs.Prelude.{◌≡◌, ℕ};
 ghost use Rattle.c_lower.specs.ProgramCode.{lowered};
-ghost use Rattle.certificate_check.specs.Accepting.{accepted_tree};
+ghost use Rattle.accepted_pairs.specs.Accepting.{accepted_tree};
 ghost use Rattle.certificate_rules.specs.Validity.{IsValid};
 ghost use Rattle.machine_world.specs.Places.{InOperation, IsAt};
 ghost use Rattle.segment_run.specs.Contexts.{checked_of};
 ghost use Rattle.segment_run.specs.Walking.{IsInCall};
 
 use crate::lookups::{fact_of, function_of, site_of};
-use certificate_check::Accepted;
+use accepted_pairs::Accepted;
 
 // A call in the code: its function and the number of its site.
 #[derive(Clone, Copy)]

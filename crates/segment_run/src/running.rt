@@ -14,8 +14,8 @@ use crate::areas::Areas;
 use crate::links::{end, link, unlink};
 use crate::lookups::function_with_entry;
 use crate::registers::{A0, A1};
+use accepted_pairs::Accepted;
 use cap_word::{Ask, Block, TrapKind};
-use certificate_check::Accepted;
 use rv_code::Instr;
 use rv_machine::{Regs, StepResult, step_of};
 

@@ -1,5 +1,5 @@
 ghost use Rattle.std.specs.Prelude.{ℕ, List};
-ghost use Rattle.certificate_check.specs.Accepting.{accepted_tree};
+ghost use Rattle.accepted_pairs.specs.Accepting.{accepted_tree};
 ghost use Rattle.certificate_rules.specs.Validity.{IsValid};
 ghost use Rattle.flat_code.specs.WellFormed.{IsWellFormed};
 ghost use Rattle.machine_world.specs.StandsFor.{SourceThread, StandsForThread, going_on};
@@ -14,8 +14,8 @@ ghost use Rattle.segment_run.specs.Sources.{IsSourceAnswer};
 use crate::areas::Areas;
 use crate::contexts::{Context, Fuel, are_registers};
 use crate::running::{Thread, Turn, call, run_to_call};
+use accepted_pairs::Accepted;
 use cap_word::{Ask, Block, TrapKind};
-use certificate_check::Accepted;
 use rv_code::Register;
 use rv_machine::Regs;
 

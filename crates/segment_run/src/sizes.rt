@@ -1,6 +1,6 @@
 ghost use Rattle.std.specs.Prelude.{◌≡◌, ◌%◌, ◌≤◌, length};
 
-use certificate_check::Accepted;
+use accepted_pairs::Accepted;
 
 /// The laws of the sizes of an accepted program's areas: so many words of globals and of tables as `Areas` takes, and chunks
 /// as a pool may have. It does nothing.

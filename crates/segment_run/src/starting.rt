@@ -1,6 +1,6 @@
 ghost use Rattle.std.specs.Prelude.{ℕ, ◌<◌, ◌↔◌, List, [], length, IsNone, IfSome};
 ghost use Rattle.c_mean.specs.Frames.{pushed, function_at};
-ghost use Rattle.certificate_check.specs.Accepting.{accepted_tree};
+ghost use Rattle.accepted_pairs.specs.Accepting.{accepted_tree};
 ghost use Rattle.chunk_pool.specs.Pool.{taken_for, FitsNone};
 ghost use Rattle.machine_world.specs.Globals.{AreGlobals};
 ghost use Rattle.machine_world.specs.StandsFor.{Starts, StandsForThread};
@@ -12,7 +12,7 @@ use crate::areas::Areas;
 use crate::contexts::Context;
 use crate::lookups::fact_of;
 use crate::registers::{A0, RA, SP, TP};
-use certificate_check::Accepted;
+use accepted_pairs::Accepted;
 
 // The address to which the last frame of a thread returns.
 const END_STUB: u32 = 0x1000;

@@ -1,7 +1,7 @@
 ghost use Rattle.std.specs.Prelude.{◌≡◌, ℕ, ◌+◌, ◌%◌, ◌≤◌, ◌↔◌, ◌∷◌, List, IsTrue, Ok};
 ghost use Rattle.c_mean.specs.Frames as source;
 ghost use Rattle.c_lower.specs.ProgramCode.{lowered};
-ghost use Rattle.certificate_check.specs.Accepting.{accepted_tree};
+ghost use Rattle.accepted_pairs.specs.Accepting.{accepted_tree};
 ghost use Rattle.certificate_rules.specs.Validity.{IsValid};
 ghost use Rattle.flat_code.specs.declared.operations.Op.{Op};
 ghost use Rattle.machine_world.specs.InPlace as world;
@@ -19,8 +19,8 @@ use crate::lookups::fact_of;
 use crate::places::call_at;
 use crate::registers::SP;
 use crate::segments::are_sound;
+use accepted_pairs::Accepted;
 use cap_word::SiteKey;
-use certificate_check::Accepted;
 use chunk_pool::ChunkPool;
 use rv_code::{Instr, decode};
 

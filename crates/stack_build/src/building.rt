@@ -1,6 +1,6 @@
 ghost use Rattle.std.specs.Prelude.{◌≡◌, ◌⊎◌, Some, None, IfOk, IfErr, MatchResult};
 ghost use Rattle.c_tree.specs.ProgramView.{program_tree};
-ghost use Rattle.certificate_check.specs.Accepting.{accepted_tree};
+ghost use Rattle.accepted_pairs.specs.Accepting.{accepted_tree};
 ghost use Rattle.certificate_rules.specs.Validity.{IsValid};
 ghost use Rattle.c_lower.specs.ProgramCode.{lowered};
 ghost use Rattle.codegen_link.specs.Plans.{AreInRange};
@@ -8,9 +8,10 @@ ghost use Rattle.stack_build.specs.declared.refusals.BuildError.TheVariants.{Mem
 ghost use Rattle.stack_build.specs.Builds.{frame_refusal, IsTooLarge, IsLaidOut};
 
 use crate::refusals::BuildError;
+use accepted_pairs::Accepted;
 use c_lower::lower;
 use c_tree::Program;
-use certificate_check::{Accepted, CheckError, check};
+use certificate_check::{CheckError, check};
 use codegen_link::{Options, generate};
 use stack_certificate::Certificate;
 use stack_image::Image;

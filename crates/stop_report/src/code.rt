@@ -1,6 +1,6 @@
 // Which function and which operation stand at an address.
 
-use certificate_check::Accepted;
+use accepted_pairs::Accepted;
 use flat_code::Op;
 use stack_certificate::FunctionFact;
 

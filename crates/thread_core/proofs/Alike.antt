@@ -4,7 +4,7 @@ use Rattle.std.specs.Prelude.{IsSome, slice_index_or, map, option_map}
 use Rattle.slab.specs.Slab.{Slab, get}
 use Rattle.cap_word.specs.declared.stops.Stop.{Stop}
 use Rattle.cap_word.specs.declared.threads.ThreadId.{ThreadId}
-use Rattle.certificate_check.specs.Acceptance.{Acceptance}
+use Rattle.accepted_pairs.specs.Acceptance.{Acceptance}
 use Rattle.machine_world.specs.Threads.{Thread, World, Stops, Move, step}
 use Rattle.machine_world.specs.WellFormed.{IsWellFormed}
 use Rattle.segment_run.specs.Contexts.{checked_of, core_of}

@@ -10,8 +10,8 @@ use Rattle.cap_word.specs.declared.calls.Ask.{Ask}
 use Rattle.cap_word.specs.declared.stops.Stop.{Stop}
 use Rattle.cap_word.specs.declared.threads.ThreadId.{ThreadId}
 use Rattle.cap_word.specs.declared.traps.TrapKind.{TrapKind}
-use Rattle.certificate_check.specs.Acceptance.{Acceptance}
-use Rattle.certificate_check.specs.Accepting.{accepted_tree}
+use Rattle.accepted_pairs.specs.Acceptance.{Acceptance}
+use Rattle.accepted_pairs.specs.Accepting.{accepted_tree}
 use Rattle.certificate_rules.specs.Validity.{IsValid}
 use Rattle.flat_code.specs.declared.operations.Op.{Op}
 use Rattle.lowered_facts.proofs.Formed.{formed}

@@ -4,7 +4,7 @@ use Rattle.std.proofs.lemmas.Bool.Decides.{nat_tests}
 use Rattle.c_mean.specs.ModelledCalls.{Delivery, is_dropped, with_delivery}
 use Rattle.cap_word.specs.declared.calls.Block.{Block}
 use Rattle.cap_word.specs.declared.threads.ThreadId.{ThreadId}
-use Rattle.certificate_check.specs.Acceptance.{Acceptance}
+use Rattle.accepted_pairs.specs.Acceptance.{Acceptance}
 use Rattle.machine_world.specs.Places.{Checked}
 use Rattle.machine_world.specs.Runs.{Deliver, Advance, delivered, advanced}
 use Rattle.machine_world.specs.Threads.{World, Setting}

@@ -6,7 +6,7 @@ use Rattle.slab.specs.Slab.{Slab, get}
 use Rattle.cap_word.specs.Word.{add}
 use Rattle.cap_word.specs.declared.stops.Stop.{Stop}
 use Rattle.cap_word.specs.declared.threads.ThreadId.{ThreadId}
-use Rattle.certificate_check.specs.Acceptance.{Acceptance}
+use Rattle.accepted_pairs.specs.Acceptance.{Acceptance}
 use Rattle.machine_world.specs.Local.{Core, LocalMove, local_step, passed, with_result}
 use Rattle.machine_world.specs.Threads.{Thread, thread_of, replaced, moved, step, retired, Stops}
 use Rattle.segment_run.specs.Contexts.{checked_of, code_of, local_of, IsOwned}

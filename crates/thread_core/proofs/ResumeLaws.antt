@@ -5,7 +5,7 @@ use Rattle.std.proofs.lemmas.List.{length-map, length-set, get_or-set_same, get_
 use Rattle.slab.specs.Slab.{Slab, get}
 use Rattle.c_lower.specs.ProgramCode.{lowered}
 use Rattle.c_tree.specs.WellScoped.{IsWellScoped}
-use Rattle.certificate_check.specs.Accepting.{accepted_tree}
+use Rattle.accepted_pairs.specs.Accepting.{accepted_tree}
 use Rattle.certificate_rules.specs.Validity.{IsValid}
 use Rattle.chunk_pool.specs.Pool.{Pool}
 use Rattle.machine_world.specs.Areas.{Areas}
@@ -22,7 +22,7 @@ use Rattle.world_source.specs.UnderWay.{IsSettled, IsSettledIf, IsSettledThread,
 use Rattle.thread_core.proofs.PassLaws.{its_chunks}
 use Rattle.cap_word.specs.declared.calls.Block.{Block}
 use Rattle.cap_word.specs.declared.threads.ThreadId.{ThreadId}
-use Rattle.certificate_check.specs.Acceptance.{Acceptance}
+use Rattle.accepted_pairs.specs.Acceptance.{Acceptance}
 use Rattle.machine_world.specs.Local.{Core}
 use Rattle.machine_world.specs.Runs.{Pick, after_action, picked, picked_at, may_run}
 use Rattle.machine_world.specs.Threads.{Blocked, result_on, Thread, World, Setting, first_with, replaced}

@@ -5,7 +5,7 @@ use Rattle.c_mean.specs.Frames.{Waiting, key_of}
 use Rattle.c_mean.specs.World as source
 use Rattle.c_mean.specs.World.{Rest}
 use Rattle.c_tree.specs.Trees.{ProgramTree}
-use Rattle.certificate_check.proofs.CodeLemmas.{some_at}
+use Rattle.accepted_pairs.proofs.SomeAt.{some_at}
 use Rattle.chunk_pool.specs.Pool.{Pool}
 use Rattle.machine_world.specs.Local.{Core}
 use Rattle.machine_world.specs.Places.{Checked}

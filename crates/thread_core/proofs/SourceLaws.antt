@@ -8,8 +8,8 @@ use Rattle.c_tree.specs.WellScoped.{IsWellScoped}
 use Rattle.cap_word.specs.declared.stops.Stop.{Stop}
 use Rattle.cap_word.specs.declared.threads.ThreadId.{ThreadId}
 use Rattle.cap_word.specs.declared.traps.TrapKind.{TrapKind}
-use Rattle.certificate_check.specs.Acceptance.{Acceptance}
-use Rattle.certificate_check.specs.Accepting.{accepted_tree}
+use Rattle.accepted_pairs.specs.Acceptance.{Acceptance}
+use Rattle.accepted_pairs.specs.Accepting.{accepted_tree}
 use Rattle.certificate_rules.specs.Validity.{IsValid}
 use Rattle.machine_world.specs.Places.{Checked}
 use Rattle.machine_world.specs.Runs.{after_action, Pick}

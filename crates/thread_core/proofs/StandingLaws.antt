@@ -2,7 +2,7 @@
 use Rattle.std.proofs.Common.{◌≡◌, ◌≢◌, ℕ, ◌⊎◌, inl, inr, true, false, Option, Some, None, option_map, refl, nat_eq, if◌then◌else◌, slice_index_or}
 use Rattle.slab.specs.Slab.{get}
 use Rattle.cap_word.specs.declared.threads.ThreadId.{ThreadId}
-use Rattle.certificate_check.specs.Acceptance.{Acceptance}
+use Rattle.accepted_pairs.specs.Acceptance.{Acceptance}
 use Rattle.machine_world.specs.Threads.{first_with}
 use Rattle.thread_core.specs.Kept.{IsKept}
 use Rattle.thread_core.specs.Ready.{is_same_number}

@@ -5,7 +5,7 @@ use Rattle.std.proofs.Math.ListN as list
 use Rattle.slab.specs.Slab.{get}
 use Rattle.cap_word.specs.declared.calls.Block.{Block}
 use Rattle.cap_word.specs.declared.threads.ThreadId.{ThreadId}
-use Rattle.certificate_check.specs.Acceptance.{Acceptance}
+use Rattle.accepted_pairs.specs.Acceptance.{Acceptance}
 use Rattle.machine_world.specs.Threads.{Thread, Setting, first_with}
 use Rattle.thread_waits.specs.Waiting as waits
 use Rattle.thread_waits.specs.Waiting.{wait_at}

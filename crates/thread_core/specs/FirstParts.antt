@@ -1,7 +1,7 @@
 -- What a world is made of, before its first thread.
 use Rattle.std.specs.Prelude.{◌≡◌, ◌/◌, ◌≤◌, [], ◌∷◌, None}
 use Rattle.c_mean.specs.World.{empty_exchange}
-use Rattle.certificate_check.specs.Acceptance.{Acceptance}
+use Rattle.accepted_pairs.specs.Acceptance.{Acceptance}
 use Rattle.machine_world.specs.WellFormed.{AreWellFormed}
 use Rattle.segment_run.specs.Contexts.{checked_of}
 use Rattle.thread_core.specs.declared.making.Parts.{Parts}

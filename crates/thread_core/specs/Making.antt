@@ -3,8 +3,8 @@ use Rattle.std.specs.Prelude.{◌≡◌, ℕ, ◌+◌, ◌*◌, ◌%◌, ◌<◌
 use Rattle.c_mean.specs.ModelledCalls.{is_dropped}
 use Rattle.c_mean.specs.World as source
 use Rattle.choice_rules.specs.Deliveries.{delivery_of}
-use Rattle.certificate_check.specs.Accepting.{accepted_tree}
-use Rattle.certificate_check.specs.Acceptance.{Acceptance}
+use Rattle.accepted_pairs.specs.Accepting.{accepted_tree}
+use Rattle.accepted_pairs.specs.Acceptance.{Acceptance}
 use Rattle.event_trace.specs.declared.events.EventKind.{EventKind}
 use Rattle.event_trace.specs.declared.events.EventKind.TheVariants.{Arrive, Message as Sent}
 use Rattle.machine_world.specs.Areas.{Areas, new_areas}

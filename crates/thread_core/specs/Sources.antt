@@ -6,7 +6,7 @@ use Rattle.cap_word.specs.declared.traps.TrapKind.{TrapKind}
 use Rattle.c_mean.specs.Frames.{key_of}
 use Rattle.c_mean.specs.World as source
 use Rattle.c_mean.specs.World.{Rest}
-use Rattle.certificate_check.specs.Accepting.{accepted_tree}
+use Rattle.accepted_pairs.specs.Accepting.{accepted_tree}
 use Rattle.machine_world.specs.StandsForWorld.{StandsForWorld}
 use Rattle.segment_run.specs.Contexts.{checked_of}
 use Rattle.world_source.specs.Reached.{IsReached, IsFinished}

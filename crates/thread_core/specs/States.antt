@@ -1,7 +1,7 @@
 -- What the state of a world holds, as the machine world: the live threads are found by their numbers.
 use Rattle.std.specs.Prelude.{ℕ, ◌-◌, List, map, Option, Some, None, option_map}
 use Rattle.cap_word.specs.declared.threads.ThreadId.{ThreadId}
-use Rattle.certificate_check.specs.Acceptance.{Acceptance}
+use Rattle.accepted_pairs.specs.Acceptance.{Acceptance}
 use Rattle.chunk_pool.specs.Pool.{Pool}
 use Rattle.machine_world.specs.Threads.{Blocked, Thread, World, Setting}
 use Rattle.segment_run.specs.Contexts.{core_of}

@@ -4,7 +4,7 @@ use Rattle.slab.specs.Slab.{get}
 use Rattle.cap_word.specs.Calls.{Blocking}
 use Rattle.cap_word.specs.Runs.{Stops}
 use Rattle.cap_word.specs.declared.threads.ThreadId.{ThreadId}
-use Rattle.certificate_check.specs.Acceptance.{Acceptance}
+use Rattle.accepted_pairs.specs.Acceptance.{Acceptance}
 use Rattle.machine_world.specs.Local.{Local, Calls, Trapped, NoRoom, local_step}
 use Rattle.machine_world.specs.Places.{Checked}
 use Rattle.machine_world.specs.Threads as machine

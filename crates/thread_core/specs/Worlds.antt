@@ -2,7 +2,7 @@
 -- threads' records, and how the run has stopped.
 use Rattle.std.specs.Prelude.{◌≡◌, ℕ, ◌-◌, List, length, Option, Some, None, IsSome, if◌then◌else◌, nat_eq, slice_index_or}
 use Rattle.c_mean.specs.ModelledCalls.{cap_of, use_of}
-use Rattle.certificate_check.specs.Acceptance.{Acceptance}
+use Rattle.accepted_pairs.specs.Acceptance.{Acceptance}
 use Rattle.cap_word.specs.declared.threads.ThreadId.{ThreadId}
 use Rattle.machine_world.specs.Threads.{World, Setting, thread_of}
 use Rattle.thread_core.specs.declared.turns.Turn.{Turn}

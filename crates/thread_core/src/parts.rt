@@ -1,8 +1,8 @@
 // Parts of a call: the thread's record, its place, the clock.
 ghost use Rattle.std.specs.Prelude.{◌≡◌, ◌+◌, ◌-◌, ◌<◌, ◌≤◌, ◌^◌, ◌↔◌, false, None, Some, IsSome, IsTrue, IfSome, OnSome, length, slice_set};
 ghost use Rattle.c_lower.specs.ProgramCode.{lowered};
-ghost use Rattle.certificate_check.specs.Acceptance.{Acceptance};
-ghost use Rattle.certificate_check.specs.Accepting.{accepted_tree};
+ghost use Rattle.accepted_pairs.specs.Acceptance.{Acceptance};
+ghost use Rattle.accepted_pairs.specs.Accepting.{accepted_tree};
 ghost use Rattle.certificate_rules.specs.Validity.{IsValid};
 ghost use Rattle.chunk_pool.specs.Pool.{FitsNone};
 ghost use Rattle.machine_world.specs.Areas.{Areas};
@@ -24,8 +24,8 @@ ghost use Rattle.thread_exchange.specs.Exchanges.{MayResume, row_of};
 
 use crate::records::Record;
 use crate::state::State;
+use accepted_pairs::Accepted;
 use cap_word::{Block, ThreadId};
-use certificate_check::Accepted;
 use segment_run::{Context, reply, retire};
 use thread_waits::Wait;
 

@@ -12,8 +12,8 @@ ghost use Rattle.thread_core.specs.Steps.{Runs, LocalIs, MayRun, Ran, Told, OnTo
 use crate::records::Record;
 use crate::state::State;
 use crate::turns::Turn;
+use accepted_pairs::Accepted;
 use cap_word::{Ask, Block, Stop, ThreadId};
-use certificate_check::Accepted;
 use segment_run::{Context, Segment, reply, retire, run_segment, start, walk};
 use thread_waits::Wait;
 

@@ -7,8 +7,8 @@ ghost use Rattle.thread_core.specs.Worlds.{used_in, cap_in};
 
 use crate::standing::Standing;
 use crate::world::World;
+use accepted_pairs::Accepted;
 use cap_word::{Ready, ThreadId};
-use certificate_check::Accepted;
 use ready_tree::{Bounded, Bounds, Need};
 
 impl Ready for World {

@@ -1,5 +1,5 @@
+use accepted_pairs::Accepted;
 use cap_word::{SiteKey, Stop, ThreadId};
-use certificate_check::Accepted;
 
 /// What the thread whose segment is under way did.
 #[derive(Clone, Copy, PartialEq, Eq)]

@@ -1,5 +1,5 @@
 use crate::state::State;
-use certificate_check::Accepted;
+use accepted_pairs::Accepted;
 use std::marker::Model;
 
 /// The threads of an accepted program over one pool of chunks, with globals, queues, uses and the clock. Contracts see it

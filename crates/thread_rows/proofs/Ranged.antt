@@ -1,6 +1,6 @@
 -- What is given is in the ranges that a world and a monitor ask.
 use Rattle.std.proofs.Common.{ℕ, zero, suc, ◌≤◌, [], ◌∷◌, slice_index, subst, sym, arith}
-use Rattle.certificate_check.specs.Acceptance.{Acceptance}
+use Rattle.accepted_pairs.specs.Acceptance.{Acceptance}
 use Rattle.thread_core.specs.Making.{IsPolicy, IsStart}
 use Rattle.thread_core.specs.Worlds.{Held}
 use Rattle.thread_rows.specs.Given.{policy_of, IsGiven, IsMade}

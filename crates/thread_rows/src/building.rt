@@ -6,9 +6,9 @@ ghost use Rattle.thread_rows.specs.Given.{IsGiven, IsMade, policy_of};
 ghost use Rattle.thread_rows.specs.Moments.{IsAt};
 ghost use Rattle.thread_rows.specs.declared.moments.Moment.TheVariants.{Between};
 
+use accepted_pairs::Accepted;
 use c_scope::read_program;
 use c_tree::Program;
-use certificate_check::Accepted;
 use codegen_link::Options;
 use stack_build::build;
 use std::alloc::Global;

@@ -1,6 +1,6 @@
 use Rattle.std.proofs.Common.{refl}
 use Rattle.std.proofs.lemmas.Result.{err_from_is_err_and}
-use Rattle.certificate_check.specs.Accepting.{accepted_tree}
+use Rattle.accepted_pairs.specs.Accepting.{accepted_tree}
 use Rattle.command_outcomes.specs.Done.{Outside}
 use Rattle.pair_commands.specs.Runs.{RunsOn, Runs, setup_of}
 use Rattle.command_outcomes.proofs.Ending.{ends-follow, stopped, keeps-itself}

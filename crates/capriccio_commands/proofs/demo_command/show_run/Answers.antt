@@ -1,7 +1,7 @@
 use Rattle.std.proofs.Common.{◌≤◌, ℕ, List, Some, Ok, Err, subst, sym}
 use Rattle.command_outcomes.specs.Steps.{RunEnds}
 use Rattle.std.proofs.lemmas.Result.{err_from_is_err_and}
-use Rattle.certificate_check.specs.Accepting.{accepted_tree}
+use Rattle.accepted_pairs.specs.Accepting.{accepted_tree}
 use Rattle.command_words.specs.declared.options.Policy.{Policy}
 use Rattle.capriccio_commands.specs.Demos.{demo_policy}
 use Rattle.runner.specs.Output.{IsFitText}

@@ -1,6 +1,6 @@
 use Rattle.std.proofs.Common.{subst}
-use Rattle.certificate_check.specs.Accepting.{accepted_tree}
-use Rattle.certificate_check.specs.Acceptance.{Acceptance}
+use Rattle.accepted_pairs.specs.Accepting.{accepted_tree}
+use Rattle.accepted_pairs.specs.Acceptance.{Acceptance}
 use Rattle.pair_commands.specs.Runs.{RunsOn, setup_of}
 use Rattle.command_outcomes.specs.Steps.{RunEnds}
 use Rattle.capriccio_commands.proofs.Making.{policy-ranges, made-world}

@@ -1,15 +1,18 @@
 use Rattle.std.proofs.Common.{◌≡◌, ℕ, subst, arith}
 use Rattle.flat_code.specs.ProgramView.{program_code}
 use Rattle.certificate_rules.specs.Validity.{Holds}
-use Rattle.certificate_check.specs.First.{HoldBelow, IsFirstSpot}
-use Rattle.certificate_check.proofs.BelowLemmas.{readable, counts_of, below_next, valid_from, failure_from}
+use Rattle.rule_failures.specs.First.{HoldBelow, IsFirstSpot}
+use Rattle.accepted_pairs.proofs.ReadableLemmas.{readable}
+use Rattle.rule_failures.proofs.RangeLemmas.{counts_of, first_rule}
+use Rattle.certificate_check.proofs.BelowLemmas.{below_next, valid_from, failure_from}
 use Rattle.certificate_check.proofs.first.first_behind_fit.Goals as goal
 
 pub tables_of-requires : goal.tables_of-requires
 tables_of-requires c = (counts_of (program_code c.args.flat.now) c.args.image.now c.args.certificate.now c.requires.below).0
 
 pub first_in_rule-requires-clause-readable : goal.first_in_rule-requires-clause-readable
-first_in_rule-requires-clause-readable c = readable (program_code c.args.flat.now) c.args.image.now c.args.certificate.now c.requires.few c.requires.below
+first_in_rule-requires-clause-readable c = readable (program_code c.args.flat.now) c.args.image.now c.args.certificate.now c.requires.few
+    (λ f i. first_rule (program_code c.args.flat.now) c.args.image.now c.args.certificate.now 2 f i (omega arith) c.requires.below)
 
 pub returns-in-Some : goal.returns-in-Some
 returns-in-Some c = failure_from (program_code c.args.flat.now) c.args.image.now c.args.certificate.now c.loop-rule.rule c.in-Some.spot c.loop-rule.invariant (subst (λ r. IsFirstSpot (λ f i. Holds (program_code c.args.flat.now) c.args.image.now c.args.certificate.now c.loop-rule.rule f i) r) c.in-Some.is c.in_ok-spot.ensures)

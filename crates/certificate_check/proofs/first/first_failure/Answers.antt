@@ -1,7 +1,7 @@
 use Rattle.std.proofs.Common.{subst}
 use Rattle.flat_code.specs.ProgramView.{program_code}
 use Rattle.certificate_rules.specs.Rules.{V1}
-use Rattle.certificate_check.specs.First.{IsFirstSpot}
+use Rattle.rule_failures.specs.First.{IsFirstSpot}
 use Rattle.certificate_check.proofs.BelowLemmas.{below_start, first_failure_from}
 use Rattle.certificate_check.proofs.first.first_failure.Goals as goal
 

@@ -1,5 +1,5 @@
 use Rattle.std.proofs.Common.{inl, inr, ap}
-use Rattle.certificate_check.specs.Accepting.{accepted_tree}
+use Rattle.accepted_pairs.specs.Accepting.{accepted_tree}
 use Rattle.command_outcomes.proofs.Follows.{stop-follows}
 use Rattle.command_outcomes.specs.Outcome.{printed}
 use Rattle.pair_commands.specs.Budgets.{BudgetsPair, IsCycleRefused}

@@ -1,6 +1,6 @@
 use Rattle.std.proofs.Common.{◌≤◌}
 use Rattle.std.proofs.lemmas.Result.{err_from_is_err_and}
-use Rattle.certificate_check.specs.Acceptance.{Acceptance}
+use Rattle.accepted_pairs.specs.Acceptance.{Acceptance}
 use Rattle.command_outcomes.specs.Loads.{AfterThree}
 use Rattle.pair_commands.specs.Runs.{RunsBytes, pool_bytes}
 use Rattle.command_outcomes.proofs.Follows.{Nothing, three-follow, shelf-stop-follows}

@@ -1,14 +1,13 @@
 use Rattle.std.proofs.Common.{◌≡◌, ◌∙◌, ℕ, ◌<◌, List, length, get_or, ap, arith, Some}
 use Rattle.c_lower.specs.ProgramCode.{lowered}
-use Rattle.certificate_check.specs.Accepting.{accepted_tree}
-use Rattle.flat_code.specs.Codes.{FlatCode, function_at}
+use Rattle.accepted_pairs.specs.Accepting.{accepted_tree}
+use Rattle.flat_code.specs.Codes.{FlatCode, function_at, site_of}
 use Rattle.flat_code.specs.declared.functions.FlatFunction.{FlatFunction}
 use Rattle.flat_code.specs.declared.operations.Op.{Op}
-use Rattle.flat_code.specs.Codes.{site_of}
 use Rattle.certificate_rules.specs.Validity.{IsValid}
 use Rattle.machine_world.specs.Places.{Checked, InOperation, IsAt}
 use Rattle.segment_run.specs.Contexts.{checked_of}
-use Rattle.certificate_check.specs.CodeLists.{StandsIn}
+use Rattle.accepted_pairs.specs.CodeLists.{StandsIn}
 use Rattle.segment_run.specs.Walking.{IsInCall}
 use Rattle.stack_certificate.specs.declared.certificates.Certificate.{Certificate}
 use Rattle.stack_image.specs.declared.images.Image.{Image}

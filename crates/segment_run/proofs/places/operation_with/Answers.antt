@@ -1,6 +1,6 @@
 use Rattle.std.proofs.Common.{◌≡◌, ◌∙◌, ℕ, ◌+◌, ◌-◌, ◌/◌, ◌<◌, ◌≤◌, length, ap, subst, sym, arith}
 use Rattle.c_lower.specs.ProgramCode.{lowered}
-use Rattle.certificate_check.specs.Accepting.{accepted_tree}
+use Rattle.accepted_pairs.specs.Accepting.{accepted_tree}
 use Rattle.flat_code.specs.Codes.{FlatCode, function_at}
 use Rattle.flat_code.specs.declared.functions.FlatFunction.{FlatFunction}
 use Rattle.lowered_facts.proofs.Formed.{formed}

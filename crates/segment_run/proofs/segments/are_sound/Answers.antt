@@ -1,4 +1,4 @@
-use Rattle.certificate_check.specs.Accepting.{accepted_tree}
+use Rattle.accepted_pairs.specs.Accepting.{accepted_tree}
 use Rattle.lowered_facts.proofs.Formed.{formed}
 use Rattle.segment_run.proofs.segments.are_sound.Goals as goal
 

@@ -1,5 +1,5 @@
 use Rattle.std.proofs.Common.{refl}
-use Rattle.certificate_check.specs.Accepting.{accepted_tree}
+use Rattle.accepted_pairs.specs.Accepting.{accepted_tree}
 use Rattle.c_lower.specs.ProgramCode.{lowered}
 use Rattle.lowered_facts.proofs.Formed.{formed}
 use Rattle.segment_run.proofs.FewWords.{few_globals, few_tables}

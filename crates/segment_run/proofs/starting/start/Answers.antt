@@ -1,7 +1,7 @@
 use Rattle.std.proofs.Common.{◌≡◌, ℕ, [], sym, ap, ◌∙◌, subst, ◌<◌, arith, Option, Some, None, true, false}
 use Rattle.std.specs.Prelude.{◌↔◌, IsNone}
 use Rattle.c_mean.specs.Frames.{pushed, function_at}
-use Rattle.certificate_check.specs.Accepting.{accepted_tree}
+use Rattle.accepted_pairs.specs.Accepting.{accepted_tree}
 use Rattle.chunk_pool.specs.Pool.{Pool, with_word, Taken, taken_for, IsTaken, FitsNone, shape_of}
 use Rattle.machine_world.specs.Local.{Local, with_header}
 use Rattle.machine_world.specs.StandsFor.{Starts, StandsForThread}

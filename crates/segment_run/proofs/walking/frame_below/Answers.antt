@@ -1,5 +1,5 @@
 use Rattle.std.proofs.Common.{◌≡◌, ℕ, ◌+◌, ◌<◌, ◌∷◌, Some, length, sym, ap, subst, ◌∙◌, arith}
-use Rattle.certificate_check.specs.Accepting.{accepted_tree}
+use Rattle.accepted_pairs.specs.Accepting.{accepted_tree}
 use Rattle.chunk_pool.specs.Pool.{end_of, chunk_at}
 use Rattle.segment_run.specs.Contexts.{checked_of}
 use Rattle.stack_certificate.specs.Certificates.{fact_at}

@@ -1,6 +1,6 @@
 use Rattle.std.proofs.Common.{◌≡◌, ℕ, ◌-◌, List, ◌∷◌, Some, refl, sym, ap, subst, ◌∙◌, arith, inl, inr}
 use Rattle.std.proofs.lemmas.List.{length-set}
-use Rattle.certificate_check.specs.Accepting.{accepted_tree}
+use Rattle.accepted_pairs.specs.Accepting.{accepted_tree}
 use Rattle.machine_world.specs.InPlace.{Frame, chain_below}
 use Rattle.machine_world.specs.Keys.{key_of, sites_of}
 use Rattle.segment_run.specs.Contexts.{checked_of, core_of}

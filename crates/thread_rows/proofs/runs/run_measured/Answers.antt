@@ -1,6 +1,6 @@
 use Rattle.std.proofs.Common.{◌≡◌, ℕ, ◌+◌, ◌∷◌, refl, sym, subst, arith}
 use Rattle.std.specs.Prelude.{replicate, drop}
-use Rattle.certificate_check.specs.Accepting.{accepted_tree}
+use Rattle.accepted_pairs.specs.Accepting.{accepted_tree}
 use Rattle.choice_rules.specs.Policy.{by_graph}
 use Rattle.lawful_log.specs.Setup.{Setup}
 use Rattle.resource_monitor.specs.declared.curves.Curve.TheVariants.{Linear}

@@ -1,7 +1,7 @@
 use Rattle.std.proofs.Common.{◌<◌, ◌≤◌, refl, sym, subst, arith}
 use Rattle.std.proofs.lemmas.Bool.{false≢true}
 use Rattle.c_lower.specs.ProgramCode.{lowered}
-use Rattle.certificate_check.specs.Accepting.{accepted_tree}
+use Rattle.accepted_pairs.specs.Accepting.{accepted_tree}
 use Rattle.chunk_pool.specs.Pool.{FitsNone}
 use Rattle.machine_world.specs.Threads.{most_threads}
 use Rattle.segment_run.proofs.Calls.{as_many}

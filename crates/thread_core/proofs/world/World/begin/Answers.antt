@@ -1,5 +1,5 @@
 use Rattle.std.proofs.Common.{◌≡◌, [], IsTrue, refl, sym, ◌∙◌, ap, subst}
-use Rattle.certificate_check.specs.Accepting.{accepted_tree}
+use Rattle.accepted_pairs.specs.Accepting.{accepted_tree}
 use Rattle.machine_world.specs.Threads.{step}
 use Rattle.segment_run.specs.Contexts.{checked_of}
 use Rattle.world_runs.specs.Running.{IsRunning}

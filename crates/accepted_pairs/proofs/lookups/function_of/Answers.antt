@@ -1,0 +1,16 @@
+use Rattle.std.proofs.Common.{◌≡◌, sym, ap, subst, ◌∙◌}
+use Rattle.std.specs.Prelude.{slice_index_or}
+use Rattle.flat_code.specs.Codes.{function_at}
+use Rattle.flat_code.specs.ProgramView.{program_code}
+use Rattle.flat_code.specs.WellFormed.{IsFunction}
+use Rattle.stack_certificate.proofs.PlaceLemmas.{function_formed, any_default}
+use Rattle.accepted_pairs.proofs.lookups.function_of.Goals as goal
+
+pub returns : goal.returns
+returns c =
+    let value : c.index-functions-function.result ≡ function_at (program_code c.args.flat.now) c.args.function =
+    c.index-functions-function.is ∙ (ap (λ fs. slice_index_or fs c.args.function c.index-functions-function.result) c.functions.ensures ∙ any_default _ _ _ _ c.requires) in
+    record {
+      value = value;
+      formed = subst (λ f. IsFunction (program_code c.args.flat.now) f) (sym value) (function_formed (program_code c.args.flat.now) c.args.function c.args.flat.now.well_formed c.requires);
+    }

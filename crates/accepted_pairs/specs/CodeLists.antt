@@ -1,0 +1,32 @@
+-- What is looked up in the code of an accepted pair without going over it.
+use Rattle.std.specs.Prelude.{◌≡◌, ℕ, ◌+◌, ◌*◌, ◌<◌, ◌≤◌, List, length, map, Some, slice_get, slice_index}
+use Rattle.std.specs.Global.{Vec}
+use Rattle.rv_code.specs.Decoding.{decoding}
+use Rattle.flat_code.specs.Codes.{FlatCode}
+use Rattle.stack_image.specs.declared.images.Image.{Image}
+use Rattle.stack_certificate.specs.declared.certificates.Certificate.{Certificate}
+use Rattle.stack_certificate.specs.Certificates.{fact_at}
+use Rattle.accepted_pairs.specs.Held.{AreWordsBefore}
+use Rattle.accepted_pairs.specs.declared.code_lists.CodeLists.{CodeLists}
+
+-- an address is among the words of function f
+pub record StandsIn (certificate : Certificate) (address f : ℕ) : Type 0 where
+  pub there : f < length certificate.functions
+  pub low : (fact_at certificate f).entry ≤ address
+  pub high : address < (fact_at certificate f).entry + 4 * (fact_at certificate f).words
+
+-- each word of the first n functions has its function's number in the list; the first word stands at 0x1000
+pub record NamesFunctions (certificate : Certificate) (n : ℕ) (functions : List ℕ) : Type 0 where
+  pub named : (f word : ℕ) → f < n → StandsIn certificate (0x1000 + 4 * word) f → slice_index functions word ≡ f
+
+-- for each of n functions there is the list of the words before its operations
+pub record AreBefore (code : FlatCode) (certificate : Certificate) (n : ℕ) (lists : List (Vec ℕ)) : Type 0 where
+  pub count : length lists ≡ n
+  pub each : (f : ℕ) (before : Vec ℕ) → slice_get lists f ≡ Some before → AreWordsBefore code certificate f before.items
+
+-- the lists of a pair's code: its words decoded, the function of each word, and the words before each operation
+pub record AreCodeLists (code : FlatCode) (image : Image) (certificate : Certificate) (lists : CodeLists) : Type 0 where
+  pub instrs : lists.instrs.items ≡ map decoding image.code
+  pub count : length lists.functions.items ≡ length image.code
+  pub functions : NamesFunctions certificate (length certificate.functions) lists.functions.items
+  pub before : AreBefore code certificate (length code.functions) lists.before.items

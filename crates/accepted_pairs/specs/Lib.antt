@@ -1,0 +1,4 @@
+pub mod Held
+pub mod Acceptance
+pub mod Accepting
+pub mod CodeLists

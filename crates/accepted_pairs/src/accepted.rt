@@ -1,0 +1,133 @@
+ghost use Rattle.std.specs.Prelude.{◌≡◌, ℕ, ◌<◌, length, map};
+ghost use Rattle.c_tree.specs.ProgramView.{program_tree};
+ghost use Rattle.rv_code.specs.Decoding.{decoding};
+ghost use Rattle.flat_code.specs.ProgramView.{program_code};
+ghost use Rattle.certificate_rules.specs.Validity.{IsValid};
+ghost use Rattle.c_lower.specs.ProgramCode.{lowered};
+ghost use Rattle.accepted_pairs.specs.Accepting.{accepted_tree, Accepts};
+ghost use Rattle.accepted_pairs.specs.CodeLists.{AreCodeLists, StandsIn};
+ghost use Rattle.accepted_pairs.specs.Held.{AreWordsBefore};
+
+use crate::code_lists::CodeLists;
+use c_tree::Program;
+use flat_code::FlatProgram;
+use rv_code::Instr;
+use stack_certificate::Certificate;
+use stack_image::Image;
+use std::marker::Model;
+
+/// A program with an image and a certificate that are valid for it: every rule of the checker holds of them
+/// and of the program's flat code, which it keeps beside the decoded words of the image's code. Contracts see the
+/// three that were accepted.
+#[derive(Drop)]
+pub struct Accepted {
+    program: Program,
+    image: Image,
+    certificate: Certificate,
+    flat: FlatProgram,
+    lists: CodeLists,
+}
+
+impl Model for Accepted {
+    ghost use Rattle.std.specs.Prelude.{◌≡◌};
+    ghost use Rattle.c_tree.specs.ProgramView.{program_tree};
+    ghost use Rattle.flat_code.specs.ProgramView.{program_code};
+    ghost use Rattle.certificate_rules.specs.Validity.{IsValid};
+    ghost use Rattle.c_lower.specs.ProgramCode.{lowered};
+    ghost use Rattle.accepted_pairs.specs.Acceptance.{Acceptance};
+    ghost use Rattle.accepted_pairs.specs.CodeLists.{AreCodeLists};
+    ghost use Rattle.std.specs.Coded.{codes};
+    ghost use Rattle.c_tree.specs.contracts.programs.Program as whole;
+
+    ghost Value = { Acceptance };
+
+    ghost coded = { Prim.hlevel (codes, whole.the_row.coded) };
+
+    ghost view = { λ a. record { program = a.program; image = a.image; certificate = a.certificate } };
+
+    ghost invariant = { λ a. (program_code a.flat ≡ lowered (program_tree a.program)) × IsValid (lowered (program_tree a.program)) a.image a.certificate × AreCodeLists (lowered (program_tree a.program)) a.image a.certificate a.lists };
+}
+
+impl Accepted {
+    /// The program, the image and the certificate, which are valid for it, its flat code and the lists of the image's
+    /// code. It takes no memory.
+    pub fn new(
+        program: Program,
+        image: Image,
+        certificate: Certificate,
+        flat: FlatProgram,
+        lists: CodeLists,
+    ) -> Accepted
+        requires lowers { program_code flat ≡ lowered (program_tree program) }
+        requires valid { IsValid (lowered (program_tree program)) image certificate }
+        requires lists { AreCodeLists (lowered (program_tree program)) image certificate lists }
+        ensures { Accepts result program image certificate }
+    {
+        Accepted {
+            program,
+            image,
+            certificate,
+            flat,
+            lists,
+        }
+    }
+
+    /// The rules hold of the three. It does nothing: it tells this of a value that was accepted.
+    pub fn is_valid(&self)
+        ensures { IsValid (lowered (accepted_tree self.now)) self.now.image self.now.certificate }
+    {
+        let _words = self.image.code.len();
+    }
+
+    /// The program.
+    pub fn program(&self) -> &Program
+        ensures { program_tree result.now ≡ accepted_tree self.now }
+    {
+        &self.program
+    }
+
+    /// The image, which is valid for the program with the certificate.
+    pub fn image(&self) -> &Image
+        ensures value { result.now ≡ self.now.image }
+        ensures valid { IsValid (lowered (accepted_tree self.now)) self.now.image self.now.certificate }
+    {
+        &self.image
+    }
+
+    /// The certificate.
+    pub fn certificate(&self) -> &Certificate
+        ensures { result.now ≡ self.now.certificate }
+    {
+        &self.certificate
+    }
+
+    /// The flat code of the program.
+    pub fn flat(&self) -> &FlatProgram
+        ensures { program_code result.now ≡ lowered (accepted_tree self.now) }
+    {
+        &self.flat
+    }
+
+    /// The instruction of each word of the image's code, and None in the place of a word that is no instruction.
+    pub fn instrs(&self) -> &[Option<Instr>]
+        ensures { result.now ≡ map decoding self.now.image.code }
+    {
+        self.lists.instrs.as_slice()
+    }
+
+    /// The function among whose words an address stands. The work doesn't grow with the program.
+    pub fn function_at(&self, address: u32) -> u32
+        requires { (f : ℕ) × StandsIn self.now.certificate address f }
+        ensures { StandsIn self.now.certificate address result }
+    {
+        self.lists.functions[((address - 0x1000) / 4) as usize]
+    }
+
+    /// How many words stand in a function before each of its operations, and last, before its end.
+    pub fn words_before(&self, function: u32) -> &[u64]
+        requires { function < length (lowered (accepted_tree self.now)).functions }
+        ensures { AreWordsBefore (lowered (accepted_tree self.now)) self.now.certificate function result.now }
+    {
+        self.lists.before[function as usize].as_slice()
+    }
+}

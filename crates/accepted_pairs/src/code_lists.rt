@@ -1,0 +1,96 @@
+// What is looked up in the code of an accepted pair without going over it.
+
+ghost use Rattle.std.specs.Prelude.{◌≡◌, ℕ, ◌+◌, ◌^◌, ◌<◌, ◌≤◌, IfOk, length, slice_index};
+ghost use Rattle.flat_code.specs.ProgramView.{program_code};
+ghost use Rattle.certificate_rules.specs.Validity.{IsValid};
+ghost use Rattle.accepted_pairs.specs.CodeLists.{AreBefore, AreCodeLists, NamesFunctions};
+ghost use Rattle.accepted_pairs.specs.Held.{IsReadable};
+
+use crate::lookups::fact_of;
+use crate::words_before::words_before_each;
+use decoded_code::decode_all;
+use flat_code::FlatProgram;
+use rv_code::Instr;
+use stack_certificate::Certificate;
+use stack_image::Image;
+use std::alloc::{AllocError, Global};
+
+/// The instruction of each word of the code, the function of each word, and for each function how many words stand before
+/// each of its operations.
+#[derive(Drop)]
+pub struct CodeLists {
+    pub instrs: Vec<Option<Instr>>,
+    pub functions: Vec<u32>,
+    pub before: Vec<Vec<u64>>,
+}
+
+/// The lists of a valid pair. They take memory in the size of the code and of the program.
+pub fn code_lists_of(
+    alloc: Global,
+    flat: &FlatProgram,
+    image: &Image,
+    certificate: &Certificate,
+) -> Result<CodeLists, AllocError>
+    requires few { length (program_code flat.now).functions ≤ 2 ^ 32 }
+    requires valid { IsValid (program_code flat.now) image.now certificate.now }
+    ensures { IfOk result (λ lists. AreCodeLists (program_code flat.now) image.now certificate.now lists) }
+{
+    let instrs = decode_all(alloc, image.code.as_slice())?;
+    let mut functions = vec![in alloc; 0; image.code.len()]?;
+    name_functions(flat, image, certificate, &mut functions);
+    let before = words_before_all(alloc, flat, certificate)?;
+    Ok(CodeLists {
+        instrs,
+        functions,
+        before,
+    })
+}
+
+// Writes at each word of the code the number of the function that has it.
+fn name_functions(
+    flat: &FlatProgram,
+    image: &Image,
+    certificate: &Certificate,
+    functions: &mut [u32],
+)
+    requires few { length (program_code flat.now).functions ≤ 2 ^ 32 }
+    requires valid { IsValid (program_code flat.now) image.now certificate.now }
+    requires count { length functions.old ≡ length image.now.code }
+    ensures { NamesFunctions certificate.now (length certificate.now.functions) functions.new }
+{
+    for f in 0..flat.functions().len() as u64 {
+        let function = f as u32;
+        let fact = fact_of(certificate, function);
+        let start = (fact.entry - 0x1000) / 4;
+        name_run(functions, start as usize, fact.words as usize, function);
+    }
+}
+
+// Writes a number at each word of a run.
+fn name_run(functions: &mut [u32], start: usize, words: usize, function: u32)
+    requires { start + words ≤ length functions.old }
+    ensures run { (word : ℕ) → start ≤ word → word < start + words → slice_index functions.new word ≡ function }
+    ensures before { (word : ℕ) → word < start → slice_index functions.new word ≡ slice_index functions.old word }
+    ensures behind { (word : ℕ) → start + words ≤ word → slice_index functions.new word ≡ slice_index functions.old word }
+{
+    for word in start..start + words {
+        functions[word] = function;
+    }
+}
+
+// How many words stand before each operation, for each function.
+fn words_before_all(
+    alloc: Global,
+    flat: &FlatProgram,
+    certificate: &Certificate,
+) -> Result<Vec<Vec<u64>>, AllocError>
+    requires { IsReadable (program_code flat.now) certificate.now }
+    ensures { IfOk result (λ lists. AreBefore (program_code flat.now) certificate.now (length (program_code flat.now).functions) lists.items) }
+{
+    let mut lists = Vec::new(alloc);
+    for f in 0..flat.functions().len() as u64 {
+        let before = words_before_each(alloc, flat, certificate, f as u32)?;
+        lists.push(before)?;
+    }
+    Ok(lists)
+}

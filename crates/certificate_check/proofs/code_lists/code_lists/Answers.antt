@@ -1,6 +1,0 @@
-use Rattle.flat_code.specs.ProgramView.{program_code}
-use Rattle.certificate_check.proofs.CodeListLemmas.{readable_of}
-use Rattle.certificate_check.proofs.code_lists.code_lists.Goals as goal
-
-pub words_before_all-requires : goal.words_before_all-requires
-words_before_all-requires c = readable_of (program_code c.args.flat.now) c.args.image.now c.args.certificate.now c.requires.few c.requires.valid

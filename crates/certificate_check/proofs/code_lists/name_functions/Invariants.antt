@@ -1,9 +1,0 @@
-use Rattle.std.proofs.Common.{◌≡◌, length}
-use Rattle.certificate_check.specs.CodeLists.{NamesFunctions}
-use Rattle.certificate_check.proofs.code_lists.name_functions.Given as goal
-
-abbrev pub invariant-loop-f : goal.invariant-loop-f
-invariant-loop-f l = record {
-  named : NamesFunctions l.certificate l.f l.functions;
-  count : length l.functions ≡ length l.image.code;
-}

@@ -1,6 +1,0 @@
-use Rattle.flat_code.specs.ProgramView.{program_code}
-use Rattle.certificate_check.specs.CodeLists.{AreBefore}
-use Rattle.certificate_check.proofs.code_lists.words_before_all.Given as goal
-
-abbrev pub invariant-loop-f : goal.invariant-loop-f
-invariant-loop-f l = AreBefore (program_code l.flat) l.certificate l.f l.lists.items

@@ -1,6 +1,0 @@
-use Rattle.std.proofs.Common.{◌≡◌, ℕ, ◌+◌, ◌<◌}
-use Rattle.std.specs.Prelude.{slice_get, replicate}
-use Rattle.certificate_check.proofs.image_lists.first_other_start.Given as goal
-
-abbrev pub invariant-loop-k : goal.invariant-loop-k
-invariant-loop-k l = (j : ℕ) → j < l.k → slice_get l.words (l.passed + j) ≡ slice_get (replicate l.count l.start) j

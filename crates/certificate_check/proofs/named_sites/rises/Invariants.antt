@@ -1,7 +1,0 @@
-use Rattle.std.proofs.Common.{ℕ, ◌+◌, ◌<◌}
-use Rattle.std.specs.Prelude.{slice_index}
-use Rattle.certificate_rules.specs.Sites.{fact_numbers}
-use Rattle.certificate_check.proofs.named_sites.rises.Given as goal
-
-abbrev pub invariant-loop-k : goal.invariant-loop-k
-invariant-loop-k l = (j : ℕ) → j + 1 < l.k → slice_index (fact_numbers l.facts) j < slice_index (fact_numbers l.facts) (j + 1)

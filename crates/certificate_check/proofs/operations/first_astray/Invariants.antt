@@ -1,7 +1,0 @@
-use Rattle.std.proofs.Common.{ℕ, ◌<◌}
-use Rattle.flat_code.specs.ProgramView.{program_code}
-use Rattle.certificate_rules.specs.Rules.{V6}
-use Rattle.certificate_check.proofs.operations.first_astray.Given as goal
-
-abbrev pub invariant-loop-op : goal.invariant-loop-op
-invariant-loop-op l = (j : ℕ) → j < l.op → V6 (program_code l.flat) l.image l.certificate l.function j

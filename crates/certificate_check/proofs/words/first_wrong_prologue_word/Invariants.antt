@@ -1,7 +1,0 @@
-use Rattle.std.proofs.Common.{ℕ, ◌<◌}
-use Rattle.flat_code.specs.ProgramView.{program_code}
-use Rattle.certificate_rules.specs.Rules.{V5}
-use Rattle.certificate_check.proofs.words.first_wrong_prologue_word.Given as goal
-
-abbrev pub invariant-loop-word : goal.invariant-loop-word
-invariant-loop-word l = (j : ℕ) → j < l.word → V5 (program_code l.flat) l.image l.certificate l.function j

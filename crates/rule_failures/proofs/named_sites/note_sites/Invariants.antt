@@ -1,0 +1,15 @@
+use Rattle.std.proofs.Common.{◌≡◌, ℕ, ◌<◌, length, take, Some}
+use Rattle.std.specs.Prelude.{◌||◌, slice_get, slice_index}
+use Rattle.std.specs.List.{list_any}
+use Rattle.flat_code.specs.declared.operations.Op.{Op}
+use Rattle.certificate_rules.specs.Sites.{certified_site, fact_numbers, is_site}
+use Rattle.rule_failures.specs.Named.{IsNamedRight}
+use Rattle.rule_failures.specs.Marks.{is_marked}
+use Rattle.rule_failures.proofs.named_sites.note_sites.Given as goal
+
+abbrev pub invariant-loop-op : goal.invariant-loop-op
+invariant-loop-op l = record {
+  named : (j : ℕ) (op : Op) → j < l.op-index → slice_get l.ops j ≡ Some op → IsNamedRight l.facts op;
+  noted : (k : ℕ) → k < length l.facts →
+      is_marked l.seen k ≡ (is_marked l.initial.seen k || list_any (λ op. is_site (slice_index (fact_numbers l.facts) k) (certified_site op)) (take l.op-index l.ops));
+}

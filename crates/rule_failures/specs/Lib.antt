@@ -1,0 +1,4 @@
+pub mod First
+pub mod Marks
+pub mod Named
+pub mod TablesOf

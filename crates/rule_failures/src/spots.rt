@@ -1,0 +1,6 @@
+/// Where a rule fails: the function and the index.
+#[derive(Clone, Copy, PartialEq, Eq)]
+pub struct Spot {
+    pub function: u32,
+    pub index: u64,
+}
