@@ -9,7 +9,8 @@ ghost use Rattle.schedule_log.specs.EntryText.{entry_text};
 use crate::ends::Failure;
 use crate::fitting::line_fits;
 use cap_io::Sink;
-use schedule_log::{Entry, LogWriter, PutError};
+use log_writer::{LogWriter, PutError};
+use schedule_log::{Entry, put_line};
 
 /// Puts the line of an entry: it goes to the sink when the buffer is full.
 pub(crate) fn write_line<K: Sink>(
@@ -24,7 +25,7 @@ pub(crate) fn write_line<K: Sink>(
     ensures unrefused { OnOk result (writer.new.refused ≡ None) }
 {
     line_fits(entry);
-    match writer.put(out, entry) {
+    match put_line(writer, out, entry) {
         Ok(()) => Ok(()),
         Err(refusal) => Err(failure_of(refusal)),
     }
