@@ -10,7 +10,8 @@ use Rattle.command_words.specs.declared.options.Audit.{Audit as AuditOptions}
 use Rattle.lawful_reading.specs.Given.{Given}
 use Rattle.log_verdicts.proofs.Some.{some_verdict}
 use Rattle.resource_monitor.specs.Monitor.{MonitorState}
-use Rattle.schedule_audit.specs.Verdicts.{IsVerdict, MayAudit, given_of}
+use Rattle.schedule_audit.specs.Verdicts.{IsVerdict}
+use Rattle.schedule_reading.specs.Limits.{MayAudit, given_of}
 use Rattle.schedule_audit.specs.declared.verdicts.Verdict.{Verdict}
 use Rattle.command_outcomes.specs.declared.documents.Document.TheVariants as document
 use Rattle.command_outcomes.specs.declared.ended.Ended.{Ended}

@@ -8,7 +8,7 @@ use Rattle.command_words.specs.declared.options.Audit.{Audit as AuditOptions}
 use Rattle.lawful_reading.specs.Given.{Given}
 use Rattle.lawful_reading.specs.Reading.{IsLawful, IsTooLong, IsUnlawful}
 use Rattle.resource_monitor.specs.declared.curves.Curve.TheVariants.{Knee}
-use Rattle.schedule_audit.specs.declared.policy.AuditPolicy.{AuditPolicy}
+use Rattle.schedule_reading.specs.declared.policy.AuditPolicy.{AuditPolicy}
 use Rattle.schedule_audit.specs.declared.verdicts.Verdict.{Verdict}
 use Rattle.command_audit.specs.declared.judgements.Judgement.{Judgement}
 use Rattle.command_audit.specs.declared.judgements.Judgement.TheVariants as judgement

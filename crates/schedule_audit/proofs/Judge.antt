@@ -14,16 +14,16 @@ use Rattle.schedule_log.specs.EntryText.{entry_text, log_text}
 use Rattle.schedule_log.specs.EntryRanges.{FitsEntry}
 use Rattle.schedule_log.specs.declared.entries.Entry.{Entry}
 use Rattle.schedule_log.proofs.LogLines.{no_line_feed}
-use Rattle.schedule_audit.specs.declared.reading.End.{End}
-use Rattle.schedule_audit.specs.declared.reading.End.TheVariants as end
-use Rattle.schedule_audit.specs.declared.reading.Next.{Next}
-use Rattle.schedule_audit.specs.declared.reading.Next.TheVariants as next
-use Rattle.schedule_audit.specs.declared.verdicts.Ruling.TheVariants as ruling
+use Rattle.schedule_reading.specs.declared.reading.End.{End}
+use Rattle.schedule_reading.specs.declared.reading.End.TheVariants as end
+use Rattle.schedule_reading.specs.declared.reading.Next.{Next}
+use Rattle.schedule_reading.specs.declared.reading.Next.TheVariants as next
+use Rattle.schedule_reading.specs.declared.rulings.Ruling.TheVariants as ruling
 use Rattle.schedule_audit.specs.declared.verdicts.Verdict.{Verdict}
-use Rattle.schedule_audit.specs.Judging.{IsReadTo}
-use Rattle.schedule_audit.specs.Kept.{Kept}
-use Rattle.schedule_audit.specs.Rulings.{Allows, IsLine, RulesLine}
-use Rattle.schedule_audit.specs.Stands.{IsEnd, IsTold, IsTraceOf, Stands}
+use Rattle.schedule_audit.specs.Judging.{IsReadTo, IsLine, RulesLine}
+use Rattle.schedule_reading.specs.Kept.{Kept}
+use Rattle.schedule_reading.specs.Rulings.{Allows}
+use Rattle.schedule_reading.specs.Stands.{IsEnd, IsTold, IsTraceOf, Stands}
 use Rattle.schedule_audit.specs.Verdicts.{IsVerdictOf}
 
 -- ---- the first line feed

@@ -4,17 +4,16 @@ use Rattle.std.specs.Prelude.{position}
 use Rattle.std.proofs.lemmas.Bool.{eq-eqb, ne_eqb}
 use Rattle.lawful_reading.specs.Given.{Given}
 use Rattle.lawful_reading.specs.State.{State, start_of}
-use Rattle.schedule_audit.specs.declared.reading.End.{End}
-use Rattle.schedule_audit.specs.declared.reading.End.TheVariants as end
-use Rattle.schedule_audit.specs.declared.reading.Next.TheVariants as next
-use Rattle.schedule_audit.specs.declared.verdicts.Failure.{Failure}
-use Rattle.schedule_audit.specs.declared.verdicts.Ruling.{Ruling}
-use Rattle.schedule_audit.specs.declared.verdicts.Ruling.TheVariants as ruling
+use Rattle.schedule_reading.specs.declared.reading.End.{End}
+use Rattle.schedule_reading.specs.declared.reading.End.TheVariants as end
+use Rattle.schedule_reading.specs.declared.reading.Next.TheVariants as next
+use Rattle.schedule_reading.specs.declared.rulings.Failure.{Failure}
+use Rattle.schedule_reading.specs.declared.rulings.Ruling.{Ruling}
+use Rattle.schedule_reading.specs.declared.rulings.Ruling.TheVariants as ruling
 use Rattle.schedule_audit.specs.declared.verdicts.Verdict.{Verdict}
-use Rattle.schedule_audit.specs.Judging.{IsReadTo}
-use Rattle.schedule_audit.specs.Kept.{Kept}
-use Rattle.schedule_audit.specs.Rulings.{RulesLine}
-use Rattle.schedule_audit.specs.Stands.{Stands, StandsSomehow}
+use Rattle.schedule_audit.specs.Judging.{IsReadTo, RulesLine}
+use Rattle.schedule_reading.specs.Kept.{Kept}
+use Rattle.schedule_reading.specs.Stands.{Stands, StandsSomehow}
 use Rattle.schedule_audit.specs.Verdicts.{IsVerdictOf}
 use Rattle.schedule_audit.proofs.Judge.{cut, none_left, read_late, read_lawful, read_on, read_refused, read_start, read_unlawful, start_told, trace_in}
 
@@ -29,9 +28,6 @@ still_stands k now new now' bytes r rules e stands =
     (stands.0, ruled.2.after, ruled.2.stands)
 
 module _ (g : Given) (left : Option (List ℕ)) (log rest : List ℕ) (line : ℕ) (k : Kept) (now : Option (List ℕ)) (is : IsReadTo g left log rest line k now) where
-  pub stands_read : StandsSomehow k
-  stands_read = (g, is.state, is.stands)
-
   module _ (at : ℕ) (found : position (λ byte. byte == 10) rest ≡ Some at) (new : Kept) (now' : Option (List ℕ)) (bytes : List ℕ) (bytes_are : bytes ≡ take at rest)
       (r : Result Ruling Failure) (rules : (h : Given) (state : State) → Stands h state k → RulesLine h state k bytes now new now' r) where
     ruled_line : (ruling : Ruling) → r ≡ Ok ruling → RulesLine g is.state k (take at rest) now new now' (Ok ruling)
@@ -63,13 +59,6 @@ fewer_left rest more at line most found same few =
     let long = length-drop (at + 1) rest in
     let is = ap (λ (l : List ℕ). length l) same in
     omega (arith, below, long, is, few)
-
-pub shorter_left : (rest more : List ℕ) (at : ℕ) → position (λ byte. byte == 10) rest ≡ Some at → more ≡ drop (at + 1) rest → length more < length rest
-shorter_left rest more at found same =
-    let below = within_bytes rest at found in
-    let long = length-drop (at + 1) rest in
-    let is = ap (λ (l : List ℕ). length l) same in
-    omega (arith, below, long, is)
 
 -- ---- where the last line ends
 

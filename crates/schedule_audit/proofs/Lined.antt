@@ -2,7 +2,6 @@
 use Rattle.std.proofs.Common.{◌≡◌, ℕ, ◌≤◌, Bool, true, false, List, Option, Some, None, Result, Ok, Err, refl, sym, ap, ◌∙◌, subst, arith}
 use Rattle.std.specs.Prelude.{ℤ, IsTrue}
 use Rattle.lawful_reading.specs.Given.{Given}
-use Rattle.lawful_reading.specs.State as reading
 use Rattle.lawful_reading.specs.State.{State}
 use Rattle.schedule_log.specs.EntryRanges.{FitsEntry}
 use Rattle.schedule_log.specs.EntryText.{entry_text}
@@ -10,29 +9,21 @@ use Rattle.schedule_log.specs.declared.entries.Entry.{Entry}
 use Rattle.schedule_log.specs.declared.entries.Item.{Item}
 use Rattle.schedule_log.specs.declared.entries.StopLine.{StopLine}
 use Rattle.schedule_log.specs.declared.reading.LogError.{LogError}
-use Rattle.schedule_audit.specs.declared.reading.End.TheVariants as end
-use Rattle.schedule_audit.specs.declared.reading.Under.{Under}
-use Rattle.schedule_audit.specs.declared.verdicts.Ruling.{Ruling}
-use Rattle.schedule_audit.specs.declared.verdicts.Ruling.TheVariants as ruling
-use Rattle.schedule_audit.specs.declared.verdicts.Failure.{Failure}
-use Rattle.schedule_audit.specs.Closing.{RulesWithin, WithinSomehow}
-use Rattle.schedule_audit.specs.Judging.{IsNoEnd}
-use Rattle.schedule_audit.specs.Kept.{Core, Kept}
-use Rattle.schedule_audit.specs.Rulings.{IsLine, Refuses, Rules, RulesLine, StandsBetweenSomehow}
-use Rattle.schedule_audit.specs.Stands.{IsEnd, IsTold, Stands, StandsBy, StandsSomehow, StandsUnless, StandsWithin}
-use Rattle.schedule_audit.proofs.Composing.{line_over, no_segment, point_in_segment, within_rules}
-use Rattle.schedule_audit.proofs.Delivered.{memory_within}
-use Rattle.schedule_audit.proofs.Proceeding.{not_yet}
-use Rattle.schedule_audit.proofs.Stopping.{between_by, stands_by}
+use Rattle.schedule_reading.specs.declared.reading.End.TheVariants as end
+use Rattle.schedule_reading.specs.declared.reading.Under.{Under}
+use Rattle.schedule_reading.specs.declared.rulings.Ruling.{Ruling}
+use Rattle.schedule_reading.specs.declared.rulings.Failure.{Failure}
+use Rattle.schedule_reading.specs.Closing.{RulesWithin, WithinSomehow}
+use Rattle.schedule_audit.specs.Judging.{IsNoEnd, IsLine}
+use Rattle.schedule_reading.specs.Kept.{Core, Kept}
+use Rattle.schedule_reading.specs.Rulings.{Refuses, Rules, StandsBetweenSomehow}
+use Rattle.schedule_reading.specs.Stands.{IsEnd, IsTold, Stands, StandsBy, StandsSomehow, StandsWithin}
+use Rattle.schedule_audit.proofs.Composing.{no_segment, point_in_segment, within_rules}
+use Rattle.schedule_reading.proofs.Delivered.{memory_within}
+use Rattle.schedule_reading.proofs.Proceeding.{not_yet}
+use Rattle.schedule_reading.proofs.Unstopped.{between_by, stands_by}
 
 -- ---- after the stop
-
-over_of : (g : Given) (state : State) (k : Kept) → Stands g state k → k.end ≡ end.Stopped → (state.end ≡ reading.Stopped) × (state.segment ≡ None)
-over_of g state k stands is = (subst (IsEnd g state) is stands.end_is, subst (StandsUnless g state k) is stands.stands)
-
-pub stopped_line : (g : Given) (state : State) (k : Kept) (line : List ℕ) (told : Option (List ℕ)) (new : Kept) (told' : Option (List ℕ)) → Stands g state k → k.end ≡ end.Stopped → RulesLine g state k line told new told' (Ok ruling.Refused)
-stopped_line g state k line told new told' stands is =
-    let over = over_of g state k stands is in line_over g state k line told new told' over.0 over.1
 
 -- ---- the bytes of a line
 

@@ -1,15 +1,35 @@
--- What is said of a log, before it is the answer.
+-- What is said of the bytes of a line, and of a log before it is the answer.
 use Rattle.std.specs.Prelude.{◌≡◌, ℕ, suc, List, ◌++◌, length, Option, IfSome, Result, Ok, Err}
 use Rattle.lawful_reading.specs.Given.{Given}
-use Rattle.lawful_reading.specs.Reading.{Leads}
+use Rattle.lawful_reading.specs.Reading.{IsBeyond, Leads}
 use Rattle.lawful_reading.specs.State.{State, start_of}
-use Rattle.schedule_log.specs.EntryText.{log_text}
+use Rattle.schedule_log.specs.EntryRanges.{FitsEntry}
+use Rattle.schedule_log.specs.EntryText.{entry_text, log_text}
 use Rattle.schedule_log.specs.declared.entries.Entry.{Entry}
-use Rattle.schedule_audit.specs.declared.verdicts.Failure.{Failure}
+use Rattle.schedule_reading.specs.declared.rulings.Failure.{Failure}
+use Rattle.schedule_reading.specs.declared.rulings.Ruling.{Ruling}
+use Rattle.schedule_reading.specs.declared.rulings.Ruling.TheVariants as ruling
+use Rattle.schedule_reading.specs.Rulings.{Allows, Refuses}
 use Rattle.schedule_audit.specs.declared.verdicts.Verdict.{Verdict}
-use Rattle.schedule_audit.specs.Kept.{Kept}
-use Rattle.schedule_audit.specs.Stands.{IsTold, Stands}
+use Rattle.schedule_reading.specs.Kept.{Kept}
+use Rattle.schedule_reading.specs.Stands.{IsTold, Stands}
 use Rattle.schedule_audit.specs.Verdicts.{IsVerdictOf}
+
+-- ---- a line
+
+-- these are the bytes of the line of this entry
+pub record IsLine (line : List ℕ) (entry : Entry) : Type 0 where
+  pub fits : FitsEntry entry
+  pub text : entry_text entry ≡ line
+
+-- the ruling is that of the entry whose line this is; or of no entry it is
+abbrev pub RulesLine : Given → State → Kept → List ℕ → Option (List ℕ) → Kept → Option (List ℕ) → Result Ruling Failure → Type 0
+RulesLine g state old line told new told' (Ok ruling.Allowed) = (entry : Entry) × IsLine line entry × Allows g state old entry told new told'
+RulesLine g state old line told new told' (Ok ruling.Refused) = IsTold state old told → (entry : Entry) → IsLine line entry → Refuses g state entry
+RulesLine g state old line told new told' (Ok ruling.OutOfSteps) = (entry : Entry) × IsLine line entry × IsBeyond g state entry
+RulesLine g state old line told new told' (Err failure) = Unit {0}
+
+-- ---- a log
 
 abbrev pub IsJudged : Given → Option (List ℕ) → List ℕ → Result Verdict Failure → Type 0
 IsJudged g left log (Ok verdict) = IsVerdictOf g left log verdict

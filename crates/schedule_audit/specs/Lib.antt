@@ -1,16 +1,2 @@
-pub mod Told
-pub mod Changes
-pub mod Starting
-pub mod Waiting
-pub mod Kept
-pub mod Stands
-pub mod Coming
-pub mod Uses
-pub mod Looks
-pub mod Ruled
-pub mod Rulings
-pub mod Closing
-pub mod Shown
-pub mod Ending
 pub mod Verdicts
 pub mod Judging

@@ -3,19 +3,23 @@ ghost use Rattle.std.specs.Prelude.{◌≡◌, ◌≢◌, ◌==◌, ◌⊎◌, N
 ghost use Rattle.c_tree.specs.ProgramView.{program_tree};
 ghost use Rattle.lawful_reading.specs.Given.{Given};
 ghost use Rattle.lawful_reading.specs.State.{State};
-ghost use Rattle.schedule_audit.specs.Judging.{IsJudged, IsNoEnd, IsReadTo};
-ghost use Rattle.schedule_audit.specs.Rulings.{CountsReads};
-ghost use Rattle.schedule_audit.specs.Verdicts.{IsVerdict, MayAudit, given_of};
+ghost use Rattle.schedule_audit.specs.Judging.{IsJudged, IsNoEnd, IsReadTo, RulesLine};
+ghost use Rattle.schedule_reading.specs.Rulings.{CountsReads, Rules, StandsBetweenSomehow};
+ghost use Rattle.schedule_audit.specs.Verdicts.{IsVerdict};
+ghost use Rattle.schedule_reading.specs.Limits.{MayAudit, given_of};
 ghost use Rattle.schedule_audit.specs.declared.verdicts.Verdict.{Verdict as VerdictOf};
+ghost use Rattle.schedule_reading.specs.Closing.{RulesWithin, WithinSomehow};
+ghost use Rattle.schedule_reading.specs.Stands.{IsEnd, Stands, StandsSomehow, StandsWithin};
+ghost use Rattle.schedule_reading.specs.declared.reading.End.TheVariants.{Stopped};
 
-use crate::ends::Shown;
-use crate::policy::AuditPolicy;
-use crate::reading::{End, Reading, Under};
-use crate::verdicts::{Failure, Ruling, Verdict};
+use crate::ends::stop;
+use crate::segments::{block, end_line, out};
+use crate::verdicts::Verdict;
 use c_tree::Program;
 use cap_io::Source;
 use resource_monitor::{Measure, Monitor};
 use schedule_log::{Entry, LogError, read_entry};
+use schedule_reading::{AuditPolicy, End, Failure, Reading, Ruling, Shown, Under};
 use std::alloc::Global;
 
 /// Judges a log: whether each of its lines is allowed after those before it, and the last is a stop. The lines of choice points
@@ -62,7 +66,7 @@ fn judge<S: Source, C: Measure + Drop>(
 {
     match Reading::new(alloc, program, policy, monitor) {
         Ok(mut reading) => {
-            let judged = reading.lines(trace, log);
+            let judged = lines(&mut reading, trace, log);
             drop(reading);
             judged
         }
@@ -77,132 +81,145 @@ fn line_end(bytes: &[u8]) -> Option<usize>
     bytes.iter().position(|byte| *byte == b'\n')
 }
 
-impl<'a, C: Measure + Drop> Reading<'a, C> {
-    ghost use Rattle.schedule_audit.specs.Closing.{RulesWithin, WithinSomehow};
-    ghost use Rattle.schedule_audit.specs.Rulings.{Rules, RulesLine, StandsBetweenSomehow};
-    ghost use Rattle.schedule_audit.specs.Stands.{IsEnd, Stands, StandsSomehow, StandsWithin};
-    ghost use Rattle.schedule_audit.specs.declared.reading.End.TheVariants.{Stopped};
-
-    /// Takes the lines of a log, one after another.
-    fn lines<S: Source>(&mut self, trace: &mut S, log: &[u8]) -> Result<Verdict, Failure>
-        requires { StandsSomehow self.old }
-        ensures judged { (g : Given) → IsReadTo g (S.left trace.old) log.now log.now 1 self.old (S.left trace.old) → IsJudged g (S.left trace.old) log.now result }
-        ensures counts { CountsReads result (S.faults trace.old) (S.faults trace.new) }
-    {
-        let mut rest = log;
-        let mut line: u64 = 1;
-        while let Some(end) = line_end(rest) {
-            match self.line(trace, &rest[..end])? {
-                Ruling::Allowed => (),
-                Ruling::Refused => return Ok(Verdict::Unlawful { line }),
-                Ruling::OutOfSteps => return Ok(Verdict::Steps { line }),
-            }
-            rest = &rest[end + 1..];
-            line += 1;
+/// Takes the lines of a log, one after another.
+fn lines<S: Source, C: Measure + Drop>(
+    reading: &mut Reading<'_, C>,
+    trace: &mut S,
+    log: &[u8],
+) -> Result<Verdict, Failure>
+    requires { StandsSomehow reading.old }
+    ensures judged { (g : Given) → IsReadTo g (S.left trace.old) log.now log.now 1 reading.old (S.left trace.old) → IsJudged g (S.left trace.old) log.now result }
+    ensures counts { CountsReads result (S.faults trace.old) (S.faults trace.new) }
+{
+    let mut rest = log;
+    let mut line: u64 = 1;
+    while let Some(end) = line_end(rest) {
+        match take_line(reading, trace, &rest[..end])? {
+            Ruling::Allowed => (),
+            Ruling::Refused => return Ok(Verdict::Unlawful { line }),
+            Ruling::OutOfSteps => return Ok(Verdict::Steps { line }),
         }
-        if rest.is_empty() && matches!(self.end, End::Stopped) {
-            Ok(Verdict::Lawful)
-        } else {
-            Ok(Verdict::Unlawful { line })
-        }
+        rest = &rest[end + 1..];
+        line += 1;
     }
-
-    /// Takes one line, without its line feed.
-    fn line<S: Source>(&mut self, trace: &mut S, line: &[u8]) -> Result<Ruling, Failure>
-        requires { StandsSomehow self.old }
-        ensures rules { (g : Given) (state : State) → Stands g state self.old → RulesLine g state self.old line.now (S.left trace.old) self.new (S.left trace.new) result }
-        ensures counts { CountsReads result (S.faults trace.old) (S.faults trace.new) }
-    {
-        if matches!(self.end, End::Stopped) {
-            return Ok(Ruling::Refused);
-        }
-        match read_entry(line) {
-            Ok(entry) => self.entry(trace, entry),
-            Err(LogError::Line) => Ok(Ruling::Refused),
-        }
+    if rest.is_empty() && matches!(reading.end, End::Stopped) {
+        Ok(Verdict::Lawful)
+    } else {
+        Ok(Verdict::Unlawful { line })
     }
+}
 
-    /// Takes one entry, before the stop.
-    fn entry<S: Source>(&mut self, trace: &mut S, entry: Entry) -> Result<Ruling, Failure>
-        requires stands { StandsSomehow self.old }
-        requires going { self.old.end ≡ Stopped → ⊥ }
-        ensures rules { (g : Given) (state : State) → Stands g state self.old → Rules g state self.old entry (S.left trace.old) self.new (S.left trace.new) result }
-        ensures counts { CountsReads result (S.faults trace.old) (S.faults trace.new) }
-    {
-        match entry {
-            Entry::Edge {
+/// Takes one line, without its line feed.
+fn take_line<S: Source, C: Measure + Drop>(
+    reading: &mut Reading<'_, C>,
+    trace: &mut S,
+    line: &[u8],
+) -> Result<Ruling, Failure>
+    requires { StandsSomehow reading.old }
+    ensures rules { (g : Given) (state : State) → Stands g state reading.old → RulesLine g state reading.old line.now (S.left trace.old) reading.new (S.left trace.new) result }
+    ensures counts { CountsReads result (S.faults trace.old) (S.faults trace.new) }
+{
+    if matches!(reading.end, End::Stopped) {
+        return Ok(Ruling::Refused);
+    }
+    match read_entry(line) {
+        Ok(entry) => take_entry(reading, trace, entry),
+        Err(LogError::Line) => Ok(Ruling::Refused),
+    }
+}
+
+/// Takes one entry, before the stop.
+fn take_entry<S: Source, C: Measure + Drop>(
+    reading: &mut Reading<'_, C>,
+    trace: &mut S,
+    entry: Entry,
+) -> Result<Ruling, Failure>
+    requires stands { StandsSomehow reading.old }
+    requires going { reading.old.end ≡ Stopped → ⊥ }
+    ensures rules { (g : Given) (state : State) → Stands g state reading.old → Rules g state reading.old entry (S.left trace.old) reading.new (S.left trace.new) result }
+    ensures counts { CountsReads result (S.faults trace.old) (S.faults trace.new) }
+{
+    match entry {
+        Entry::Edge {
+            from,
+            to,
+            count,
+            cost,
+            changes,
+        } => {
+            let shown = Shown {
                 from,
                 to,
                 count,
                 cost,
                 changes,
-            } => {
-                let shown = Shown {
-                    from,
-                    to,
-                    count,
-                    cost,
-                    changes,
-                };
-                self.edge(trace, &shown)
-            }
-            Entry::Stop(stop) => self.stop(trace, stop),
-            _ => match self.under.take() {
-                None => self.between(trace, entry),
-                Some(under) => self.within(under, entry),
-            },
+            };
+            reading.edge(trace, &shown)
         }
+        Entry::Stop(line) => stop(reading, trace, line),
+        _ => match reading.under.take() {
+            None => take_at_point(reading, trace, entry),
+            Some(under) => take_in_segment(reading, under, entry),
+        },
     }
+}
 
-    /// A line of a choice point.
-    fn between<S: Source>(&mut self, trace: &mut S, entry: Entry) -> Result<Ruling, Failure>
-        requires between { StandsBetweenSomehow self.old }
-        requires under { self.old.under ≡ None }
-        requires going { self.old.end ≡ Stopped → ⊥ }
-        requires line { IsNoEnd entry }
-        ensures rules { (g : Given) (state : State) → Stands g state self.old → Rules g state self.old entry (S.left trace.old) self.new (S.left trace.new) result }
-        ensures counts { CountsReads result (S.faults trace.old) (S.faults trace.new) }
-    {
-        if !self.is_before_end() {
-            return Ok(Ruling::Refused);
-        }
-        match entry {
-            Entry::Event { clock, item } => self.delivery(trace, clock, item, false),
-            Entry::Dropped { clock, item } => self.delivery(trace, clock, item, true),
-            Entry::Run {
-                clock,
-                thread,
-                node,
-            } => self.choice(trace, clock, thread, node),
-            _ => Ok(Ruling::Refused),
-        }
+/// A line of a choice point.
+fn take_at_point<S: Source, C: Measure + Drop>(
+    reading: &mut Reading<'_, C>,
+    trace: &mut S,
+    entry: Entry,
+) -> Result<Ruling, Failure>
+    requires between { StandsBetweenSomehow reading.old }
+    requires under { reading.old.under ≡ None }
+    requires going { reading.old.end ≡ Stopped → ⊥ }
+    requires line { IsNoEnd entry }
+    ensures rules { (g : Given) (state : State) → Stands g state reading.old → Rules g state reading.old entry (S.left trace.old) reading.new (S.left trace.new) result }
+    ensures counts { CountsReads result (S.faults trace.old) (S.faults trace.new) }
+{
+    if !reading.is_before_end() {
+        return Ok(Ruling::Refused);
     }
+    match entry {
+        Entry::Event { clock, item } => reading.delivery(trace, clock, item, false),
+        Entry::Dropped { clock, item } => reading.delivery(trace, clock, item, true),
+        Entry::Run {
+            clock,
+            thread,
+            node,
+        } => reading.choice(trace, clock, thread, node),
+        _ => Ok(Ruling::Refused),
+    }
+}
 
-    /// A line of a segment.
-    fn within(&mut self, mut under: Under<'a>, entry: Entry) -> Result<Ruling, Failure>
-        requires under { self.old.under ≡ None }
-        requires within { WithinSomehow self.old.core under }
-        requires line { IsNoEnd entry }
-        ensures { (g : Given) (state : State) → StandsWithin g state self.old.core under.entry → IsEnd g state self.old.end → RulesWithin g state self.old entry self.new result }
-    {
-        match entry {
-            Entry::Out { thread, value } => self.out(under, thread, value),
-            Entry::Block {
-                thread,
-                node,
-                key,
-                cost,
-                free,
-            } => self.block(under, thread, node, &key, cost, free),
-            Entry::End { thread, cost, free } => {
-                let ruling = self.end_line(&mut under, thread, cost, free);
-                drop(under);
-                ruling
-            }
-            _ => {
-                drop(under);
-                Ok(Ruling::Refused)
-            }
+/// A line of a segment.
+fn take_in_segment<'a, C: Measure + Drop>(
+    reading: &mut Reading<'a, C>,
+    mut under: Under<'a>,
+    entry: Entry,
+) -> Result<Ruling, Failure>
+    requires under { reading.old.under ≡ None }
+    requires within { WithinSomehow reading.old.core under }
+    requires line { IsNoEnd entry }
+    ensures { (g : Given) (state : State) → StandsWithin g state reading.old.core under.entry → IsEnd g state reading.old.end → RulesWithin g state reading.old entry reading.new result }
+{
+    match entry {
+        Entry::Out { thread, value } => out(reading, under, thread, value),
+        Entry::Block {
+            thread,
+            node,
+            key,
+            cost,
+            free,
+        } => block(reading, under, thread, node, &key, cost, free),
+        Entry::End { thread, cost, free } => {
+            let ruling = end_line(reading, &mut under, thread, cost, free);
+            drop(under);
+            ruling
+        }
+        _ => {
+            drop(under);
+            Ok(Ruling::Refused)
         }
     }
 }

@@ -2,26 +2,17 @@
 //
 // In: a program, a policy, a monitor of its resources, a trace and the bytes of a log. Out: that every line of the log is
 // allowed and the last is a stop, or the first line that isn't, or that a line needs more steps of the source than may be
-// taken (`audit`). The lines are taken one after another: what is delivered and which thread runs by the rules of choice
-// points, outputs, blocking points and traps by the source's own run, edges by the blocking graph. Of costs and free chunks
-// only bounds are asked, since no machine is run. The idea of choices by a blocking graph is Capriccio's (von Behren et al.,
-// SOSP 2003).
+// taken (`audit`). The lines are taken one after another, over a `Reading` of the crate below: what is delivered and which thread
+// runs by the rules of choice points, outputs, blocking points and traps by the source's own run, edges by the blocking graph. Of
+// costs and free chunks only bounds are asked, since no machine is run. The idea of choices by a blocking graph is Capriccio's
+// (von Behren et al., SOSP 2003).
 #![tactic(auto)]
 
 mod audits;
-mod choosing;
 mod ends;
-mod events;
-mod held;
-mod parts;
-mod points;
-mod policy;
-mod reading;
 mod segments;
-mod threads;
-mod uses;
 mod verdicts;
 
 pub use audits::audit;
-pub use policy::AuditPolicy;
+pub use schedule_reading::AuditPolicy;
 pub use verdicts::Verdict;

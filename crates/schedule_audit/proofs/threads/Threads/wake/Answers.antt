@@ -1,7 +1,0 @@
-use Rattle.std.proofs.Common.{subst}
-use Rattle.thread_waits.specs.Waiting.{IsWake}
-use Rattle.schedule_audit.specs.Told.{ThreadsState}
-use Rattle.schedule_audit.proofs.threads.Threads.wake.Goals as goal
-
-pub returns : goal.returns
-returns c = subst (λ (t : ThreadsState). IsWake t.exchange.caps t.exchange.exchange t.waits c.wake.result) c.self.view_is c.wake.ensures

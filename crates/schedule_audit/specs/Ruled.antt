@@ -1,8 +1,0 @@
--- A ruling by a test.
-use Rattle.std.specs.Prelude.{Bool, true, false}
-use Rattle.schedule_audit.specs.declared.verdicts.Ruling.{Ruling}
-use Rattle.schedule_audit.specs.declared.verdicts.Ruling.TheVariants as ruling
-
-abbrev pub ruled : Bool → Ruling
-ruled true = ruling.Allowed
-ruled false = ruling.Refused

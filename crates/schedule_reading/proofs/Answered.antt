@@ -1,0 +1,89 @@
+-- A call that is answered at once: the thread goes on with its result.
+use Rattle.std.proofs.Common.{◌≡◌, ℕ, List, ◌++◌, length, Option, Some, None, sym, ap, ◌∙◌, subst, arith}
+use Rattle.cap_word.specs.declared.calls.Ask.{Ask}
+use Rattle.cap_word.specs.declared.threads.ThreadId.{ThreadId}
+use Rattle.cap_word.specs.declared.traps.TrapKind.{TrapKind}
+use Rattle.c_mean.specs.ModelledCalls.{Exchange, ImmediateRow, immediate_row}
+use Rattle.c_mean.specs.Steps.{source_resume}
+use Rattle.c_mean.specs.World as source
+use Rattle.c_mean.specs.World.{Segment, SegmentMove, with_printed, with_started}
+use Rattle.cap_word.specs.Runs.{Goes}
+use Rattle.c_tree.specs.Trees.{ProgramTree}
+use Rattle.lawful_reading.specs.Given.{Given}
+use Rattle.lawful_reading.specs.State.{State}
+use Rattle.scheduler.specs.State.{SchedulerState}
+use Rattle.source_runs.specs.Threads.{IsThread, globals_of, running_of, waiting_of}
+use Rattle.source_runs.specs.declared.frames.Thread.{Thread}
+use Rattle.thread_exchange.specs.Exchanges.{Exchanging}
+use Rattle.schedule_reading.specs.declared.reading.Under.{Under}
+use Rattle.schedule_reading.specs.Coming.{CrowdsAt, GoesTo, MayAnswer, TrapsAt}
+use Rattle.schedule_reading.specs.Kept.{Core}
+use Rattle.schedule_reading.specs.Stands.{AreBeside}
+use Rattle.schedule_reading.specs.Told.{ThreadsState}
+use Rattle.schedule_reading.proofs.Leading.{answered, goes_on, traps_now}
+
+-- what they meet has changed
+pub beside_exchange : (g : Given) (state : State) (rests : List source.Rest) (exchange other : Exchange) (number : ℕ) (threads : ThreadsState) (scheduler : SchedulerState) (running : ThreadId) (y : Exchanging) →
+    y.exchange ≡ other → length other.uses ≡ 8 → AreBeside g state rests exchange number threads scheduler running → AreBeside g state rests other number (record threads { exchange = y }) scheduler running
+beside_exchange g state rests exchange other number threads scheduler running y e eight b = record {
+  are = record { exchange_is = e; uses = eight; count = b.are.count; live = b.are.live; are = b.are.are };
+  started = b.started;
+  away = b.away;
+  away_there = b.away_there;
+  away_number = b.away_number;
+  away_waits = b.away_waits;
+  resting = b.resting;
+  number_is = b.number_is;
+  scheduled = b.scheduled;
+}
+
+same_next : (a b : Segment) → ◌≡◌ {A = SegmentMove} (Goes a) (Goes b) → a ≡ b
+same_next a b e = cc
+
+-- a thread goes on with a result
+pub record Resumes (tree : ProgramTree) (old : Thread) (old_words : List ℕ) (word : ℕ) (new : Thread) (words : List ℕ) : Type 0 where
+  pub goes_on_is : running_of tree new words ≡ source_resume (waiting_of tree old) (record { result = word; globals = globals_of tree old_words })
+  pub thread : IsThread tree new words
+
+pub resumes_in : (tree other : ProgramTree) → tree ≡ other → (old : Thread) (old_words : List ℕ) (word : ℕ) (new : Thread) (words : List ℕ) →
+    running_of tree new words ≡ source_resume (waiting_of tree old) (record { result = word; globals = globals_of tree old_words }) → IsThread tree new words → Resumes other old old_words word new words
+resumes_in tree other e old old_words word new words goes is =
+    subst (λ (t : ProgramTree). Resumes t old old_words word new words) e (record { goes_on_is = goes; thread = is })
+
+module _ (g : Given) (state : State) (last : Segment) (k : Core) (under : Under) (ask : Ask) (may : MayAnswer g state last k under ask) where
+  abbrev pub row : ImmediateRow
+  row = immediate_row g.policy.caps last.world.exchange last.number (length last.world.threads) ask
+
+  pub went_on : (word : ℕ) (outputs : List (ℕ × ℕ)) (threads : ThreadsState) (scheduler : SchedulerState) (words : List ℕ) (thread : Thread) →
+      row.trap ≡ None → row.result ≡ word → with_printed last.number last.world.outputs row.prints ≡ last.world.outputs ++ outputs →
+      AreBeside g state (with_started last.world.threads row.starts) row.after last.number threads scheduler under.choice.thread →
+      Resumes g.program under.thread k.words word thread words →
+      GoesTo g state last outputs (record k { words = words; threads = threads; scheduler = scheduler }) (record under { thread = thread })
+  went_on word outputs threads scheduler words thread none result printed beside resumes = record {
+    after = answered g.program g.policy.caps last under.thread k.words ask may.asks;
+    goes = goes_on g.program g.policy.caps last under.thread k.words ask may.asks none;
+    outputs_are = printed;
+    runs = record {
+      beside = beside;
+      thread = resumes.thread;
+      running = resumes.goes_on_is ∙ ap (λ (n : ℕ). source_resume (waiting_of g.program under.thread) (record { result = n; globals = globals_of g.program k.words })) (sym result);
+    };
+  }
+
+  pub trapped : (kind : TrapKind) → row.trap ≡ Some kind → TrapsAt g last kind
+  trapped kind some = record {
+    world = record last.world { globals = globals_of g.program k.words };
+    stops = traps_now g.program g.policy.caps last under.thread k.words ask may.asks kind some;
+  }
+
+  abbrev answer_of : Segment
+  answer_of = answered g.program g.policy.caps last under.thread k.words ask may.asks
+
+  -- a call that starts no thread doesn't start one too many
+  pub starts_none : row.trap ≡ None → row.starts ≡ None → CrowdsAt g last → ⊥
+  starts_none none no_start crowds =
+      let same : answer_of ≡ crowds.1.after = same_next answer_of crowds.1.after (sym (goes_on g.program g.policy.caps last under.thread k.words ask may.asks none) ∙ crowds.1.goes) in
+      let count : length (with_started last.world.threads row.starts) ≡ length crowds.1.after.world.threads = ap (λ (s : Segment). length s.world.threads) same in
+      let still : length (with_started last.world.threads row.starts) ≡ length last.world.threads = ap (λ (o : Option (ℕ × ℕ)). length (with_started last.world.threads o)) no_start in
+      let more = crowds.1.one_more in
+      omega (arith, count, still, more)

@@ -1,0 +1,79 @@
+-- A segment is taken in: its cost, its free chunks, the uses after it and its record.
+use Rattle.std.proofs.Common.{◌≡◌, ℕ, ◌+◌, ◌<◌, ◌≤◌, ℤ, pos, List, [], ◌∷◌, length, drop, sym, ap, ◌∙◌, subst, arith}
+use Rattle.std.specs.Prelude.{slice_index, slice_index_or, ◌-ℤ◌}
+use Rattle.blocking_graph.specs.Edges.{count_of, edges_with}
+use Rattle.blocking_graph.specs.Graph.{GraphState, IsSegment}
+use Rattle.blocking_graph.specs.declared.segments.SegmentRecord.{SegmentRecord}
+use Rattle.choice_rules.specs.Seen.{changes}
+use Rattle.lawful_reading.specs.Given.{Given}
+use Rattle.resource_monitor.specs.Monitor.{MonitorState, NoneAbove}
+use Rattle.schedule_reading.specs.declared.reading.Under.{Under}
+use Rattle.schedule_reading.specs.Closing.{IsWithin, MayClose, closed, observed, uses_after}
+use Rattle.schedule_reading.specs.Kept.{Core}
+use Rattle.schedule_reading.specs.Stands.{IsOf, IsTimely}
+use Rattle.schedule_reading.specs.Told.{ThreadsState}
+use Rattle.schedule_reading.specs.Uses.{cap_in, used_in}
+use Rattle.schedule_reading.proofs.Caps.{cap_is, changes_are, same_eight, small_changes, used_is}
+
+drop_long : (xs : List ℕ) → length xs ≡ 8 → length (drop 1 xs) ≡ 7
+drop_long [] e = absurd (omega (arith, e))
+drop_long (x ∷ xs) e = omega (arith, e)
+
+module _ (k : Core) (under : Under) (cost free : ℕ) (may : MayClose k under cost free) where
+  -- the core whose uses are taken then
+  abbrev pub then_core : Core
+  then_core = record k { cost = k.cost + cost; free = free; threads = record k.threads { waits = record k.threads.waits { clock = k.threads.waits.clock + cost } } }
+
+  pub within_cap : (after : List ℕ) → ((r : ℕ) → r < 8 → slice_index after r ≤ cap_in then_core r) → NoneAbove after k.monitor.caps
+  within_cap after within r below = subst (λ (n : ℕ). slice_index after r ≤ n) (may.caps r below) (within r below)
+
+  small : (uses : List ℕ) → NoneAbove uses k.monitor.caps → (r : ℕ) → r < 8 → slice_index uses r ≤ 1000000
+  small uses none r below = let at = none r below in let most = may.small r below in omega (arith, at, most)
+
+  module _ (after : List ℕ) (after_eight : length after ≡ 8) (use_is : (r : ℕ) → r < 8 → slice_index after r ≡ used_in then_core r) (within : (r : ℕ) → r < 8 → slice_index after r ≤ cap_in then_core r) where
+    pub after_is : after ≡ uses_after k free
+    after_is = same_eight after (uses_after k free) after_eight
+        (let seven = drop_long k.threads.exchange.exchange.uses may.uses in omega (arith, seven)) (λ r below. use_is r below ∙ used_is then_core r)
+
+    module _ (node : ℕ) (change : List ℤ) (change_eight : length change ≡ 8) (before_eight : length under.before ≡ 8)
+        (change_is : (r : ℕ) → r < 8 → slice_index_or change r (pos 0) ≡ pos (slice_index after r) -ℤ pos (slice_index under.before r)) where
+      abbrev pub segment : SegmentRecord
+      segment = record { from = under.choice.node; to = node; cost = cost; change = change }
+
+      pub in_range : IsSegment segment
+      in_range = record {
+        cost = let most = may.within.fuel in let fuel = may.fuel in omega (arith, most, fuel);
+        changes = small_changes under.before after change change_eight change_is (small under.before may.before) (small after (within_cap after within));
+      }
+
+      changes_now : change ≡ changes under.before (uses_after k free)
+      changes_now = changes_are under.before after change before_eight after_eight change_eight change_is ∙ ap (λ (us : List ℕ). changes under.before us) after_is
+
+      pub closed_is : (threads : ThreadsState) → threads ≡ then_core.threads → (monitor : MonitorState) → monitor ≡ observed k.monitor after → (graph : GraphState) → graph ≡ record k.graph { edges = edges_with k.graph.edges segment } →
+          record k { cost = k.cost + cost; free = free; threads = threads; monitor = monitor; graph = graph } ≡ closed k under node cost free
+      closed_is threads threads_is monitor monitor_is graph graph_is = λ i. record k { cost = k.cost + cost; free = free; threads = threads_is i; monitor = monitor_same i; graph = graph_same i } where
+        monitor_same : monitor ≡ observed k.monitor (uses_after k free)
+        monitor_same = monitor_is ∙ ap (λ (us : List ℕ). observed k.monitor us) after_is
+
+        graph_same : graph ≡ record k.graph { edges = edges_with k.graph.edges (record { from = under.choice.node; to = node; cost = cost; change = changes under.before (uses_after k free) }) }
+        graph_same = graph_is ∙ ap (λ (c : List ℤ). record k.graph { edges = edges_with k.graph.edges (record { from = under.choice.node; to = node; cost = cost; change = c }) }) changes_now
+
+-- ---- a segment may be taken in
+
+pub may_close : (g : Given) (k : Core) (under : Under) (cost free : ℕ) → IsOf g k → IsWithin k cost free → IsTimely k.threads.waits.clock k.threads.waits.places k.cost → NoneAbove under.before k.monitor.caps → count_of k.graph.edges ≤ k.cost → length k.threads.exchange.exchange.uses ≡ 8 →
+    MayClose k under cost free
+may_close g k under cost free of within timely before few uses =
+    let fuel_is = of.fuel in let most = of.most_fuel in
+    let fuel : k.policy.fuel ≤ 1000000000 = omega (arith, fuel_is, most) in
+    let all = within.fuel in
+    let now = timely.clock_is in
+    record {
+      within = within;
+      fuel = fuel;
+      clock = omega (arith, now, all, fuel);
+      caps = λ r below. cap_is g k of r ∙ sym (ap (λ (caps : List ℕ). slice_index caps r) of.monitor_caps);
+      small = λ r below. let most_of = of.small r below in subst (λ (caps : List ℕ). slice_index caps r ≤ 1000000) (sym of.monitor_caps) most_of;
+      before = before;
+      room = omega (arith, few, all, fuel);
+      uses = uses;
+    }

@@ -1,0 +1,15 @@
+pub mod Told
+pub mod Changes
+pub mod Starting
+pub mod Waiting
+pub mod Kept
+pub mod Limits
+pub mod Stands
+pub mod Coming
+pub mod Uses
+pub mod Looks
+pub mod Ruled
+pub mod Rulings
+pub mod Closing
+pub mod Shown
+pub mod Ending
