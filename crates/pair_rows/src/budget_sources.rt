@@ -1,13 +1,5 @@
-// The programs of the rows.
+// The programs of the rows of budgets.
 
-ghost use Rattle.codegen_link.specs.Plans.{AreInRange};
-ghost use Rattle.std.specs.Prelude.{IfSome};
-
-use c_scope::read_program;
-use c_tree::Program;
-use certificate_check::Accepted;
-use codegen_link::Options;
-use stack_build::build;
 use std::alloc::Global;
 use workload::make_program;
 
@@ -35,61 +27,10 @@ pub(crate) const RECURSIVE: &[u8] =
 pub(crate) const MUTUAL: &[u8] =
     b"int leaf(int n) { return n; } int even(int n); int odd(int n) { int a; int b; if (n < 1) return 0; a = even(n - 1); return a; } int even(int n) { int a; int b; if (n < 1) return leaf(1); a = odd(n - 1); return a; } int main() { int a; a = even(3); return a; }";
 
-/// What a program is built for.
-#[derive(Clone, Copy)]
-pub(crate) struct Sizes {
-    pub(crate) chunk: u32,
-    pub(crate) max_path: u32,
-}
-
-/// Where a path has at most 32 bytes.
-pub(crate) const SMALL: Sizes = Sizes {
-    chunk: 64,
-    max_path: 32,
-};
-
-fn program_of(alloc: Global, source: &[u8]) -> Option<Program> {
-    if source.len() > 1_048_576 {
-        return None;
-    }
-    match read_program(alloc, source) {
-        Ok(program) => Some(program),
-        Err(error) => {
-            drop(error);
-            None
-        }
-    }
-}
-
 /// The source of the workload of number 1000.
 pub(crate) fn workload_of(alloc: Global) -> Option<Vec<u8>> {
     match make_program(alloc, 1000) {
         Ok(source) => Some(source),
-        Err(_) => None,
-    }
-}
-
-// The sizes, where they are in their ranges.
-fn options_of(sizes: Sizes) -> Option<Options>
-    ensures { IfSome result AreInRange }
-{
-    let chunk = sizes.chunk;
-    let max_path = sizes.max_path;
-    if chunk % 16 != 0 || chunk < 64 || chunk > 65_536 || max_path < 16 || max_path > 4_080 {
-        return None;
-    }
-    if max_path + 16 > chunk {
-        return None;
-    }
-    Some(Options { chunk, max_path })
-}
-
-/// The accepted program that `build` makes of a source.
-pub(crate) fn accepted_of(alloc: Global, source: &[u8], sizes: Sizes) -> Option<Accepted> {
-    let options = options_of(sizes)?;
-    let program = program_of(alloc, source)?;
-    match build(alloc, program, options) {
-        Ok(accepted) => Some(accepted),
         Err(_) => None,
     }
 }

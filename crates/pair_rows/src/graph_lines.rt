@@ -3,7 +3,7 @@ ghost use Rattle.std.specs.List.{AllByRecursion};
 ghost use Rattle.std.specs.List.Sorted.{IsStrictlyIncreasing};
 ghost use Rattle.call_graph.specs.declared.sites.GraphSite.{GraphSite};
 
-use crate::sites::call;
+use crate::graph_sites::call;
 use analysis_lines::{Findings, analysis_text};
 use c_tree::Function;
 use call_graph::GraphSite;

@@ -1,6 +1,7 @@
-// What the check answers.
+// What the check of a budget answers.
 
-use crate::sources::{LINKED, PLAIN, SMALL, SPAWNING, TABLE, accepted_of};
+use crate::budget_sources::{LINKED, PLAIN, SPAWNING, TABLE};
+use crate::built::{SMALL, accepted_in_range};
 use cap_word::Words;
 use certificate_check::Accepted;
 use chunk_budget::BudgetError::{Length, Low, Root, Zero};
@@ -98,7 +99,7 @@ fn is_row(
     heights: &[u32],
     answer: Result<(), BudgetError>,
 ) -> bool {
-    match accepted_of(alloc, source, SMALL) {
+    match accepted_in_range(alloc, source, SMALL) {
         None => false,
         Some(accepted) => {
             let found = answer_of(alloc, &accepted, per_thread, heights);

@@ -1,8 +1,8 @@
 use Rattle.std.proofs.Common.{ℕ, ◌+◌, ◌<◌, List, [], ◌∷◌, length}
 use Rattle.std.specs.List.{AllByRecursion}
 use Rattle.call_graph.specs.Graph.{IsRising, IsSiteOf}
-use Rattle.graph_rows.proofs.LargeLemmas.{NumbersBelow}
-use Rattle.graph_rows.proofs.large.sites_of.Given as goal
+use Rattle.pair_rows.proofs.RisingSites.{NumbersBelow}
+use Rattle.pair_rows.proofs.large_graphs.sites_of.Given as goal
 
 abbrev pub invariant-loop-number : goal.invariant-loop-number
 invariant-loop-number l = record {

@@ -1,8 +1,7 @@
 // What budgets are made.
 
-use crate::sources::{
-    LINKED, MUTUAL, PLAIN, RECURSIVE, SMALL, SPAWNING, Sizes, TABLE, accepted_of, workload_of,
-};
+use crate::budget_sources::{LINKED, MUTUAL, PLAIN, RECURSIVE, SPAWNING, TABLE, workload_of};
+use crate::built::{SMALL, USUAL, accepted_in_range};
 use certificate_check::Accepted;
 use chunk_budget::{Budget, MakeBudgetError, check_budget, make_budget};
 use std::alloc::Global;
@@ -20,12 +19,6 @@ const ROWS: &[(&[u8], u32, &[u32])] = &[
 
 // A source whose calls lead back, and the least function from which they do.
 const CYCLES: &[(&[u8], u32)] = &[(RECURSIVE, 0), (MUTUAL, 1)];
-
-/// The workload of number 1000, with the sizes that the words give where they say none.
-const USUAL: Sizes = Sizes {
-    chunk: 4096,
-    max_path: 2032,
-};
 
 // The budget that is made of a program, where one is.
 fn budget_of(alloc: Global, accepted: &Accepted) -> Option<Budget> {
@@ -54,7 +47,7 @@ fn is_budget(alloc: Global, accepted: &Accepted, per_thread: u32, heights: &[u32
 }
 
 fn is_row(alloc: Global, source: &[u8], per_thread: u32, heights: &[u32]) -> bool {
-    match accepted_of(alloc, source, SMALL) {
+    match accepted_in_range(alloc, source, SMALL) {
         None => false,
         Some(accepted) => {
             let right = is_budget(alloc, &accepted, per_thread, heights);
@@ -86,7 +79,7 @@ fn cycle_in(alloc: Global, accepted: &Accepted) -> Option<u32> {
 }
 
 fn is_cycle(alloc: Global, source: &[u8], function: u32) -> bool {
-    match accepted_of(alloc, source, SMALL) {
+    match accepted_in_range(alloc, source, SMALL) {
         None => false,
         Some(accepted) => {
             let found = cycle_in(alloc, &accepted);
@@ -121,7 +114,7 @@ fn chunks_in(alloc: Global, accepted: &Accepted) -> u32 {
 }
 
 fn chunks_of(alloc: Global, source: &[u8]) -> u32 {
-    match accepted_of(alloc, source, USUAL) {
+    match accepted_in_range(alloc, source, USUAL) {
         None => 0,
         Some(accepted) => {
             let chunks = chunks_in(alloc, &accepted);

@@ -1,7 +1,7 @@
 use Rattle.std.proofs.Common.{◌≡◌, ◌+◌, [], ◌∷◌, ◌++◌, arith}
 use Rattle.call_graph.specs.Graph.{IsSiteOf}
-use Rattle.graph_rows.proofs.LargeLemmas.{NumbersBelow, all-added, below-more, rising-added}
-use Rattle.graph_rows.proofs.large.sites_of.Goals as goal
+use Rattle.pair_rows.proofs.RisingSites.{NumbersBelow, all-added, below-more, rising-added}
+use Rattle.pair_rows.proofs.large_graphs.sites_of.Goals as goal
 
 pub loop-number-preserved : goal.loop-number-preserved
 loop-number-preserved c =

@@ -1,7 +1,7 @@
 ghost use Rattle.std.specs.Prelude.{◌≡◌, ◌∷◌, [], IfOk};
 ghost use Rattle.call_graph.specs.Graph.{IsCallGraph};
 
-use crate::sites::call;
+use crate::graph_sites::call;
 use call_graph::{CallGraph, Callees, GraphSite, Target};
 use checkpoint_place::{PlaceError, Plan, place};
 use cycle_break::back_edges;
