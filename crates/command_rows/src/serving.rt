@@ -1,7 +1,6 @@
 // The command `serve`: sources with their logs.
-use crate::calls::{NONE, Row, hold};
+use crate::calls::{NONE, Row, all_hold};
 use crate::checks::PUT_SEVEN;
-use std::test::Fail;
 
 pub(crate) const SERVE: &[&str] = &["serve", "P"];
 
@@ -231,8 +230,8 @@ const RUNS_TO_THE_END: [Row<'static>; 20] = [
 
 // Runs that come to the end of all threads, or wait for ever.
 #[test]
-fn runs_to_the_end(rt: HostRuntime) -> Result<(), Fail> {
-    hold(&rt, rt.alloc(), &RUNS_TO_THE_END)
+fn runs_to_the_end(rt: HostRuntime) {
+    assert!(rt; all_hold(rt.alloc(), &RUNS_TO_THE_END));
 }
 
 const CUT_RUNS: [Row<'static>; 13] = [
@@ -386,6 +385,6 @@ const CUT_RUNS: [Row<'static>; 13] = [
 
 // Runs that are cut short.
 #[test]
-fn runs_that_are_cut(rt: HostRuntime) -> Result<(), Fail> {
-    hold(&rt, rt.alloc(), &CUT_RUNS)
+fn runs_that_are_cut(rt: HostRuntime) {
+    assert!(rt; all_hold(rt.alloc(), &CUT_RUNS));
 }
