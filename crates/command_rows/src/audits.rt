@@ -7,6 +7,7 @@ use crate::example_rows::{
     TRACE_OF_LIMITER, TRACE_OF_PIECES, TRACE_OF_POOL, TRACE_OF_RECURSION, TRACE_OF_STORE,
     TRACE_OF_TIMERS,
 };
+use crate::logs::ENDLESS_LOG;
 use crate::serving::{ENDLESS, LOG_OF_SERVER, LOG_OF_SEVEN, SERVER, SERVER_TRACE};
 use std::alloc::Global;
 
@@ -66,7 +67,7 @@ const AUDITS: [AuditRow<'static>; 9] = [
     (
         &["audit", "P", "L", "--chunks", "2"],
         ENDLESS,
-        b"run 0 0 0\nout 0 0\nout 0 1\nstop nochunk 0 64 0\n",
+        ENDLESS_LOG,
         NONE,
         0,
         b"lawful\n",

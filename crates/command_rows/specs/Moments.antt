@@ -2,7 +2,7 @@
 use Rattle.std.specs.Prelude.{◌≡◌, None, IsSome}
 use Rattle.thread_core.specs.Worlds.{Held}
 use Rattle.thread_core.specs.declared.turns.Turn.{Turn}
-use Rattle.thread_rows.specs.declared.moments.Moment.{Moment}
+use Rattle.command_rows.specs.declared.moments.Moment.{Moment}
 
 abbrev pub IsAt : Moment → Held → Type 0
 IsAt Moment.Between held = (held.stopped ≡ None) × (held.machine.running ≡ None)

@@ -5,8 +5,8 @@ use Rattle.choice_rules.specs.Policy.{by_graph}
 use Rattle.lawful_log.specs.Setup.{Setup}
 use Rattle.resource_monitor.specs.declared.curves.Curve.TheVariants.{Linear}
 use Rattle.runner.specs.Answers.{IsAtStart}
-use Rattle.thread_rows.specs.Given.{caps_of}
-use Rattle.thread_rows.proofs.runs.run_measured.Goals as goal
+use Rattle.command_rows.specs.Given.{caps_of}
+use Rattle.command_rows.proofs.runs.run_measured.Goals as goal
 
 pub monitor_of-requires-clause-few : goal.monitor_of-requires-clause-few
 monitor_of-requires-clause-few g c = c.requires.made.ranges.chunks

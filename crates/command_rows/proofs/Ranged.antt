@@ -3,7 +3,7 @@ use Rattle.std.proofs.Common.{ℕ, zero, suc, ◌≤◌, [], ◌∷◌, slice_in
 use Rattle.certificate_check.specs.Acceptance.{Acceptance}
 use Rattle.thread_core.specs.Making.{IsPolicy, IsStart}
 use Rattle.thread_core.specs.Worlds.{Held}
-use Rattle.thread_rows.specs.Given.{policy_of, IsGiven, IsMade}
+use Rattle.command_rows.specs.Given.{policy_of, IsGiven, IsMade}
 
 -- at most two of eight numbers aren't 0
 pub two_small : (first second most : ℕ) → first ≤ most → second ≤ most → (r : ℕ) → slice_index (first ∷ second ∷ 0 ∷ 0 ∷ 0 ∷ 0 ∷ 0 ∷ 0 ∷ []) r ≤ most

@@ -2,8 +2,8 @@
 
 ghost use Rattle.std.specs.Prelude.{◌≡◌, IfSome, IsTrue};
 ghost use Rattle.thread_core.specs.Making.{IsEventInRange};
-ghost use Rattle.thread_rows.specs.Moments.{IsAt, after_turn, then_at};
-ghost use Rattle.thread_rows.specs.declared.moments.Moment.TheVariants.{Between};
+ghost use Rattle.command_rows.specs.Moments.{IsAt, after_turn, then_at};
+ghost use Rattle.command_rows.specs.declared.moments.Moment.TheVariants.{Between};
 
 use crate::moments::Moment;
 use crate::turns::{after, begin_over, begin_ready, go_on, go_on_over};

@@ -1,9 +1,10 @@
 // Rows of whole runs: a source, what it is given, its trace, how its run ends and the log that it writes.
 
 use crate::building::Setup;
-use crate::logs::{ENDLESS_LOG, FALLING_LOG, LITTLE_FUEL_LOG, PUTTING_LOG, SERVER_LOG};
-use crate::run_sources::{ENDLESS, FALLING_TRACE, PUTTING, SERVER, SERVER_TRACE};
+use crate::checks::PUT_SEVEN;
+use crate::logs::{ENDLESS_LOG, FALLING_LOG, FALLING_TRACE, LITTLE_FUEL_LOG};
 use crate::runs::{Given, Share, ends};
+use crate::serving::{ENDLESS, LOG_OF_SERVER, LOG_OF_SEVEN, SERVER, SERVER_TRACE};
 use cap_word::ThreadId;
 use runner::RunEnd;
 use std::alloc::Global;
@@ -63,9 +64,9 @@ const TWO_CHUNKS: Setup = Setup {
 
 // One row for each way in which a run ends here: the trace ends while threads wait; a line of it is refused; every thread has ended,
 // and a line that is refused stands in what is left; no fuel; no chunk. Whole runs of many sources stand in the rows of the program's
-// one call, with the same logs.
+// one call (`serving.rt`): here it is told what `run` answers, which tells runs apart that end for two causes with one text.
 const ROWS: [Row; 5] = [
-    (SERVER, ONE_UNIT, SERVER_TRACE, RunEnd::Idle, SERVER_LOG),
+    (SERVER, ONE_UNIT, SERVER_TRACE, RunEnd::Idle, LOG_OF_SERVER),
     (
         SERVER,
         ONE_PLACE,
@@ -74,14 +75,14 @@ const ROWS: [Row; 5] = [
         FALLING_LOG,
     ),
     (
-        PUTTING,
+        PUT_SEVEN,
         USUAL,
         b"arrive 1000 1\narrive x 1\n",
         RunEnd::Done,
-        PUTTING_LOG,
+        LOG_OF_SEVEN,
     ),
     (
-        PUTTING,
+        PUT_SEVEN,
         LITTLE_FUEL,
         b"",
         RunEnd::Fuel { thread: MAIN },

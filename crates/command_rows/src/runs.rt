@@ -2,7 +2,7 @@
 ghost use Rattle.std.specs.Prelude.{◌∷◌, ◌≡◌, ◌≤◌, drop, IfOk, IsTrue, replicate};
 ghost use Rattle.resource_monitor.specs.Pressure.{AnswersCurve, IsReading, curve_value};
 ghost use Rattle.resource_monitor.specs.declared.curves.Curve.TheVariants.{Linear};
-ghost use Rattle.thread_rows.specs.Given.{IsMade, caps_of};
+ghost use Rattle.command_rows.specs.Given.{IsMade, caps_of};
 
 use crate::building::{Setup, world_of};
 use cap_io::{MemSink, MemSource};

@@ -1,8 +1,8 @@
 // Rows of as many threads as may live, and of as many as there are chunks.
 
 ghost use Rattle.std.specs.Prelude.{IfSome};
-ghost use Rattle.thread_rows.specs.Moments.{IsAt, after_turn};
-ghost use Rattle.thread_rows.specs.declared.moments.Moment.TheVariants.{Between};
+ghost use Rattle.command_rows.specs.Moments.{IsAt, after_turn};
+ghost use Rattle.command_rows.specs.declared.moments.Moment.TheVariants.{Between};
 
 use crate::building::{FUEL, Setup, world_of};
 use crate::sources::CROWD;

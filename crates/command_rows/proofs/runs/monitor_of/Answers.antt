@@ -1,5 +1,5 @@
-use Rattle.thread_rows.proofs.Ranged.{two_small}
-use Rattle.thread_rows.proofs.runs.monitor_of.Goals as goal
+use Rattle.command_rows.proofs.Ranged.{two_small}
+use Rattle.command_rows.proofs.runs.monitor_of.Goals as goal
 use Rattle.std.proofs.Common.{arith}
 
 pub new-requires-2-clause-small : goal.new-requires-2-clause-small

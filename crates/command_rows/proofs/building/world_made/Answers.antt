@@ -1,8 +1,8 @@
 use Rattle.std.proofs.Common.{sym, subst}
 use Rattle.thread_core.specs.Making.{IsPolicy, IsStart}
 use Rattle.thread_core.specs.declared.policy.WorldPolicy.{WorldPolicy}
-use Rattle.thread_rows.proofs.Ranged.{policy_is, made_is}
-use Rattle.thread_rows.proofs.building.world_made.Goals as goal
+use Rattle.command_rows.proofs.Ranged.{policy_is, made_is}
+use Rattle.command_rows.proofs.building.world_made.Goals as goal
 
 pub make-requires : goal.make-requires
 make-requires c =

@@ -1,9 +1,8 @@
 // The server's run with each read of the trace and each write of the log failing in turn.
 
-use crate::logs::SERVER_LOG;
 use crate::run_rows::ONE_UNIT;
-use crate::run_sources::{SERVER, SERVER_TRACE};
 use crate::runs::{Given, Share, ends};
+use crate::serving::{LOG_OF_SERVER, SERVER, SERVER_TRACE};
 use runner::RunEnd;
 use std::alloc::Global;
 
@@ -18,7 +17,7 @@ fn serves(alloc: Global, read: u64, write: u64, bytes: u32, end: RunEnd, share: 
         write,
         bytes,
     };
-    ends(alloc, &given, end, share, SERVER_LOG)
+    ends(alloc, &given, end, share, LOG_OF_SERVER)
 }
 
 /// The first and the last call that fails, how many bytes a call has, how the run ends, and how much of the log is written.

@@ -1,8 +1,8 @@
 // Want of memory, which a segment meets only where it starts a thread. The tests find ample memory; where their requests for
 // it are refused in turn, this one sees what is then said.
 
-ghost use Rattle.thread_rows.specs.Moments.{IsAt};
-ghost use Rattle.thread_rows.specs.declared.moments.Moment.TheVariants.{Between};
+ghost use Rattle.command_rows.specs.Moments.{IsAt};
+ghost use Rattle.command_rows.specs.declared.moments.Moment.TheVariants.{Between};
 
 use crate::building::{USUAL, world_of};
 use crate::sources::SERVER;

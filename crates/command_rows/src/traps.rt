@@ -1,7 +1,7 @@
 // Rows of the traps of modelled calls, each at the border of its condition, and that a run that has stopped answers as it did.
 
-ghost use Rattle.thread_rows.specs.Moments.{IsAt};
-ghost use Rattle.thread_rows.specs.declared.moments.Moment.TheVariants.{Between};
+ghost use Rattle.command_rows.specs.Moments.{IsAt};
+ghost use Rattle.command_rows.specs.declared.moments.Moment.TheVariants.{Between};
 
 use crate::building::{FUEL, Setup, world_of};
 use crate::playing::Step::{Begin, Free, Proceed};

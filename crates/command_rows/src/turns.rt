@@ -2,8 +2,8 @@
 
 ghost use Rattle.std.specs.Prelude.{◌≡◌, IfSome, IsTrue};
 ghost use Rattle.thread_core.specs.Ready.{is_ready_in};
-ghost use Rattle.thread_rows.specs.Moments.{IsAt, after_turn};
-ghost use Rattle.thread_rows.specs.declared.moments.Moment.TheVariants.{Between, Over, Within};
+ghost use Rattle.command_rows.specs.Moments.{IsAt, after_turn};
+ghost use Rattle.command_rows.specs.declared.moments.Moment.TheVariants.{Between, Over, Within};
 
 use crate::moments::Moment;
 use cap_word::{Ready, ThreadId};

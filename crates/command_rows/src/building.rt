@@ -2,9 +2,9 @@
 
 ghost use Rattle.codegen_link.specs.Plans.{AreInRange};
 ghost use Rattle.std.specs.Prelude.{◌≡◌, IfSome, IsTrue};
-ghost use Rattle.thread_rows.specs.Given.{IsGiven, IsMade, policy_of};
-ghost use Rattle.thread_rows.specs.Moments.{IsAt};
-ghost use Rattle.thread_rows.specs.declared.moments.Moment.TheVariants.{Between};
+ghost use Rattle.command_rows.specs.Given.{IsGiven, IsMade, policy_of};
+ghost use Rattle.command_rows.specs.Moments.{IsAt};
+ghost use Rattle.command_rows.specs.declared.moments.Moment.TheVariants.{Between};
 
 use c_scope::read_program;
 use c_tree::Program;
