@@ -1,5 +1,5 @@
 // The command `audit`.
-use crate::calls::{Fails, Given, NO_FAULT, NONE, Row, Wanted, hold, is_so};
+use crate::calls::{Fails, Given, NO_FAULT, NONE, Row, Wanted, all_hold, is_so};
 use crate::checks::PUT_SEVEN;
 use crate::example_rows::{
     BOUNDED, LIMITER, LOG_OF_BOUNDED, LOG_OF_LIMITER, LOG_OF_PIECES, LOG_OF_POOL, LOG_OF_RECURSION,
@@ -7,10 +7,9 @@ use crate::example_rows::{
     TRACE_OF_LIMITER, TRACE_OF_PIECES, TRACE_OF_POOL, TRACE_OF_RECURSION, TRACE_OF_STORE,
     TRACE_OF_TIMERS,
 };
+use crate::logs::ENDLESS_LOG;
 use crate::serving::{ENDLESS, LOG_OF_SERVER, LOG_OF_SEVEN, SERVER, SERVER_TRACE};
-use std::alloc::{AllocError, Global};
-use std::process::Abort;
-use std::test::Fail;
+use std::alloc::Global;
 
 const AUDIT: &[&str] = &["audit", "P", "L"];
 
@@ -68,7 +67,7 @@ const AUDITS: [AuditRow<'static>; 9] = [
     (
         &["audit", "P", "L", "--chunks", "2"],
         ENDLESS,
-        b"run 0 0 0\nout 0 0\nout 0 1\nstop nochunk 0 64 0\n",
+        ENDLESS_LOG,
         NONE,
         0,
         b"lawful\n",
@@ -141,7 +140,7 @@ const REFUSED: [Row<'static>; 2] = [
 ];
 
 /// Whether the command says this of a log of a source, where these calls fail and standard error takes this.
-fn is_audited(alloc: Global, row: &AuditRow, fails: Fails, err: &[u8]) -> Result<bool, AllocError> {
+fn is_audited(alloc: Global, row: &AuditRow, fails: Fails, err: &[u8]) -> bool {
     let (words, source, log, trace, status, out) = *row;
     let given = Given {
         words,
@@ -161,40 +160,39 @@ fn is_audited(alloc: Global, row: &AuditRow, fails: Fails, err: &[u8]) -> Result
     is_so(alloc, &given, &wanted)
 }
 
-/// Holds each row.
-fn hold_audits(rt: &impl Abort, alloc: Global, rows: &[AuditRow]) -> Result<(), Fail> {
+/// Whether each row holds.
+fn all_are_audited(alloc: Global, rows: &[AuditRow]) -> bool {
     for row in rows {
-        let out = row.5;
-        assert!(rt; is_audited(alloc, row, NO_FAULT, NONE)?, "{out:?}");
+        if !is_audited(alloc, row, NO_FAULT, NONE) {
+            return false;
+        }
     }
-    Ok(())
+    true
 }
 
 #[test]
-fn audits(rt: HostRuntime) -> Result<(), Fail> {
-    hold_audits(&rt, rt.alloc(), &AUDITS)
+fn audits(rt: HostRuntime) {
+    assert!(rt; all_are_audited(rt.alloc(), &AUDITS));
 }
 
 #[test]
-fn logs_of_examples_are_lawful(rt: HostRuntime) -> Result<(), Fail> {
-    hold_audits(&rt, rt.alloc(), &EXAMPLES)
+fn logs_of_examples_are_lawful(rt: HostRuntime) {
+    assert!(rt; all_are_audited(rt.alloc(), &EXAMPLES));
 }
 
 #[test]
-fn logs_of_servers_are_lawful(rt: HostRuntime) -> Result<(), Fail> {
-    hold_audits(&rt, rt.alloc(), &EXAMPLES_OF_SERVERS)
+fn logs_of_servers_are_lawful(rt: HostRuntime) {
+    assert!(rt; all_are_audited(rt.alloc(), &EXAMPLES_OF_SERVERS));
 }
 
 #[test]
-fn logs_that_are_not_loaded(rt: HostRuntime) -> Result<(), Fail> {
-    hold(&rt, rt.alloc(), &REFUSED)
+fn logs_that_are_not_loaded(rt: HostRuntime) {
+    assert!(rt; all_hold(rt.alloc(), &REFUSED));
 }
 
 /// The trace fails at its first read.
 #[test]
-fn a_trace_that_fails(rt: HostRuntime) -> Result<(), Fail> {
+fn a_trace_that_fails(rt: HostRuntime) {
     let row: AuditRow = (AUDIT, PUT_SEVEN, LOG_OF_SEVEN, NONE, 6, NONE);
-    let is_told = is_audited(rt.alloc(), &row, [0, 1, 0, 0], b"fault: read\n")?;
-    assert!(rt; is_told);
-    Ok(())
+    assert!(rt; is_audited(rt.alloc(), &row, [0, 1, 0, 0], b"fault: read\n"));
 }

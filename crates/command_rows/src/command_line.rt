@@ -2,10 +2,9 @@
 ghost use Rattle.std.specs.Io.{WritesAtMost};
 
 use capriccio_call::words_of;
-use std::alloc::{AllocError, Global};
+use std::alloc::Global;
 use std::env::FillError;
 use std::rt::Env;
-use std::test::Fail;
 
 /// A command line of three words: the program's name, `serve` and a last word.
 #[derive(Drop)]
@@ -43,21 +42,21 @@ fn fill(buf: &mut [u8], word: &[u8]) -> Result<usize, FillError>
     Ok(word.len())
 }
 
-/// How many words a command line has.
-fn count(alloc: Global, last: &'static [u8]) -> Result<usize, AllocError> {
-    let words = words_of(&CommandLine { last }, alloc)?;
-    let count = words.len();
-    drop(words);
-    Ok(count)
+/// Whether a command line has so many words.
+fn has_count(alloc: Global, last: &'static [u8], count: usize) -> bool {
+    match words_of(&CommandLine { last }, alloc) {
+        Ok(words) => {
+            let is_so = words.len() == count;
+            drop(words);
+            is_so
+        }
+        Err(_) => false,
+    }
 }
 
 // Where a word is not UTF-8, there is none.
-const COUNTS: [(&[u8], usize); 2] = [(b"put.c", 2), (b"put\xff.c", 0)];
-
 #[test]
-fn words_of_the_command_line(rt: HostRuntime) -> Result<(), Fail> {
-    for (last, words) in COUNTS {
-        assert!(rt; count(rt.alloc(), last)? == words, "{words}");
-    }
-    Ok(())
+fn words_of_the_command_line(rt: HostRuntime) {
+    let alloc = rt.alloc();
+    assert!(rt; has_count(alloc, b"put.c", 2) && has_count(alloc, b"put\xff.c", 0));
 }

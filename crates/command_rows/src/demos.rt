@@ -1,6 +1,5 @@
 // What `demo` shows: the summaries of two workloads.
-use crate::calls::{NONE, Row, hold};
-use std::test::Fail;
+use crate::calls::{NONE, Row, all_hold};
 
 const ONE: &[u8] =
     b"functions 4\nsites 6\ncheckpoints 0\nchoices 4\noutputs 1\nsum 1\ncost 129\nstop done\n";
@@ -15,6 +14,6 @@ const DEMOS: [Row<'static>; 2] = [
 ];
 
 #[test]
-fn demos(rt: HostRuntime) -> Result<(), Fail> {
-    hold(&rt, rt.alloc(), &DEMOS)
+fn demos(rt: HostRuntime) {
+    assert!(rt; all_hold(rt.alloc(), &DEMOS));
 }

@@ -1,7 +1,6 @@
 // The servers of examples/ at the top of the repository: what each writes on its trace is the log that lies beside it.
 // tools/check_examples compares these texts with those files.
-use crate::calls::{NONE, Row, hold};
-use std::test::Fail;
+use crate::calls::{NONE, Row, all_hold};
 
 /// Two workers that share the arrivals.
 pub(crate) const POOL: &[u8] =
@@ -331,26 +330,26 @@ const EXAMPLES_OF_SERVERS: [Row<'static>; 4] = [
 // What each server writes on its trace is its log.
 
 #[test]
-fn examples_have_their_logs(rt: HostRuntime) -> Result<(), Fail> {
-    hold(&rt, rt.alloc(), &EXAMPLES)
+fn examples_have_their_logs(rt: HostRuntime) {
+    assert!(rt; all_hold(rt.alloc(), &EXAMPLES));
 }
 
 #[test]
-fn examples_of_peers_have_their_logs(rt: HostRuntime) -> Result<(), Fail> {
-    hold(&rt, rt.alloc(), &EXAMPLES_OF_PEERS)
+fn examples_of_peers_have_their_logs(rt: HostRuntime) {
+    assert!(rt; all_hold(rt.alloc(), &EXAMPLES_OF_PEERS));
 }
 
 #[test]
-fn examples_of_rules_have_their_logs(rt: HostRuntime) -> Result<(), Fail> {
-    hold(&rt, rt.alloc(), &EXAMPLES_OF_RULES)
+fn examples_of_rules_have_their_logs(rt: HostRuntime) {
+    assert!(rt; all_hold(rt.alloc(), &EXAMPLES_OF_RULES));
 }
 
 #[test]
-fn examples_of_sizes_have_their_logs(rt: HostRuntime) -> Result<(), Fail> {
-    hold(&rt, rt.alloc(), &EXAMPLES_OF_SIZES)
+fn examples_of_sizes_have_their_logs(rt: HostRuntime) {
+    assert!(rt; all_hold(rt.alloc(), &EXAMPLES_OF_SIZES));
 }
 
 #[test]
-fn examples_of_servers_have_their_logs(rt: HostRuntime) -> Result<(), Fail> {
-    hold(&rt, rt.alloc(), &EXAMPLES_OF_SERVERS)
+fn examples_of_servers_have_their_logs(rt: HostRuntime) {
+    assert!(rt; all_hold(rt.alloc(), &EXAMPLES_OF_SERVERS));
 }

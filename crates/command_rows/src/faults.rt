@@ -4,8 +4,7 @@ use crate::calls::{Fails, Given, NONE, Wanted, is_so};
 use crate::checks::{CERTIFICATE_OF_SEVEN, PUT_SEVEN};
 use crate::images::{IMAGE_OF_SEVEN, PART_OF_IMAGE};
 use crate::serving::LOG_OF_SEVEN;
-use std::alloc::{AllocError, Global};
-use std::test::Fail;
+use std::alloc::Global;
 
 pub(crate) const READ: &[u8] = b"fault: read\n";
 
@@ -27,7 +26,7 @@ const SERVING: [ServingRow; 8] = [
 ];
 
 /// Whether `serve` answers and writes so where these calls fail. The output takes 10 bytes a call.
-fn is_served(alloc: Global, row: &ServingRow) -> Result<bool, AllocError> {
+fn is_served(alloc: Global, row: &ServingRow) -> bool {
     let (fails, status, most, err) = *row;
     let given = Given {
         words: &["serve", "P"],
@@ -47,13 +46,19 @@ fn is_served(alloc: Global, row: &ServingRow) -> Result<bool, AllocError> {
     is_so(alloc, &given, &wanted)
 }
 
-#[test]
-fn failing_objects(rt: HostRuntime) -> Result<(), Fail> {
-    for row in &SERVING {
-        let fails = row.0;
-        assert!(rt; is_served(rt.alloc(), row)?, "{fails:?}");
+/// Whether each row holds.
+fn all_are_served(alloc: Global, rows: &[ServingRow]) -> bool {
+    for row in rows {
+        if !is_served(alloc, row) {
+            return false;
+        }
     }
-    Ok(())
+    true
+}
+
+#[test]
+fn failing_objects(rt: HostRuntime) {
+    assert!(rt; all_are_served(rt.alloc(), &SERVING));
 }
 
 /// The load and the write to the output that fail, the status, what the output takes, and the line.
@@ -69,7 +74,7 @@ const CHECKS: [CheckRow; 6] = [
 ];
 
 /// Whether `check` answers and writes so where that load or that write fails. The output takes 4 bytes a call.
-fn is_checked(alloc: Global, row: &CheckRow) -> Result<bool, AllocError> {
+fn is_checked(alloc: Global, row: &CheckRow) -> bool {
     let (load, write, status, out, err) = *row;
     let given = Given {
         words: &["check", "P", "I", "C"],
@@ -93,14 +98,19 @@ fn is_checked(alloc: Global, row: &CheckRow) -> Result<bool, AllocError> {
     is_so(alloc, &given, &wanted)
 }
 
-#[test]
-fn failing_checks(rt: HostRuntime) -> Result<(), Fail> {
-    for row in &CHECKS {
-        let load = row.0;
-        let write = row.1;
-        assert!(rt; is_checked(rt.alloc(), row)?, "{load} {write}");
+/// Whether each row holds.
+fn all_are_checked(alloc: Global, rows: &[CheckRow]) -> bool {
+    for row in rows {
+        if !is_checked(alloc, row) {
+            return false;
+        }
     }
-    Ok(())
+    true
+}
+
+#[test]
+fn failing_checks(rt: HostRuntime) {
+    assert!(rt; all_are_checked(rt.alloc(), &CHECKS));
 }
 
 /// The call of the shelf that fails and the bytes that it leaves, the write that fails, and the status, output, line, image and
@@ -135,7 +145,7 @@ const BUILDS: [BuildRow<'static>; 6] = [
 ];
 
 /// Whether `build` leaves this where that call of the shelf or that write fails. The output takes 4 bytes a call.
-fn is_built(alloc: Global, row: &BuildRow) -> Result<bool, AllocError> {
+fn is_built(alloc: Global, row: &BuildRow) -> bool {
     let (call, stored, write, status, out, err, image, certificate) = *row;
     let given = Given {
         words: &["build", "P", "I", "C"],
@@ -155,24 +165,40 @@ fn is_built(alloc: Global, row: &BuildRow) -> Result<bool, AllocError> {
     is_so(alloc, &given, &wanted)
 }
 
-#[test]
-fn failing_builds(rt: HostRuntime) -> Result<(), Fail> {
-    for row in &BUILDS {
-        let call = row.0;
-        let stored = row.1;
-        let write = row.2;
-        assert!(rt; is_built(rt.alloc(), row)?, "{call} {stored} {write}");
+/// Whether each row holds.
+fn all_are_built(alloc: Global, rows: &[BuildRow]) -> bool {
+    for row in rows {
+        if !is_built(alloc, row) {
+            return false;
+        }
     }
-    Ok(())
+    true
 }
 
-// The store of the certificate fails after each of its bytes.
 #[test]
-fn cut_certificates(rt: HostRuntime) -> Result<(), Fail> {
-    for stored in 0..CERTIFICATE_OF_SEVEN.len() + 1 {
-        let part = CERTIFICATE_OF_SEVEN.get(..stored).ok_or("so many bytes")?;
-        let row = (3, stored as u32, 0, 7, NONE, WRITE, IMAGE_OF_SEVEN, part);
-        assert!(rt; is_built(rt.alloc(), &row)?, "{stored}");
+fn failing_builds(rt: HostRuntime) {
+    assert!(rt; all_are_built(rt.alloc(), &BUILDS));
+}
+
+/// Whether `build` leaves so many bytes of the certificate where its store fails after them.
+fn is_cut(alloc: Global, stored: u32) -> bool {
+    match CERTIFICATE_OF_SEVEN.get(..stored as usize) {
+        Some(part) => is_built(alloc, &(3, stored, 0, 7, NONE, WRITE, IMAGE_OF_SEVEN, part)),
+        None => false,
     }
-    Ok(())
+}
+
+/// The same after each of its bytes.
+fn all_are_cut(alloc: Global) -> bool {
+    for stored in 0..CERTIFICATE_OF_SEVEN.len() + 1 {
+        if !is_cut(alloc, stored as u32) {
+            return false;
+        }
+    }
+    true
+}
+
+#[test]
+fn cut_certificates(rt: HostRuntime) {
+    assert!(rt; all_are_cut(rt.alloc()));
 }

@@ -1,7 +1,6 @@
 // The command `graph`.
-use crate::calls::{NONE, Row, hold};
+use crate::calls::{NONE, Row, all_hold};
 use crate::checks::TWO;
-use std::test::Fail;
 
 const PLAIN: &[&str] = &["graph", "P"];
 
@@ -69,6 +68,6 @@ const GRAPHS: [Row<'static>; 9] = [
 ];
 
 #[test]
-fn graphs(rt: HostRuntime) -> Result<(), Fail> {
-    hold(&rt, rt.alloc(), &GRAPHS)
+fn graphs(rt: HostRuntime) {
+    assert!(rt; all_hold(rt.alloc(), &GRAPHS));
 }

@@ -1,14 +1,27 @@
-// Rows over the program's one call, `capriccio_call`, on files, traces and streams in memory.
+// Rows over the program's one call, `capriccio_call`, on files, traces and streams in memory, and over the world of threads
+// below it.
 //
-// It has tests alone: words, files and a trace with the status, the output, the line and the files that a call must leave,
-// worked out by hand from what the commands promise. `calls.rt` alone calls the program, `sequence.rt` looks at the world that
-// it hands out. `graphs.rt`, `checks.rt`, `builds.rt`, `audits.rt`, `serving.rt`, `demos.rt`, `refusals.rt` and `example_rows.rt` are the tables,
-// by command; `faults.rt` and `server_faults.rt` have objects that fail, `untold.rt` a trace that tells nothing of its bytes, `command_line.rt` the words of a
-// command line. No crate stands on this one.
+// Of the program there are words, files and a trace with the status, the output, the line and the files that a call must
+// leave, worked out by hand from what the commands promise. `calls.rt` alone calls the program, `sequence.rt` looks at the
+// world that it hands out. `graphs.rt`, `checks.rt`, `builds.rt`, `audits.rt`, `serving.rt`, `demos.rt`, `refusals.rt` and
+// `example_rows.rt` are the tables, by command; `faults.rt` and `server_faults.rt` have objects that fail, `untold.rt` a
+// trace that tells nothing of its bytes, `command_line.rt` the words of a command line.
+//
+// Of the world of threads a source is built, its world made, and driven step by step by the public calls of `thread_core`,
+// or run on the bytes of a trace by the runner, whose log is compared with a text. `building.rt` makes a world of a source.
+// `sources.rt` has the programs that are driven, `turns.rt` the calls that run a segment, `playing.rt` does the steps of a
+// row and compares what each answers, `rows.rt` and `traps.rt` are the tables; `crowds.rt` has as many threads as may live,
+// `memory.rt` the want of memory. `logs.rt` and `run_rows.rt` are logs and the table of whole runs, which `runs.rt` runs;
+// `failing.rt` has each read and each write fail in turn, `places.rt` a stop in a thread whose slot isn't its number, and
+// `standings.rt` where threads stand.
+//
+// All stand in one crate, so that the run time is loaded and compiled once. No crate stands on this one.
 #![tactic(auto)]
 
 #[cfg(test)]
 mod audits;
+#[cfg(test)]
+mod building;
 #[cfg(test)]
 mod builds;
 #[cfg(test)]
@@ -18,9 +31,13 @@ mod checks;
 #[cfg(test)]
 mod command_line;
 #[cfg(test)]
+mod crowds;
+#[cfg(test)]
 mod demos;
 #[cfg(test)]
 mod example_rows;
+#[cfg(test)]
+mod failing;
 #[cfg(test)]
 mod faults;
 #[cfg(test)]
@@ -28,7 +45,22 @@ mod graphs;
 #[cfg(test)]
 mod images;
 #[cfg(test)]
+mod logs;
+#[cfg(test)]
+mod memory;
+mod moments;
+#[cfg(test)]
+mod places;
+#[cfg(test)]
+mod playing;
+#[cfg(test)]
 mod refusals;
+#[cfg(test)]
+mod rows;
+#[cfg(test)]
+mod run_rows;
+#[cfg(test)]
+mod runs;
 #[cfg(test)]
 mod sequence;
 #[cfg(test)]
@@ -36,4 +68,14 @@ mod server_faults;
 #[cfg(test)]
 mod serving;
 #[cfg(test)]
+mod sources;
+#[cfg(test)]
+mod standings;
+#[cfg(test)]
+mod traps;
+#[cfg(test)]
+mod turns;
+#[cfg(test)]
 mod untold;
+
+pub use moments::Moment;

@@ -6,7 +6,6 @@ use crate::images::IMAGE_OF_SEVEN;
 use crate::serving::LOG_OF_SEVEN;
 use cap_io::{CleanShelf, CleanSink, CleanSource};
 use std::alloc::{AllocError, Global};
-use std::test::Fail;
 use thread_core::World;
 
 /// The log of a program that puts 7, over 1,025 chunks.
@@ -220,13 +219,16 @@ fn all_hold_of_source(alloc: Global, source: &[u8], rows: &[Row]) -> Result<bool
 }
 
 #[test]
-fn serves_builds_checks_and_runs(rt: HostRuntime) -> Result<(), Fail> {
-    assert!(rt; all_hold_of_source(rt.alloc(), PUT_SEVEN, &SEQUENCE)?);
-    Ok(())
+fn serves_builds_checks_and_runs(rt: HostRuntime) {
+    assert!(rt;
+        matches!(
+            all_hold_of_source(rt.alloc(), PUT_SEVEN, &SEQUENCE),
+            Ok(true)
+        )
+    );
 }
 
 #[test]
-fn builds_and_finds_a_cycle(rt: HostRuntime) -> Result<(), Fail> {
-    assert!(rt; all_hold_of_source(rt.alloc(), RECURSIVE, &CYCLE)?);
-    Ok(())
+fn builds_and_finds_a_cycle(rt: HostRuntime) {
+    assert!(rt; matches!(all_hold_of_source(rt.alloc(), RECURSIVE, &CYCLE), Ok(true)));
 }

@@ -1,13 +1,11 @@
 // The server's run with objects that fail, a trace that is cut, a pool of one chunk and twenty thousand threads.
 use crate::calls::{
-    Fails, Given, NONE, Row, Wanted, files_of, hold, is_row, is_so, status_of, words_of,
+    Fails, Given, NONE, Row, Wanted, all_hold, files_of, is_row, is_so, status_of, words_of,
 };
 use crate::faults::{READ, WRITE};
 use crate::serving::{LOG_OF_SERVER, SERVER, SERVER_TRACE};
 use cap_io::{CleanShelf, CleanSink, CleanSource};
 use std::alloc::{AllocError, Global};
-use std::process::Abort;
-use std::test::Fail;
 
 const SERVES: &[&str] = &["serve", "P", "--caps", "1=1"];
 
@@ -15,13 +13,7 @@ const SERVES: &[&str] = &["serve", "P", "--caps", "1=1"];
 const TAKEN: usize = 64;
 
 /// Whether the server answers and writes so where these calls fail. The trace gives 16 bytes a read.
-fn is_served(
-    alloc: Global,
-    fails: Fails,
-    status: u8,
-    out: &[u8],
-    err: &[u8],
-) -> Result<bool, AllocError> {
+fn is_served(alloc: Global, fails: Fails, status: u8, out: &[u8], err: &[u8]) -> bool {
     let given = Given {
         words: SERVES,
         files: &[("P", SERVER)],
@@ -40,37 +32,61 @@ fn is_served(
     is_so(alloc, &given, &wanted)
 }
 
-// The trace has 78 bytes: five reads, and one at its end. The log is held till the stop, so none of it was written.
-#[test]
-fn each_read_fails(rt: HostRuntime) -> Result<(), Fail> {
-    let alloc = rt.alloc();
-    for call in 1..=6u64 {
-        assert!(rt; is_served(alloc, [0, call, 0, 0], 6, NONE, READ)?, "{call}");
-        assert!(rt; is_served(alloc, [0, call, 0, 1], 6, NONE, NONE)?, "{call}");
-    }
-    assert!(rt; is_served(alloc, [0, 7, 0, 0], 10, LOG_OF_SERVER, NONE)?);
-    Ok(())
+/// Whether the failure of a read is told, where standard error takes that and where it fails too. The log is held till the stop,
+/// so none of it was written.
+fn read_is_told(alloc: Global, call: u64) -> bool {
+    is_served(alloc, [0, call, 0, 0], 6, NONE, READ)
+        && is_served(alloc, [0, call, 0, 1], 6, NONE, NONE)
 }
 
-// The log has 632 bytes: ten writes. What was written before is its beginning.
-#[test]
-fn each_write_fails(rt: HostRuntime) -> Result<(), Fail> {
-    let alloc = rt.alloc();
-    for call in 1..=10usize {
-        let part = LOG_OF_SERVER
-            .get(..TAKEN * (call - 1))
-            .ok_or("so many bytes")?;
-        assert!(rt;
-            is_served(alloc, [0, 0, call as u64, 0], 7, part, WRITE)?,
-            "{call}"
-        );
-        assert!(rt;
-            is_served(alloc, [0, 0, call as u64, 1], 7, part, NONE)?,
-            "{call}"
-        );
+/// The same of each read: the trace has 78 bytes, which are five, and one at its end.
+fn each_read_is_told(alloc: Global) -> bool {
+    for call in 1..=6u64 {
+        if !read_is_told(alloc, call) {
+            return false;
+        }
     }
-    assert!(rt; is_served(alloc, [0, 0, 11, 0], 10, LOG_OF_SERVER, NONE)?);
-    Ok(())
+    true
+}
+
+#[test]
+fn each_read_fails(rt: HostRuntime) {
+    let alloc = rt.alloc();
+    assert!(rt;
+        each_read_is_told(alloc) && is_served(alloc, [0, 7, 0, 0], 10, LOG_OF_SERVER, NONE)
+    );
+}
+
+/// Whether the failure of a write is told, where standard error takes that and where it fails too, and just this part was written.
+fn write_is_told(alloc: Global, call: u64, part: &[u8]) -> bool {
+    is_served(alloc, [0, 0, call, 0], 7, part, WRITE)
+        && is_served(alloc, [0, 0, call, 1], 7, part, NONE)
+}
+
+/// Whether what was written before so many writes and no more is there where the next one fails.
+fn write_fails_after(alloc: Global, writes: u32) -> bool {
+    match LOG_OF_SERVER.get(..TAKEN * writes as usize) {
+        Some(part) => write_is_told(alloc, u64::from(writes) + 1, part),
+        None => false,
+    }
+}
+
+/// The same of each write: the log has 632 bytes, which are ten.
+fn each_write_is_told(alloc: Global) -> bool {
+    for writes in 0..10 {
+        if !write_fails_after(alloc, writes) {
+            return false;
+        }
+    }
+    true
+}
+
+#[test]
+fn each_write_fails(rt: HostRuntime) {
+    let alloc = rt.alloc();
+    assert!(rt;
+        each_write_is_told(alloc) && is_served(alloc, [0, 0, 11, 0], 10, LOG_OF_SERVER, NONE)
+    );
 }
 
 /// The least and the greatest place at which the trace is cut, the status, and the log: up to the line that is cut, which is refused when
@@ -148,25 +164,37 @@ const CUT_TRACES: [CutRow; 13] = [
     (77, 78, 10, LOG_OF_SERVER),
 ];
 
-// The run on each cut of a row.
-fn hold_cuts(rt: &impl Abort, alloc: Global, row: &CutRow) -> Result<(), Fail> {
-    let (first, last, status, log) = *row;
-    for cut in first..=last {
-        let trace = SERVER_TRACE.get(..cut).ok_or("so many bytes")?;
-        assert!(rt;
-            is_row(alloc, &(SERVES, SERVER, trace, status, log, NONE))?,
-            "{cut}"
-        );
+/// Whether a run on the trace's first bytes, so many, is as the row says.
+fn is_cut(alloc: Global, cut: usize, row: &CutRow) -> bool {
+    match SERVER_TRACE.get(..cut) {
+        Some(trace) => is_row(alloc, &(SERVES, SERVER, trace, row.2, row.3, NONE)),
+        None => false,
     }
-    Ok(())
+}
+
+/// The same on each cut of a row.
+fn are_cut(alloc: Global, row: &CutRow) -> bool {
+    for cut in row.0..=row.1 {
+        if !is_cut(alloc, cut, row) {
+            return false;
+        }
+    }
+    true
+}
+
+/// Whether each row holds.
+fn all_are_cut(alloc: Global, rows: &[CutRow]) -> bool {
+    for row in rows {
+        if !are_cut(alloc, row) {
+            return false;
+        }
+    }
+    true
 }
 
 #[test]
-fn cut_traces(rt: HostRuntime) -> Result<(), Fail> {
-    for row in &CUT_TRACES {
-        hold_cuts(&rt, rt.alloc(), row)?;
-    }
-    Ok(())
+fn cut_traces(rt: HostRuntime) {
+    assert!(rt; all_are_cut(rt.alloc(), &CUT_TRACES));
 }
 
 /// The pool has the one chunk of the first thread, which starts another.
@@ -180,8 +208,8 @@ const ONE_CHUNK: [Row<'static>; 1] = [(
 )];
 
 #[test]
-fn a_pool_of_one_chunk(rt: HostRuntime) -> Result<(), Fail> {
-    hold(&rt, rt.alloc(), &ONE_CHUNK)
+fn a_pool_of_one_chunk(rt: HostRuntime) {
+    assert!(rt; all_hold(rt.alloc(), &ONE_CHUNK));
 }
 
 /// Twenty thousand threads that wait for ever.
@@ -220,12 +248,15 @@ fn serves_crowd(alloc: Global, shelf: &mut CleanShelf) -> Result<bool, AllocErro
     Ok(is_so)
 }
 
-#[test]
-fn twenty_thousand_threads(rt: HostRuntime) -> Result<(), Fail> {
-    let alloc = rt.alloc();
+/// The same of a shelf that has the source alone.
+fn crowd_is_served(alloc: Global) -> Result<bool, AllocError> {
     let mut shelf = CleanShelf::new(alloc, files_of(alloc, &[("P", CROWD)])?);
     let is_so = serves_crowd(alloc, &mut shelf);
     drop(shelf);
-    assert!(rt; is_so?);
-    Ok(())
+    is_so
+}
+
+#[test]
+fn twenty_thousand_threads(rt: HostRuntime) {
+    assert!(rt; matches!(crowd_is_served(rt.alloc()), Ok(true)));
 }

@@ -1,7 +1,7 @@
 // The command `serve`: sources with their logs.
-use crate::calls::{NONE, Row, hold};
+use crate::calls::{NONE, Row, all_hold};
 use crate::checks::PUT_SEVEN;
-use std::test::Fail;
+use crate::logs::{ENDLESS_LOG, FALLING_LOG, FALLING_TRACE, LITTLE_FUEL_LOG};
 
 pub(crate) const SERVE: &[&str] = &["serve", "P"];
 
@@ -221,9 +221,9 @@ const RUNS_TO_THE_END: [Row<'static>; 20] = [
     (
         &["serve", "P", "--backlog", "1"],
         SERVER,
-        b"arrive 0 0\narrive 0 1\ndata 5 0 7\ndata 6 0 8\ndata 4 0 9\n",
+        FALLING_TRACE,
         4,
-        b"event 0 arrive 0\ndrop 0 arrive 1\nrun 0 0 0\nend 0 31 1022\nevent 31 data 0 7\ndrop 31 data 0 8\nedge 0 1 1 7936 256\nstop trace 5\n",
+        FALLING_LOG,
         NONE,
     ),
     (SERVE, SERVER, b"arrive x 1\n", 4, b"stop trace 1\n", NONE),
@@ -231,8 +231,8 @@ const RUNS_TO_THE_END: [Row<'static>; 20] = [
 
 // Runs that come to the end of all threads, or wait for ever.
 #[test]
-fn runs_to_the_end(rt: HostRuntime) -> Result<(), Fail> {
-    hold(&rt, rt.alloc(), &RUNS_TO_THE_END)
+fn runs_to_the_end(rt: HostRuntime) {
+    assert!(rt; all_hold(rt.alloc(), &RUNS_TO_THE_END));
 }
 
 const CUT_RUNS: [Row<'static>; 13] = [
@@ -249,7 +249,7 @@ const CUT_RUNS: [Row<'static>; 13] = [
         PUT_SEVEN,
         NONE,
         13,
-        b"run 0 0 0\nout 0 7\nstop fuel 0 16 1023\n",
+        LITTLE_FUEL_LOG,
         NONE,
     ),
     (
@@ -305,7 +305,7 @@ const CUT_RUNS: [Row<'static>; 13] = [
         ENDLESS,
         NONE,
         12,
-        b"run 0 0 0\nout 0 0\nout 0 1\nstop nochunk 0 64 0\n",
+        ENDLESS_LOG,
         NONE,
     ),
     (
@@ -386,6 +386,6 @@ const CUT_RUNS: [Row<'static>; 13] = [
 
 // Runs that are cut short.
 #[test]
-fn runs_that_are_cut(rt: HostRuntime) -> Result<(), Fail> {
-    hold(&rt, rt.alloc(), &CUT_RUNS)
+fn runs_that_are_cut(rt: HostRuntime) {
+    assert!(rt; all_hold(rt.alloc(), &CUT_RUNS));
 }

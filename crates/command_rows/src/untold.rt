@@ -3,7 +3,6 @@ use crate::calls::{NONE, files_of, status_of, words_of};
 use crate::serving::{LOG_OF_SERVER, SERVER, SERVER_TRACE};
 use cap_io::{CleanShelf, CleanSink, StdSource};
 use std::alloc::{AllocError, Global};
-use std::test::Fail;
 use thread_core::World;
 
 /// Whether the world is that of the server's log at its end: two workers live, on a chunk each, after 201 instructions.
@@ -40,12 +39,15 @@ fn serves(alloc: Global, shelf: &mut CleanShelf) -> Result<bool, AllocError> {
     Ok(is_so)
 }
 
-#[test]
-fn a_trace_that_is_not_told(rt: HostRuntime) -> Result<(), Fail> {
-    let alloc = rt.alloc();
+/// The same of a shelf that has the source alone.
+fn is_served(alloc: Global) -> Result<bool, AllocError> {
     let mut shelf = CleanShelf::new(alloc, files_of(alloc, &[("P", SERVER)])?);
     let is_so = serves(alloc, &mut shelf);
     drop(shelf);
-    assert!(rt; is_so?);
-    Ok(())
+    is_so
+}
+
+#[test]
+fn a_trace_that_is_not_told(rt: HostRuntime) {
+    assert!(rt; matches!(is_served(rt.alloc()), Ok(true)));
 }

@@ -1,1 +1,2 @@
+pub mod RisingSites
 pub mod SampleLemmas

@@ -15,12 +15,14 @@ use stack_certificate::{Certificate, FunctionFact, SiteFact};
 use stack_image::Image;
 use std::alloc::Global;
 
-const USUAL: Options = Options {
+/// The sizes that the words give where they say none.
+pub(crate) const USUAL: Options = Options {
     chunk: 4096,
     max_path: 2032,
 };
 
-const SMALL: Options = Options {
+/// Where a path has at most 32 bytes.
+pub(crate) const SMALL: Options = Options {
     chunk: 64,
     max_path: 32,
 };
@@ -277,6 +279,18 @@ fn in_range(options: Options) -> Option<Options>
         return None;
     }
     Some(Options { chunk, max_path })
+}
+
+/// The accepted program that `build` makes of a source, where the sizes are in their ranges.
+pub(crate) fn accepted_in_range(
+    alloc: Global,
+    source: &[u8],
+    options: Options,
+) -> Option<Accepted> {
+    match in_range(options) {
+        Some(options) => accepted(alloc, source, options),
+        None => None,
+    }
 }
 
 fn is_row_of_pairs(alloc: Global, of: Of, options: Options, changes: &[Change]) -> bool {
