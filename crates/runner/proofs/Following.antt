@@ -29,7 +29,7 @@ use Rattle.runner.specs.Stands.{StandsBetween, Stands}
 use Rattle.runner.specs.Steps.{ActsTo, GoesTo, HaltsAt, HasThread, FailsIn, stop_line}
 use Rattle.runner.specs.Rest.{Rest, HasBytes, bytes_of, Knows, Unasked, Told, Made}
 use Rattle.schedule_log.specs.EntryText.{log_text}
-use Rattle.log_writer.specs.Writing.{TakesPrefix}
+use Rattle.schedule_log.specs.Writing.{TakesPrefix}
 use Rattle.schedule_log.specs.declared.entries.Entry.{Entry}
 use Rattle.schedule_log.specs.declared.entries.StopLine.{StopLine}
 use Rattle.thread_core.specs.Worlds.{Held, IsThread}

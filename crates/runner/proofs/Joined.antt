@@ -4,10 +4,9 @@ use Rattle.std.specs.Io.KnownBytes.{Appends, append_known}
 use Rattle.std.proofs.KnownBytes.{Appends-nil, Appends-trans}
 use Rattle.std.proofs.lemmas.List.{take-append-le}
 use Rattle.cap_io.specs.Writes.{Puts}
-use Rattle.log_writer.specs.Writing.{TakesPrefix}
-use Rattle.log_writer.specs.declared.writer.PutError.{PutError}
-use Rattle.log_writer.proofs.Written.{prefix_none}
-use Rattle.schedule_log.proofs.LinePut.{put_finished}
+use Rattle.schedule_log.specs.Writing.{TakesPrefix}
+use Rattle.schedule_log.specs.declared.writing.PutError.{PutError}
+use Rattle.schedule_log.proofs.Written.{prefix_none, put_finished}
 use Rattle.runner.specs.declared.ends.Failure.{Failure}
 use Rattle.runner.specs.Output.{Output, joined, TakesPart, Grows, PutsText}
 use Rattle.runner.proofs.FitTexts.{fit_none, fit_on}

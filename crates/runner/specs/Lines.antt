@@ -11,7 +11,7 @@ use Rattle.runner.specs.declared.ends.Halt.{Halt}
 use Rattle.runner.specs.declared.ends.RunEnd.{RunEnd}
 use Rattle.schedule_log.specs.declared.entries.Entry.{Entry}
 use Rattle.schedule_log.specs.declared.entries.StopLine.{StopLine}
-use Rattle.log_writer.specs.declared.writer.PutError.{PutError}
+use Rattle.schedule_log.specs.declared.writing.PutError.{PutError}
 use Rattle.thread_core.specs.declared.outside.Delivered.{Delivered}
 
 -- the line of what came

@@ -4,7 +4,7 @@ use Rattle.std.specs.Io.KnownBytes.{Appends, append_known}
 use Rattle.std.specs.List.{AllByRecursion}
 use Rattle.schedule_log.specs.EntryRanges.{FitsEntry}
 use Rattle.schedule_log.specs.EntryText.{log_text}
-use Rattle.log_writer.specs.Writing.{WriterState, TakesPrefix}
+use Rattle.schedule_log.specs.Writing.{WriterState, TakesPrefix}
 use Rattle.schedule_log.specs.declared.entries.Entry.{Entry}
 
 -- the bytes that the sink took, where it tells them, and those that the writer holds

@@ -12,8 +12,7 @@ use crate::ends::{Failure, Halt};
 use crate::lines::{finish, write_line};
 use blocking_graph::{EdgeLine, Graph};
 use cap_io::Sink;
-use log_writer::LogWriter;
-use schedule_log::{Averages, Entry};
+use schedule_log::{Averages, Entry, LogWriter};
 use thread_core::World;
 
 /// Writes the end of a log: what is held, the edges of the graph, and the stop.

@@ -9,8 +9,7 @@ ghost use Rattle.schedule_log.specs.EntryText.{entry_text};
 use crate::ends::Failure;
 use crate::fitting::line_fits;
 use cap_io::Sink;
-use log_writer::{LogWriter, PutError};
-use schedule_log::{Entry, put_line};
+use schedule_log::{Entry, LogWriter, PutError};
 
 /// Puts the line of an entry: it goes to the sink when the buffer is full.
 pub(crate) fn write_line<K: Sink>(
@@ -25,7 +24,7 @@ pub(crate) fn write_line<K: Sink>(
     ensures unrefused { OnOk result (writer.new.refused ≡ None) }
 {
     line_fits(entry);
-    match put_line(writer, out, entry) {
+    match writer.put(out, entry) {
         Ok(()) => Ok(()),
         Err(refusal) => Err(failure_of(refusal)),
     }

@@ -21,9 +21,8 @@ use crate::uses::{changes, uses_of};
 use blocking_graph::SegmentRecord;
 use cap_io::Sink;
 use cap_word::{SiteKey, ThreadId};
-use log_writer::LogWriter;
 use resource_monitor::Measure;
-use schedule_log::Entry;
+use schedule_log::{Entry, LogWriter};
 use thread_core::{Turn, World};
 
 /// The node of threads that have ended.

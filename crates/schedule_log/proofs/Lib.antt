@@ -2,7 +2,7 @@ pub mod EntryPieces
 pub mod EntryUnique
 pub mod Filled
 pub mod KeyPieces
-pub mod LinePut
 pub mod ListsRead
 pub mod LogLines
 pub mod Pushed
+pub mod Written

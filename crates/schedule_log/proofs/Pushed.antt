@@ -5,7 +5,7 @@ use Rattle.std.proofs.lemmas.Int.{to_z-of_z}
 use Rattle.std.proofs.lemmas.List.{flat_map_more, map_more, take_more}
 use Rattle.cap_text.specs.Decimals.{canonical_decimal, canonical_integer}
 use Rattle.schedule_log.specs.EntryText.{after_blanks, key_field, more_sites}
-use Rattle.log_writer.specs.Writing.{LogState, Writes}
+use Rattle.schedule_log.specs.Writing.{LogState, Writes}
 
 pub decimal_of_pos : (n : ℕ) → canonical_integer (pos n) ≡ canonical_decimal n
 unfolding canonical_integer

@@ -1,4 +1,6 @@
 pub mod Averages
 pub mod EntryRanges
 pub mod EntryText
+pub mod Puts
 pub mod Readings
+pub mod Writing

@@ -1,9 +1,9 @@
 // The log of a run, line by line.
 //
 // An `Entry` is one line of the log: what was delivered or dropped, which thread ran, what it put out, where it blocked
-// or ended, an edge of the blocking graph, or why the run stopped. `put_line` puts the line of an entry through a
-// `LogWriter`, `put_entry` writes one alone, and `read_entry` reads a line back. All cite one definition of the text of an
-// entry, and `log_text` is the text of a list of them, which the law of a whole run cites. The lines are those of
+// or ended, an edge of the blocking graph, or why the run stopped. A `LogWriter` writes the lines of entries to a sink
+// through a buffer, `put_entry` writes one alone, and `read_entry` reads a line back. All cite one definition of the text
+// of an entry, and `log_text` is the text of a list of them, which the law of a whole run cites. The lines are those of
 // Capriccio's log: a word and fields with one blank between, numbers as canonical decimals, LF at the end.
 #![tactic(auto)]
 
@@ -13,10 +13,12 @@ mod laws;
 mod lists;
 mod parts;
 mod reading;
+mod writer;
 mod writing;
 
 pub use averages::Averages;
 pub use entries::{Entry, Item, StopLine};
 pub use laws::log_lines_are_entries;
 pub use reading::{LogError, read_entry};
-pub use writing::{put_entry, put_line};
+pub use writer::LogWriter;
+pub use writing::{PutError, put_entry};

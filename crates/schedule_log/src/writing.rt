@@ -1,44 +1,24 @@
 // Writing a line.
-ghost use Rattle.std.specs.Prelude.{◌≡◌, ◌≤◌, ◌∷◌, [], ◌++◌, length, map, codes, OnOk, IfSome, None, Err};
-ghost use Rattle.std.specs.Io.KnownBytes.{Appends, append_known};
+ghost use Rattle.std.specs.Prelude.{◌≡◌, ◌≤◌, ◌∷◌, [], ◌++◌, map, codes, None};
 ghost use Rattle.cap_io.specs.Writes.{Puts};
-ghost use Rattle.log_writer.specs.Puts.{CountsPut};
-ghost use Rattle.log_writer.specs.Writing.{KeepsAnswer, TakesPrefix, Writes, log_state};
+ghost use Rattle.schedule_log.specs.Puts.{CountsPut};
+ghost use Rattle.schedule_log.specs.Writing.{Writes, log_state};
 ghost use Rattle.cap_text.specs.Decimals.{canonical_decimal, canonical_integer};
 ghost use Rattle.schedule_log.specs.EntryText.{after_blanks, cause_fields, entry_text, item_fields, key_field, more_sites, stop_fields, trap_field};
 
-use crate::{Averages, Entry, Item, StopLine};
+use crate::{Averages, Entry, Item, LogWriter, StopLine};
 use cap_io::Sink;
 use cap_word::{SiteKey, Stop, TrapKind};
 use itoa::Buffer;
-use log_writer::{LogWriter, PutError};
 use std::alloc::Global;
 
-/// Writes the line of `entry` and its line feed through `writer`: the bytes that `out` took, followed by those that the
-/// writer holds, grow by just these.
-///
-/// `WriteFault` comes only where the count of faults of `out` rose in this call, or stands at its end, or again; `Memory`
-/// only where `out` had no memory, or again: the writer takes none. After either `out` took a prefix of the bytes that
-/// were held and the line, and the writer gives the same answer to each later call, without a write. It holds at most
-/// 4,096 bytes.
-pub fn put_line<K: Sink>(writer: &mut LogWriter, out: &mut K, entry: &Entry) -> Result<(), PutError>
-    ensures again { IfSome writer.old.refused (λ refusal. result ≡ Err refusal × writer.new ≡ writer.old × out.new ≡ out.old) }
-    ensures grows { OnOk result (Appends (append_known (K.taken out.old) writer.old.held)
-        (append_known (K.taken out.new) writer.new.held) (entry_text entry.now ++ 10 ∷ [])) }
-    ensures prefix { TakesPrefix (K.taken out.old) (K.taken out.new)
-        (writer.old.held ++ (entry_text entry.now ++ 10 ∷ [])) }
-    ensures kept { KeepsAnswer writer.new result }
-    ensures counts { writer.old.refused ≡ None → CountsPut result (K.faults out.old) (K.faults out.new) }
-    ensures never_falls { K.faults out.old ≤ K.faults out.new }
-    ensures most { length writer.new.held ≤ 4096 }
-{
-    match writer.answer() {
-        Err(refusal) => Err(refusal),
-        Ok(()) => {
-            write_line(writer, out, entry);
-            writer.answer()
-        }
-    }
+/// Why an entry was not put.
+#[derive(Clone, Copy, PartialEq, Eq)]
+pub enum PutError {
+    /// A write failed: the sink counted a fault.
+    WriteFault,
+    /// There was no memory, here or in the sink.
+    Memory,
 }
 
 /// Writes the line of `entry` to `out`, and its line feed.
@@ -63,7 +43,7 @@ fn put_alone<K: Sink>(mut writer: LogWriter, out: &mut K, entry: &Entry) -> Resu
     ensures counts { CountsPut result (K.faults out.old) (K.faults out.new) }
     ensures never_falls { K.faults out.old ≤ K.faults out.new }
 {
-    match put_line(&mut writer, out, entry) {
+    match writer.put(out, entry) {
         Ok(()) => writer.finish(out),
         Err(refusal) => {
             drop(writer);
@@ -73,7 +53,7 @@ fn put_alone<K: Sink>(mut writer: LogWriter, out: &mut K, entry: &Entry) -> Resu
 }
 
 // Writes an entry's line and its line feed, unless the writer gave a refusal. So do those below of parts of a line.
-fn write_line<K: Sink>(writer: &mut LogWriter, out: &mut K, entry: &Entry)
+pub(crate) fn write_line<K: Sink>(writer: &mut LogWriter, out: &mut K, entry: &Entry)
     ensures { Writes (log_state writer.old (K.taken out.old) (K.faults out.old))
         (log_state writer.new (K.taken out.new) (K.faults out.new)) (entry_text entry.now ++ 10 ∷ []) }
 {

@@ -3,8 +3,9 @@ ghost use Rattle.std.specs.Prelude.{◌≤◌};
 
 use cap_io::{CleanSink, MemSink, Sink};
 use cap_word::{SiteKey, Stop, TrapKind};
-use log_writer::{LogWriter, PutError};
-use schedule_log::{Averages, Entry, Item, LogError, StopLine, put_entry, put_line, read_entry};
+use schedule_log::{
+    Averages, Entry, Item, LogError, LogWriter, PutError, StopLine, put_entry, read_entry,
+};
 use std::alloc::Global;
 
 // One line of each kind, from the format's table.
@@ -202,7 +203,7 @@ fn put_through<K: Sink>(alloc: Global, out: &mut K) -> Option<bool> {
     let mut lasts = true;
     for _ in 0..TIMES {
         for line in LINES {
-            let answer = puts_again(&mut writer, out, line);
+            let answer = put_line(&mut writer, out, line);
             lasts = lasts && (put || !answer);
             put = put && answer;
         }
@@ -216,10 +217,10 @@ fn put_through<K: Sink>(alloc: Global, out: &mut K) -> Option<bool> {
 }
 
 // Whether the entry of a line is put.
-fn puts_again<K: Sink>(writer: &mut LogWriter, out: &mut K, line: &[u8]) -> bool {
+fn put_line<K: Sink>(writer: &mut LogWriter, out: &mut K, line: &[u8]) -> bool {
     match line.split_last() {
         Some((_, text)) => match read_entry(text) {
-            Ok(entry) => put_line(writer, out, &entry).is_ok(),
+            Ok(entry) => writer.put(out, &entry).is_ok(),
             Err(LogError::Line) => false,
         },
         None => false,

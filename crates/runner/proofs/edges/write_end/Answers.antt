@@ -4,7 +4,7 @@ use Rattle.cap_io.specs.Writes.{Puts}
 use Rattle.schedule_log.specs.EntryText.{entry_text, log_text}
 use Rattle.schedule_log.specs.declared.entries.Entry.{Entry}
 use Rattle.schedule_log.specs.declared.entries.StopLine.{StopLine}
-use Rattle.log_writer.proofs.Written.{prefix_none}
+use Rattle.schedule_log.proofs.Written.{prefix_none}
 use Rattle.runner.specs.declared.ends.Failure.{Failure}
 use Rattle.runner.specs.Counts.{CountsPart}
 use Rattle.runner.specs.Lines.{edge_lines, end_lines}

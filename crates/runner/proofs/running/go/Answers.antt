@@ -3,7 +3,7 @@ use Rattle.std.specs.Io.KnownBytes.{Appends}
 use Rattle.blocking_graph.specs.declared.edges.EdgeLine.{EdgeLine}
 use Rattle.cap_io.specs.Writes.{Puts}
 use Rattle.schedule_log.specs.EntryText.{log_text}
-use Rattle.log_writer.specs.Writing.{WriterState}
+use Rattle.schedule_log.specs.Writing.{WriterState}
 use Rattle.runner.specs.Answers.{IsRunEnd}
 use Rattle.runner.specs.Kept.{Kept}
 use Rattle.runner.specs.Lines.{end_lines}

@@ -1,8 +1,8 @@
 use Rattle.std.proofs.Common.{◌≡◌, ℕ, ap, subst}
 use Rattle.std.specs.Prelude.{None}
-use Rattle.log_writer.specs.Puts.{CountsPut}
-use Rattle.log_writer.specs.Writing.{WriterState}
-use Rattle.schedule_log.proofs.LinePut.{put_finished}
+use Rattle.schedule_log.specs.Puts.{CountsPut}
+use Rattle.schedule_log.specs.Writing.{WriterState}
+use Rattle.schedule_log.proofs.Written.{put_finished}
 use Rattle.schedule_log.proofs.writing.put_alone.Goals as goal
 
 pub returns-in-Ok-clause-bytes : goal.returns-in-Ok-clause-bytes

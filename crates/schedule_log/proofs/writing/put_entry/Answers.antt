@@ -1,4 +1,4 @@
-use Rattle.log_writer.proofs.Written.{prefix_none}
+use Rattle.schedule_log.proofs.Written.{prefix_none}
 use Rattle.schedule_log.proofs.writing.put_entry.Goals as goal
 
 pub returns-in-Err-clause-bytes : goal.returns-in-Err-clause-bytes

@@ -1,6 +1,6 @@
 use Rattle.std.proofs.Common.{ℕ, List, ◌∷◌, ap, sym}
 use Rattle.schedule_log.proofs.Pushed.{widened}
-use Rattle.log_writer.proofs.Written.{writes_step}
+use Rattle.schedule_log.proofs.Written.{writes_step}
 use Rattle.schedule_log.proofs.writing.write_after.Goals as goal
 
 pub returns : goal.returns

@@ -1,7 +1,7 @@
 use Rattle.std.proofs.Common.{pos, get_or, rules, FitsSigned}
 use Rattle.std.specs.Int.{w128}
 use Rattle.schedule_log.proofs.Pushed.{averages_step, writes_wide}
-use Rattle.log_writer.proofs.Written.{writes_step}
+use Rattle.schedule_log.proofs.Written.{writes_step}
 use Rattle.schedule_log.proofs.writing.write_averages.Goals as goal
 
 pub loop-value-preserved : goal.loop-value-preserved

@@ -1,5 +1,5 @@
 use Rattle.std.proofs.lemmas.List.Concat.{flat_map-append}
-use Rattle.log_writer.proofs.Written.{writes_more}
+use Rattle.schedule_log.proofs.Written.{writes_more}
 use Rattle.schedule_log.proofs.writing.write_cut.Goals as goal
 
 pub returns : goal.returns

@@ -1,5 +1,5 @@
 use Rattle.schedule_log.proofs.Pushed.{writes_wide}
-use Rattle.log_writer.proofs.Written.{writes_more}
+use Rattle.schedule_log.proofs.Written.{writes_more}
 use Rattle.schedule_log.proofs.writing.write_edge.Goals as goal
 
 pub returns : goal.returns

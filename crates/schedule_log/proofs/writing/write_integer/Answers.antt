@@ -3,7 +3,7 @@ use Rattle.std.specs.Prelude.{ℤ}
 use Rattle.std.specs.Int.{w128}
 use Rattle.std.proofs.lemmas.Int.{to_z-of_z}
 use Rattle.cap_text.specs.Decimals.{canonical_integer}
-use Rattle.log_writer.proofs.Written.{writes_step}
+use Rattle.schedule_log.proofs.Written.{writes_step}
 use Rattle.schedule_log.proofs.writing.write_integer.Goals as goal
 
 pub returns : goal.returns

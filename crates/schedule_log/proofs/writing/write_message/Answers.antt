@@ -1,5 +1,5 @@
 use Rattle.schedule_log.proofs.Pushed.{writes_word}
-use Rattle.log_writer.proofs.Written.{writes_more, writes_end}
+use Rattle.schedule_log.proofs.Written.{writes_more, writes_end}
 use Rattle.schedule_log.proofs.writing.write_message.Goals as goal
 
 pub returns : goal.returns

@@ -1,4 +1,4 @@
-use Rattle.log_writer.proofs.Written.{writes_more, writes_end}
+use Rattle.schedule_log.proofs.Written.{writes_more, writes_end}
 use Rattle.schedule_log.proofs.writing.write_refused.Goals as goal
 
 pub returns : goal.returns

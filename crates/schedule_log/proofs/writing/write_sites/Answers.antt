@@ -1,5 +1,5 @@
 use Rattle.schedule_log.proofs.Pushed.{more_sites_step}
-use Rattle.log_writer.proofs.Written.{writes_step}
+use Rattle.schedule_log.proofs.Written.{writes_step}
 use Rattle.schedule_log.proofs.writing.write_sites.Goals as goal
 
 pub loop-site-preserved : goal.loop-site-preserved

@@ -1,6 +1,6 @@
 use Rattle.std.proofs.Common.{take}
-use Rattle.log_writer.specs.Writing.{Writes, log_state}
-use Rattle.log_writer.proofs.writer.LogWriter.write.Given as goal
+use Rattle.schedule_log.specs.Writing.{Writes, log_state}
+use Rattle.schedule_log.proofs.writer.LogWriter.write.Given as goal
 
 abbrev pub invariant-loop-byte : goal.invariant-loop-byte
 invariant-loop-byte g l =

@@ -1,8 +1,13 @@
-ghost use Rattle.std.specs.Prelude.{◌≡◌, ◌≤◌, ◌<◌, ◌∷◌, [], ◌++◌, length, true, false, IfOk, IfSome, IsSome, None, Err};
+// A writer of a log through a buffer.
+ghost use Rattle.std.specs.Prelude.{◌≡◌, ◌≤◌, ◌<◌, ◌∷◌, [], ◌++◌, length, true, false, OnOk, IfOk, IfSome, IsSome, None, Err};
+ghost use Rattle.std.specs.Io.KnownBytes.{Appends, append_known};
 ghost use Rattle.cap_io.specs.Writes.{Puts};
-ghost use Rattle.log_writer.specs.Puts.{CountsPut};
-ghost use Rattle.log_writer.specs.Writing.{KeepsAnswer, Writes, log_state};
+ghost use Rattle.schedule_log.specs.EntryText.{entry_text};
+ghost use Rattle.schedule_log.specs.Puts.{CountsPut};
+ghost use Rattle.schedule_log.specs.Writing.{KeepsAnswer, TakesPrefix, Writes, log_state};
 
+use crate::Entry;
+use crate::writing::{PutError, write_line};
 use cap_io::{Sink, SinkError, put_all};
 use std::alloc::{AllocError, Global};
 use std::marker::Model;
@@ -10,18 +15,8 @@ use std::marker::Model;
 /// The most bytes that a writer holds.
 const BUFFER_BYTES: usize = 4096;
 
-/// Why a line was not put.
-#[derive(Clone, Copy, PartialEq, Eq)]
-pub enum PutError {
-    /// A write failed: the sink counted a fault.
-    WriteFault,
-    /// There was no memory, here or in the sink.
-    Memory,
-}
-
-/// Writes the bytes of lines to a sink through a buffer of 4,096 bytes, which goes to the sink when it is full and at the
-/// end. Contracts see the bytes that it holds, which its sink did not take yet, and the refusal that it gave, if it gave
-/// one.
+/// Writes entries to a sink through a buffer of 4,096 bytes, which goes to the sink when it is full and at the end.
+/// Contracts see the bytes that it holds, which its sink did not take yet, and the refusal that it gave, if it gave one.
 #[derive(Drop)]
 pub struct LogWriter {
     held: Vec<u8>,
@@ -30,7 +25,7 @@ pub struct LogWriter {
 
 impl Model for LogWriter {
     ghost use Rattle.std.specs.Prelude.{◌≤◌, vec_len, vec_capacity};
-    ghost use Rattle.log_writer.specs.Writing.{WriterState};
+    ghost use Rattle.schedule_log.specs.Writing.{WriterState};
 
     ghost Value = { WriterState };
 
@@ -50,11 +45,38 @@ impl LogWriter {
         })
     }
 
+    /// Writes the line of `entry` and its line feed: the bytes that `out` took, followed by those that the writer holds,
+    /// grow by just these.
+    ///
+    /// `WriteFault` comes only where the count of faults of `out` rose in this call, or stands at its end, or again;
+    /// `Memory` only where `out` had no memory, or again: the writer takes none. After either `out` took a prefix of the
+    /// bytes that were held and the line, and the writer gives the same answer to each later call, without a write. It
+    /// holds at most 4,096 bytes.
+    pub fn put<K: Sink>(&mut self, out: &mut K, entry: &Entry) -> Result<(), PutError>
+        ensures again { IfSome self.old.refused (λ refusal. result ≡ Err refusal × self.new ≡ self.old × out.new ≡ out.old) }
+        ensures grows { OnOk result (Appends (append_known (K.taken out.old) self.old.held)
+            (append_known (K.taken out.new) self.new.held) (entry_text entry.now ++ 10 ∷ [])) }
+        ensures prefix { TakesPrefix (K.taken out.old) (K.taken out.new)
+            (self.old.held ++ (entry_text entry.now ++ 10 ∷ [])) }
+        ensures kept { KeepsAnswer self.new result }
+        ensures counts { self.old.refused ≡ None → CountsPut result (K.faults out.old) (K.faults out.new) }
+        ensures never_falls { K.faults out.old ≤ K.faults out.new }
+        ensures most { length self.new.held ≤ 4096 }
+    {
+        match self.refused {
+            Some(refusal) => Err(refusal),
+            None => {
+                write_line(self, out, entry);
+                self.answer()
+            }
+        }
+    }
+
     /// Writes what is held, which is the end of the log.
     ///
     /// `WriteFault` comes only where the count of faults of `out` rose in this call, or stands at its end, or again;
     /// `Memory` only where `out` had no memory, or again: the writer takes none. After either `out` took a prefix of
-    /// what was held, and nothing of it where the writer gave this answer before.
+    /// what was held, and nothing of it where `put` gave this answer before.
     pub fn finish<K: Sink>(self, out: &mut K) -> Result<(), PutError>
         ensures again { IfSome self.refused (λ refusal. result ≡ Err refusal × out.new ≡ out.old) }
         ensures bytes { Puts (K.taken out.old) (K.taken out.new) self.held result }
@@ -67,9 +89,8 @@ impl LogWriter {
         }
     }
 
-    /// Writes these bytes, unless a refusal was given: the sink takes the first of what is held and these, and the writer
-    /// holds the rest, or gives a refusal from then on.
-    pub fn write<K: Sink>(&mut self, out: &mut K, bytes: &[u8])
+    /// Writes these bytes, unless a refusal was given.
+    pub(crate) fn write<K: Sink>(&mut self, out: &mut K, bytes: &[u8])
         ensures { Writes (log_state self.old (K.taken out.old) (K.faults out.old))
             (log_state self.new (K.taken out.new) (K.faults out.new)) bytes.now }
     {
@@ -79,23 +100,12 @@ impl LogWriter {
     }
 
     /// The same of one byte.
-    pub fn write_byte<K: Sink>(&mut self, out: &mut K, byte: u8)
+    pub(crate) fn write_byte<K: Sink>(&mut self, out: &mut K, byte: u8)
         ensures { Writes (log_state self.old (K.taken out.old) (K.faults out.old))
             (log_state self.new (K.taken out.new) (K.faults out.new)) (byte ∷ []) }
     {
         self.make_room(out);
         self.hold(byte);
-    }
-
-    /// What the writer answers now: the refusal that it gave, if it gave one. It holds at most 4,096 bytes.
-    pub fn answer(&self) -> Result<(), PutError>
-        ensures kept { KeepsAnswer self.now result }
-        ensures most { length self.now.held ≤ 4096 }
-    {
-        match self.refused {
-            None => Ok(()),
-            Some(refusal) => Err(refusal),
-        }
     }
 
     /// Makes room for a byte, unless a refusal was given.
@@ -139,6 +149,17 @@ impl LogWriter {
         match send(out, &self.held) {
             Ok(()) => self.held.clear(),
             Err(refusal) => self.refused = Some(refusal),
+        }
+    }
+
+    /// What the writer answers: the refusal that it keeps.
+    fn answer(&self) -> Result<(), PutError>
+        ensures kept { KeepsAnswer self.now result }
+        ensures most { length self.now.held ≤ 4096 }
+    {
+        match self.refused {
+            None => Ok(()),
+            Some(refusal) => Err(refusal),
         }
     }
 }

@@ -1,5 +1,0 @@
-use Rattle.log_writer.proofs.Written.{prefix_none}
-use Rattle.log_writer.proofs.writer.LogWriter.finish.Goals as goal
-
-pub returns-in-Some-clause-bytes : goal.returns-in-Some-clause-bytes
-returns-in-Some-clause-bytes g c = prefix_none _ _
