@@ -1,8 +1,8 @@
 ghost use Rattle.std.specs.Prelude.{◌≤◌, length, IfOk};
 
 use crate::elements::{Element, elements_of};
-use c_lex::{Mark, Token, TokenKind, lex};
-use c_parse::parse_nested;
+use c_lex::{LexError, Mark, Token, TokenKind, lex};
+use c_parse::{ParseError, parse_nested};
 use c_tree::{RawItem, RawProgram};
 use call_places::places_of_calls;
 use report_figures::{Position, position_of};
@@ -279,6 +279,7 @@ fn tokens_of(alloc: Global, source: &[u8]) -> Result<Vec<Token>, PlacesError>
     }
     match lex(alloc, source) {
         Ok(tokens) => Ok(tokens),
+        Err(LexError::Memory) => Err(PlacesError::Memory),
         Err(_) => Err(PlacesError::Source),
     }
 }
@@ -296,6 +297,7 @@ fn names_in(alloc: Global, source: &[u8], tokens: &[Token]) -> Result<Names, Pla
                 Err(AllocError) => Err(PlacesError::Memory),
             }
         }
+        Err(ParseError::Memory) => Err(PlacesError::Memory),
         Err(_) => Err(PlacesError::Source),
     }
 }
