@@ -13,7 +13,7 @@ use Rattle.schedule_log.specs.declared.entries.Entry.TheVariants.{Event, Dropped
 use Rattle.schedule_log.specs.declared.entries.StopLine.TheVariants.{Done, Idle, Trace, Cut}
 use Rattle.schedule_log.proofs.LogLines.{log_lines}
 use Rattle.runner.specs.Answers.{CameTo, IsRunEnd}
-use Rattle.runner.specs.Output.{IsFitText}
+use Rattle.run_course.specs.Output.{IsFitText}
 use Rattle.runner.specs.declared.ends.RunEnd.{RunEnd}
 use Rattle.runner.specs.declared.ends.RunEnd.TheVariants as end
 use Rattle.thread_core.specs.Worlds.{Held}

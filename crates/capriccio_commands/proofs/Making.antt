@@ -16,7 +16,7 @@ use Rattle.machine_world.specs.Threads.{World, with_thread}
 use Rattle.machine_world.specs.WellFormed.{AreWords}
 use Rattle.resource_monitor.specs.Monitor.{MonitorState}
 use Rattle.resource_monitor.specs.declared.curves.Curve.{Curve}
-use Rattle.runner.specs.Answers.{IsAtStartBy, KeepsRun}
+use Rattle.run_course.specs.Starts.{IsAtStartBy, KeepsRun}
 use Rattle.stack_certificate.specs.Certificates.{fact_at}
 use Rattle.thread_core.specs.Making.{IsPolicy, IsStart, start_areas}
 use Rattle.thread_core.specs.Worlds.{Held}

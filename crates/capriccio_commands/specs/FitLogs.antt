@@ -1,7 +1,7 @@
 -- A log whose entries fit their types, and the room that a tally has for more of them.
 use Rattle.std.specs.Prelude.{ℕ, ◌+◌, ◌*◌, ◌^◌, ◌<◌, List, Option, unsigned_abs}
 use Rattle.std.specs.Io.KnownBytes.{Appends}
-use Rattle.runner.specs.Output.{IsFitText}
+use Rattle.run_course.specs.Output.{IsFitText}
 use Rattle.capriccio_commands.specs.declared.summaries.Tally.{Tally}
 
 -- what a sink took, where it tells it, grew by the text of such entries

@@ -11,7 +11,7 @@ ghost use Rattle.command_outcomes.specs.Steps.{IsStop};
 ghost use Rattle.capriccio_commands.specs.Demos.{Demos, demo_sizes, demo_policy, IsAcceptedWorkload, IsShown, ShowsDue, ShowsEnd};
 ghost use Rattle.pair_commands.specs.Runs.{RunsOn, setup_of};
 ghost use Rattle.capriccio_commands.specs.Summary.{census_of};
-ghost use Rattle.runner.specs.Output.{IsFitText};
+ghost use Rattle.run_course.specs.Output.{IsFitText};
 ghost use Rattle.schedule_log.specs.EntryText.{log_text};
 ghost use Rattle.schedule_log.specs.declared.entries.Entry.{Entry};
 

@@ -4,7 +4,7 @@ ghost use Rattle.accepted_pairs.specs.Accepting.{accepted_tree};
 ghost use Rattle.schedule_log.specs.EntryText.{log_text};
 ghost use Rattle.schedule_log.specs.declared.entries.Entry.{Entry};
 ghost use Rattle.stack_certificate.specs.declared.sites.SiteFact.{SiteFact};
-ghost use Rattle.runner.specs.Output.{IsFitText};
+ghost use Rattle.run_course.specs.Output.{IsFitText};
 ghost use Rattle.capriccio_commands.specs.FitLogs.{HasRoom};
 ghost use Rattle.capriccio_commands.specs.Summary.{links, census_of, counted, with_cost, tally_of, last_from, count_line, sum_line, census_text, tally_text, summary_text};
 

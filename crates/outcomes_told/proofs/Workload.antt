@@ -11,7 +11,7 @@ use Rattle.cap_word.proofs.WordLemmas.{to_z-signed}
 use Rattle.event_trace.specs.declared.events.Event.{Event}
 use Rattle.event_trace.specs.declared.events.EventKind.TheVariants.{Arrive, Message}
 use Rattle.event_trace.specs.Lines.{FitsEvent, event_text, value_field}
-use Rattle.runner.proofs.Spelled.{line_and, gives_line, behind_line}
+use Rattle.run_course.proofs.Spelled.{line_and, gives_line, behind_line}
 use Rattle.workload.specs.Traces.{channel_of, arrival_line, message_line, lines_below, trace_text}
 use Rattle.outcomes_told.specs.Looked.{IsGood, is_over, by_line, IsGoodTrace}
 

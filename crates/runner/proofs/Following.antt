@@ -16,28 +16,30 @@ use Rattle.machine_world.specs.Threads.{World, Setting}
 use Rattle.one_log.specs.One.{HasOneLog}
 use Rattle.one_log.proofs.Starting.{one_log}
 use Rattle.resource_monitor.specs.Monitor.{MonitorState}
-use Rattle.runner.specs.Answers.{IsAtStartBy, IsEndAt, IsOfThread, CameTo, FellShort}
-use Rattle.runner.specs.declared.ends.Halt.{Halt}
+use Rattle.run_course.specs.Starts.{IsAtStartBy}
+use Rattle.runner.specs.Answers.{IsEndAt, IsOfThread, CameTo, FellShort}
+use Rattle.run_course.specs.declared.ends.Halt.{Halt}
 use Rattle.cap_word.specs.declared.stops.Stop.{Stop}
 use Rattle.cap_word.specs.declared.threads.ThreadId.{ThreadId}
-use Rattle.runner.specs.Kept.{Kept}
-use Rattle.runner.specs.Lines.{halt_end, end_lines, edge_line}
-use Rattle.runner.specs.Output.{Output, unheld, Grows, IsFitText}
-use Rattle.runner.specs.Sound.{IsSound}
-use Rattle.runner.specs.Ways.{IsOnWay, HasTicked, IsOnRun}
-use Rattle.runner.specs.Stands.{StandsBetween, Stands}
-use Rattle.runner.specs.Steps.{ActsTo, GoesTo, HaltsAt, HasThread, FailsIn, stop_line}
-use Rattle.runner.specs.Rest.{Rest, HasBytes, bytes_of, Knows, Unasked, Told, Made}
+use Rattle.run_course.specs.Kept.{Kept}
+use Rattle.runner.specs.Ends.{halt_end}
+use Rattle.run_course.specs.Lines.{end_lines, edge_line}
+use Rattle.run_course.specs.Output.{Output, unheld, Grows, IsFitText}
+use Rattle.run_course.specs.Sound.{IsSound}
+use Rattle.run_course.specs.Ways.{IsOnWay, HasTicked, IsOnRun}
+use Rattle.run_course.specs.Stands.{StandsBetween, Stands}
+use Rattle.run_course.specs.Steps.{ActsTo, GoesTo, HaltsAt, HasThread, FailsIn, stop_line}
+use Rattle.run_course.specs.Rest.{Rest, HasBytes, bytes_of, Knows, Unasked, Told, Made}
 use Rattle.schedule_log.specs.EntryText.{log_text}
 use Rattle.schedule_log.specs.Writing.{TakesPrefix}
 use Rattle.schedule_log.specs.declared.entries.Entry.{Entry}
 use Rattle.schedule_log.specs.declared.entries.StopLine.{StopLine}
 use Rattle.thread_core.specs.Worlds.{Held, IsThread}
-use Rattle.runner.proofs.Acting.{acts_on}
-use Rattle.runner.proofs.Joined.{grows_on, grows_none, part_on, whole_on}
-use Rattle.runner.proofs.FitTexts.{fit_on, no_line, text_append}
-use Rattle.runner.proofs.Parts.{no_acts, by_none}
-use Rattle.runner.proofs.Started.{scoped, valid, starts, well, fuel_most}
+use Rattle.run_course.proofs.Acting.{acts_on}
+use Rattle.run_course.proofs.Joined.{grows_on, grows_none, part_on, whole_on}
+use Rattle.run_course.proofs.FitTexts.{fit_on, no_line, text_append}
+use Rattle.run_course.proofs.Parts.{no_acts, by_none}
+use Rattle.run_course.proofs.Started.{scoped, valid, starts, well, fuel_most}
 use Rattle.chunk_pool.specs.Pool.{free_count}
 
 -- ---- lists and texts

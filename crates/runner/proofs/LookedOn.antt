@@ -1,6 +1,6 @@
 -- A step of a choice point: it stops, or goes on behind a look at the next line.
-use Rattle.std.proofs.Common.{◌≡◌, ◌≢◌, ℕ, ◌+◌, ◌*◌, ◌<◌, ◌≤◌, ◌||◌, Bool, true, false, List, [], length, Option, Some, None, Result, Ok, Err, refl, sym, ap, ◌∙◌, subst, arith, ⊎_elim}
-use Rattle.std.specs.Prelude.{is_some, if◌then◌else◌}
+use Rattle.std.proofs.Common.{◌≡◌, ◌≢◌, ℕ, ◌+◌, ◌*◌, ◌<◌, ◌≤◌, false, List, [], length, Option, Some, None, Result, Ok, Err, refl, sym, ap, ◌∙◌, subst, arith, ⊎_elim}
+use Rattle.std.specs.Prelude.{is_some}
 use Rattle.std.proofs.lemmas.List.{nil_from_length}
 use Rattle.event_trace.specs.declared.events.Event.{Event}
 use Rattle.choice_rules.specs.Stops.{IsDone, IsBadTrace}
@@ -10,24 +10,24 @@ use Rattle.lawful_log.specs.State.{Segment, State, seen_of}
 use Rattle.lawful_steps.specs.Beside.{IsGraphOf}
 use Rattle.blocking_graph.specs.Graph.{GraphState}
 use Rattle.machine_world.specs.Threads.{Thread, World}
-use Rattle.thread_core.specs.Ready.{any_ready_in}
 use Rattle.thread_core.specs.Worlds.{Held}
-use Rattle.runner.specs.declared.course.Under.{Under}
-use Rattle.runner.specs.declared.ends.Failure.{Failure}
-use Rattle.runner.specs.declared.ends.Halt.{Halt}
-use Rattle.runner.specs.declared.looking.Looked.{Looked}
-use Rattle.runner.specs.declared.looking.Next.{Next}
-use Rattle.runner.specs.Counts.{CountsLook, CountsPart, CountsStep}
-use Rattle.runner.specs.Kept.{Kept}
-use Rattle.runner.specs.Output.{Output}
-use Rattle.runner.specs.Looks.{Sees, Refuses, Nears}
-use Rattle.runner.specs.Ranks.{due_at, long_rank, lines_rank, stuck_rank, rank, FallsTo}
-use Rattle.runner.specs.Stands.{StandsBetween, StandsSomehow, IsAtPoint}
-use Rattle.runner.specs.Steps.{HaltsAt, FailsIn, StepEnds}
-use Rattle.runner.specs.Rest.{Rest, HasBytes, Unasked, Told, Made}
-use Rattle.runner.proofs.Parts.{acts_between, way_between, same_ticks, onward_between, no_part, to_between}
-use Rattle.runner.proofs.Soundness.{sound_between}
-use Rattle.runner.proofs.Waited.{clock_same}
+use Rattle.run_course.specs.declared.course.Under.{Under}
+use Rattle.run_course.specs.declared.ends.Failure.{Failure}
+use Rattle.run_course.specs.declared.ends.Halt.{Halt}
+use Rattle.run_course.specs.declared.looking.Looked.{Looked}
+use Rattle.run_course.specs.declared.looking.Next.{Next}
+use Rattle.run_course.specs.Counts.{CountsLook, CountsPart, CountsStep}
+use Rattle.run_course.specs.Kept.{Kept}
+use Rattle.run_course.specs.Output.{Output}
+use Rattle.run_course.specs.Looks.{Sees, Refuses, Nears}
+use Rattle.run_course.specs.Ranks.{long_rank, lines_rank, stuck_rank, rank, FallsTo}
+use Rattle.run_course.specs.Stands.{StandsBetween, StandsSomehow, IsAtPoint}
+use Rattle.run_course.specs.Steps.{HaltsAt, FailsIn, StepEnds}
+use Rattle.run_course.specs.Rest.{Rest, HasBytes, Unasked, Told, Made}
+use Rattle.run_course.proofs.Parts.{acts_between, way_between, same_ticks, onward_between, no_part, to_between}
+use Rattle.run_course.proofs.Soundness.{sound_between}
+use Rattle.run_course.proofs.Clocks.{clock_same}
+use Rattle.run_course.proofs.PartSteps.{stuck_small}
 
 -- what is known of the trace may be left out
 pub forget : (g : Setup) (state : State) (k : Kept) (held : Held) (left : Rest) → StandsBetween g state k held left → StandsBetween g state k held Unasked
@@ -136,12 +136,6 @@ part_counts (Err Failure.Write) reads reads' writes writes' e is = (e, is)
 part_counts (Err Failure.Memory) reads reads' writes writes' e is = (e, is)
 
 -- ---- the measure
-
-pub stuck_small : (next : Next) (held : Held) → stuck_rank next held ≤ 1
-stuck_small next held = by (due_at next held.machine.clock || any_ready_in held) where
-  by : (b : Bool) → (if b then 0 else 1) ≤ 1
-  by true = omega arith
-  by false = omega arith
 
 nearer : (long long' lines lines' stuck stuck' : ℕ) → long' ≡ long → lines' < lines → stuck' ≤ 1 → 6000010 * long' + (2 * lines' + stuck') ≤ 6000010 * long + (2 * lines + stuck)
 nearer long long' lines lines' stuck stuck' same less small = omega (arith, same, less, small)

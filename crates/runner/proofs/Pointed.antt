@@ -1,39 +1,21 @@
--- A choice point that goes on: what its parts are given.
-use Rattle.std.proofs.Common.{◌≡◌, ℕ, ◌+◌, ◌-◌, ◌*◌, ◌<◌, ◌≤◌, Bool, true, false, Option, Some, None, Ok, refl, sym, ap, ◌∙◌, subst, arith, if◌then◌else◌}
+-- A choice point that goes on: no event is due, and what waiting comes to.
+use Rattle.std.proofs.Common.{◌≡◌, ℕ, ◌≤◌, Bool, true, false, Option, Some, None, Ok, refl, sym, ap, ◌∙◌, subst, arith}
 use Rattle.std.specs.Prelude.{nat_le}
 use Rattle.std.proofs.lemmas.Bool.Decides.{nat_tests}
-use Rattle.event_trace.specs.Lines.{FitsEvent, FitsKind}
-use Rattle.choice_rules.specs.Deliveries.{delivery_of}
 use Rattle.event_trace.specs.declared.events.Event.{Event}
-use Rattle.event_trace.specs.declared.events.EventKind.{EventKind}
 use Rattle.choice_rules.specs.Clock.{is_due}
 use Rattle.lawful_log.specs.Setup.{Setup}
 use Rattle.lawful_log.specs.State.{State}
-use Rattle.c_mean.specs.ModelledCalls.{Exchange, is_dropped, with_delivery}
-use Rattle.machine_world.specs.Threads.{World}
-use Rattle.runner.specs.Answers.{KeepsRun}
-use Rattle.runner.specs.declared.ends.Halt.{Halt}
-use Rattle.runner.specs.declared.looking.Next.{Next}
-use Rattle.runner.specs.Kept.{Kept, known}
-use Rattle.runner.specs.Output.{Output}
-use Rattle.runner.specs.Ranks.{long_rank, lines_rank, next_rank, under_rank}
-use Rattle.runner.specs.Stands.{FitsNext, IsAtPoint}
-use Rattle.runner.specs.Steps.{HaltsAt, StepEnds}
+use Rattle.run_course.specs.declared.ends.Halt.{Halt}
+use Rattle.run_course.specs.Kept.{Kept}
+use Rattle.run_course.specs.Output.{Output}
+use Rattle.run_course.specs.Stands.{IsAtPoint}
+use Rattle.run_course.specs.Steps.{HaltsAt, StepEnds}
 use Rattle.runner.specs.Waits.{WaitEnds}
-use Rattle.runner.specs.Rest.{Rest}
-use Rattle.thread_core.specs.Making.{IsEventInRange, after_event}
+use Rattle.run_course.specs.Rest.{Rest}
 use Rattle.thread_core.specs.Worlds.{Held}
-use Rattle.runner.proofs.Parts.{acts_between, way_between, same_ticks, by_none, silent}
-use Rattle.runner.proofs.Soundness.{sound_between}
-
-known_event : (n : Next) (event : Event) → known n ≡ Some (Some event) → n ≡ Next.Event event
-known_event Next.Unread event e = absurd (cc)
-known_event (Next.Event other) event e = let same : other ≡ event = cc in ap Next.Event same
-known_event Next.Over event e = absurd (cc)
-
-range_by : (kind : EventKind) → FitsKind kind → IsEventInRange kind
-range_by (EventKind.Arrive value) fits = tt
-range_by (EventKind.Message channel value) fits = let most = fits.0 in omega (arith, most)
+use Rattle.run_course.proofs.Parts.{acts_between, way_between, same_ticks, by_none, silent}
+use Rattle.run_course.proofs.Soundness.{sound_between}
 
 due_by : (event : Event) (clock : ℕ) → (event.time ≤ clock → ⊥) → nat_le event.time clock ≡ false
 due_by event clock none = by (nat_le event.time clock) refl where
@@ -42,15 +24,6 @@ due_by event clock none = by (nat_le event.time clock) refl where
   by true e = absurd (none (grind (arith, nat_tests, e)))
 
 module _ (g : Setup) (state : State) (k : Kept) (held : Held) (left : Rest) (next : Option Event) (at : IsAtPoint g state k held left next) where
-  pub resting : held.machine.running ≡ None
-  resting = ap (λ (w : World). w.running) at.stands.between.machine_is ∙ at.stands.between.stands.between
-
-  pub next_event : (event : Event) → next ≡ Some event → k.next ≡ Next.Event event
-  next_event event e = known_event k.next event (at.known_is ∙ ap Some e)
-
-  pub in_range : (event : Event) → next ≡ Some event → IsEventInRange event.kind
-  in_range event e = range_by event.kind (let fits : FitsEvent event = subst FitsNext (next_event event e) at.stands.read.fits in fits.kind)
-
   pub not_due_none : next ≡ None → is_due next held.machine.clock ≡ false
   not_due_none e = ap (λ (o : Option Event). is_due o held.machine.clock) e
 
@@ -73,33 +46,3 @@ module _ (g : Setup) (state : State) (k : Kept) (held : Held) (left : Rest) (nex
       thread = tt;
       writes = refl;
     }
-
--- ---- a delivery
-
-cost_by : (b : Bool) (w : World) (x : Exchange) → (if b then w else record w { exchange = x }).cost ≡ w.cost
-cost_by true w x = refl
-cost_by false w x = refl
-
-count_by : (b : Bool) (w : World) (x : Exchange) → (if b then w else record w { exchange = x }).areas.pool.count ≡ w.areas.pool.count
-count_by true w x = refl
-count_by false w x = refl
-
-module _ (held new : Held) (kind : EventKind) (is : new ≡ after_event held kind) where
-  abbrev drops : Bool
-  drops = is_dropped held.setting.backlog held.machine.exchange (delivery_of kind)
-
-  cost_same : new.machine.cost ≡ held.machine.cost
-  cost_same = ap (λ (h : Held). h.machine.cost) is ∙ cost_by drops held.machine (with_delivery held.machine.exchange (delivery_of kind))
-
-  pub keeps_event : KeepsRun held new
-  keeps_event = record {
-    accepted = ap (λ (h : Held). h.accepted) is;
-    setting = ap (λ (h : Held). h.setting) is;
-    chunks = ap (λ (h : Held). h.machine.areas.pool.count) is ∙ count_by drops held.machine (with_delivery held.machine.exchange (delivery_of kind));
-  }
-
-  pub long_event : (k : Kept) → long_rank (record k { next = Next.Unread }) new ≡ long_rank k held
-  long_event k = ap (λ (n : ℕ). 3 * (new.setting.fuel - n) + under_rank k.under) cost_same ∙ ap (λ (h : Held). 3 * (h.setting.fuel - held.machine.cost) + under_rank k.under) is
-
-pub lines_event : (k : Kept) (event : Event) → k.next ≡ Next.Event event → lines_rank (record k { next = Next.Unread }) < lines_rank k
-lines_event k event e = let two : next_rank k.next ≡ 2 = ap next_rank e in omega (arith, two)

@@ -11,24 +11,26 @@ use Rattle.lawful_log.specs.Lawful.{nowhere}
 use Rattle.lawful_log.specs.Setup.{Setup, setting_of}
 use Rattle.lawful_log.specs.State.{State, start_of}
 use Rattle.resource_monitor.specs.Monitor.{MonitorState}
-use Rattle.runner.specs.Answers.{IsAtStartBy, CameTo, FellShort, HasRisen, IsRunEnd, KeepsRun}
-use Rattle.runner.specs.Counts.{CountsPart, CountsStep}
-use Rattle.runner.specs.declared.ends.Failure.{Failure}
-use Rattle.runner.specs.declared.ends.Halt.{Halt}
-use Rattle.runner.specs.Kept.{Kept}
-use Rattle.runner.specs.Lines.{failure_end, halt_end, end_lines}
-use Rattle.runner.specs.Output.{IsFitText, Output, unheld}
-use Rattle.runner.specs.Sound.{IsSound}
-use Rattle.runner.specs.Ways.{has_run}
-use Rattle.runner.specs.Stands.{StandsBetween, Stands, StandsSomehow}
-use Rattle.runner.specs.Steps.{HaltsAt, StepEnds, stop_line}
-use Rattle.runner.specs.Rest.{Rest, HasBytes, bytes_of, Knows, BackTo, Unasked, Told, Made}
+use Rattle.run_course.specs.Starts.{IsAtStartBy, KeepsRun}
+use Rattle.runner.specs.Answers.{CameTo, FellShort, IsRunEnd}
+use Rattle.run_course.specs.Counts.{HasRisen, CountsPart, CountsStep}
+use Rattle.run_course.specs.declared.ends.Failure.{Failure}
+use Rattle.run_course.specs.declared.ends.Halt.{Halt}
+use Rattle.run_course.specs.Kept.{Kept}
+use Rattle.runner.specs.Ends.{failure_end, halt_end}
+use Rattle.run_course.specs.Lines.{end_lines}
+use Rattle.run_course.specs.Output.{IsFitText, Output, unheld}
+use Rattle.run_course.specs.Sound.{IsSound}
+use Rattle.run_course.specs.Ways.{has_run}
+use Rattle.run_course.specs.Stands.{StandsBetween, Stands, StandsSomehow}
+use Rattle.run_course.specs.Steps.{HaltsAt, StepEnds, stop_line}
+use Rattle.run_course.specs.Rest.{Rest, HasBytes, bytes_of, Knows, BackTo, Unasked, Told, Made}
 use Rattle.schedule_log.specs.EntryText.{log_text}
 use Rattle.thread_core.specs.Worlds.{Held}
 use Rattle.runner.proofs.Following.{Follows, follows_first, follows_on, fails_now, comes_to, stops_short, fell_leads}
-use Rattle.runner.proofs.Parts.{no_acts}
-use Rattle.runner.proofs.Started.{start_sound}
-use Rattle.runner.proofs.Stepping.{keeps_on, keeps_same}
+use Rattle.run_course.proofs.Parts.{no_acts}
+use Rattle.run_course.proofs.Started.{start_sound}
+use Rattle.runner.proofs.StepLemmas.{keeps_on, keeps_same}
 use Rattle.chunk_pool.specs.Pool.{free_count}
 
 pub record RunsOn (first : Held) (rule : Rule) (monitor : MonitorState) (left_first taken_first : Option (List ℕ)) (reads_first writes_first : ℕ) (k : Kept) (held : Held) (told_left : Option (List ℕ)) (now : Output) (reads writes : ℕ) : Type 0 where

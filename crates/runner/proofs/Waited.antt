@@ -22,22 +22,20 @@ use Rattle.schedule_log.specs.declared.entries.StopLine.{StopLine}
 use Rattle.thread_core.specs.Making.{after_wait}
 use Rattle.thread_core.specs.Ready.{IsWake, any_ready_in}
 use Rattle.thread_core.specs.Worlds.{Held}
-use Rattle.runner.specs.declared.ends.Halt.{Halt}
-use Rattle.runner.specs.declared.looking.Next.{Next}
-use Rattle.runner.specs.Kept.{Kept, known}
-use Rattle.runner.specs.Ranks.{due_at, long_rank, lines_rank, stuck_rank}
-use Rattle.runner.specs.Stands.{IsTraceIn, IsTraceOf, FitsNext, StandsBetween, IsAtPoint}
-use Rattle.runner.proofs.Rules.{told_same}
-use Rattle.runner.specs.Answers.{KeepsRun}
-use Rattle.runner.specs.Times.{latest}
+use Rattle.run_course.specs.declared.ends.Halt.{Halt}
+use Rattle.run_course.specs.declared.looking.Next.{Next}
+use Rattle.run_course.specs.Kept.{Kept, known}
+use Rattle.run_course.specs.Ranks.{due_at, long_rank, lines_rank, stuck_rank}
+use Rattle.run_course.specs.Stands.{IsTraceIn, IsTraceOf, FitsNext, StandsBetween, IsAtPoint}
+use Rattle.run_course.proofs.Clocks.{clock_same}
+use Rattle.run_course.proofs.Rules.{told_same}
+use Rattle.run_course.specs.Starts.{KeepsRun}
+use Rattle.run_course.specs.Times.{latest}
 use Rattle.runner.specs.Waits.{earlier, time_of, MovesOn, StaysIdle}
-use Rattle.runner.specs.Rest.{Rest, HasBytes, Unasked, Told, Made}
-use Rattle.runner.proofs.Ready.{any_ready_told}
-use Rattle.runner.proofs.Times.{possible, timely_advanced}
+use Rattle.run_course.specs.Rest.{Rest, HasBytes, Unasked, Told, Made}
+use Rattle.run_course.proofs.Ready.{any_ready_told}
+use Rattle.run_course.proofs.Times.{possible, timely_advanced}
 use Rattle.runner.proofs.Waking.{AreWakes, time_within, time_least, none_earlier}
-
-pub clock_same : (state : State) (machine : World) → machine ≡ advanced state.machine machine.clock → machine.clock ≡ state.machine.clock → machine ≡ state.machine
-clock_same state machine is same = is ∙ ap (λ (n : ℕ). advanced state.machine n) same
 
 module _ (g : Setup) (state : State) (held : Held) (next : Option Event) (is : IsBetween g state (Some next) held.machine) (setting_is : held.setting ≡ setting_of g) where
   unready : any_ready_in held ≡ false → any_ready g state held.machine.clock ≡ false

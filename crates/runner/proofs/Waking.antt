@@ -12,7 +12,7 @@ use Rattle.lawful_steps.proofs.Clocks.{contains_tail, contains_later, contains_h
 use Rattle.machine_world.specs.Runs.{asleep_until}
 use Rattle.machine_world.specs.Threads.{Blocked, Setting, Thread, World}
 use Rattle.thread_core.specs.Ready.{IsWake}
-use Rattle.runner.specs.Times.{latest, IsTimely}
+use Rattle.run_course.specs.Times.{latest, IsTimely}
 use Rattle.runner.specs.Waits.{earlier, time_of}
 
 abbrev wake_in : Setting → World → Thread → Option ℕ

@@ -4,13 +4,13 @@ use Rattle.event_trace.specs.declared.events.Event.{Event}
 use Rattle.lawful_log.specs.Setup.{Setup}
 use Rattle.lawful_log.specs.State.{State}
 use Rattle.lawful_log.specs.Stops.{IsStop}
-use Rattle.runner.specs.declared.ends.Halt.{Halt}
+use Rattle.run_course.specs.declared.ends.Halt.{Halt}
 use Rattle.schedule_log.specs.declared.entries.StopLine.{StopLine}
 use Rattle.thread_core.specs.Worlds.{Held}
-use Rattle.runner.specs.Kept.{Kept}
-use Rattle.runner.specs.Ranks.{rank}
-use Rattle.runner.specs.Stands.{StandsBetween}
-use Rattle.runner.specs.Rest.{Rest, HasBytes}
+use Rattle.run_course.specs.Kept.{Kept}
+use Rattle.run_course.specs.Ranks.{rank}
+use Rattle.run_course.specs.Stands.{StandsBetween}
+use Rattle.run_course.specs.Rest.{Rest, HasBytes}
 
 -- the earlier of two times, where there are such
 abbrev pub earlier : Option ℕ → Option ℕ → Option ℕ

@@ -7,17 +7,10 @@
 // Behren et al., SOSP 2003).
 #![tactic(auto)]
 
-mod counted;
-mod course;
-mod deliveries;
-mod edges;
+mod closing;
 mod ends;
-mod fitting;
-mod lines;
-mod looking;
 mod running;
-mod segments;
-mod uses;
+mod stepping;
 mod waiting;
 
 pub use ends::RunEnd;

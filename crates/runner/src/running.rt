@@ -1,17 +1,19 @@
 ghost use Rattle.std.specs.Prelude.{◌≡◌};
 ghost use Rattle.choice_rules.specs.Policy.{by_stride};
 ghost use Rattle.lawful_log.specs.Setup.{Setup};
-ghost use Rattle.runner.specs.Answers.{IsAtStart, IsAtStartBy, IsRunEnd, KeepsRun};
-ghost use Rattle.runner.specs.Lines.{run_end};
-ghost use Rattle.runner.specs.Rules.{HasNothing, rule_of};
+ghost use Rattle.run_course.specs.Starts.{IsAtStart, IsAtStartBy, KeepsRun};
+ghost use Rattle.runner.specs.Answers.{IsRunEnd};
+ghost use Rattle.runner.specs.Ends.{run_end};
+ghost use Rattle.run_course.specs.Rules.{HasNothing, rule_of};
 ghost use Rattle.stride_rule.specs.State.{new_rule};
 
-use crate::course::Course;
-use crate::edges::write_end;
-use crate::ends::{Failure, RunEnd, failed_end};
+use crate::closing::write_end;
+use crate::ends::{RunEnd, end_of, failed_end};
+use crate::stepping::step;
 use cap_io::{Sink, Source};
 use resource_monitor::{Measure, Monitor};
 use rule_state::{RuleState, StridesAtNodes};
+use run_course::{Course, Failure};
 use schedule_log::LogWriter;
 use scheduler::Scheduler;
 use segment_run::sizes_law;
@@ -125,13 +127,13 @@ fn go<S: Source, K: Sink, C: Measure + Drop>(
         return Err(Failure::Memory);
     };
     loop {
-        match course.step(world, trace, &mut writer, out) {
+        match step(&mut course, world, trace, &mut writer, out) {
             Ok(None) => (),
             Ok(Some(halt)) => {
-                let written = write_end(world, &course.graph, halt, writer, out);
+                let written = write_end(world, course.graph(), halt, writer, out);
                 drop(course);
                 return match written {
-                    Ok(()) => Ok(halt.end()),
+                    Ok(()) => Ok(end_of(halt)),
                     Err(failure) => Err(failure),
                 };
             }

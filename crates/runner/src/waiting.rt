@@ -2,15 +2,15 @@ ghost use Rattle.std.specs.Prelude.{◌≡◌, false, List, None, Option, ℕ};
 ghost use Rattle.choice_rules.specs.Clock.{is_due};
 ghost use Rattle.lawful_log.specs.Setup.{Setup};
 ghost use Rattle.lawful_log.specs.State.{State};
-ghost use Rattle.runner.specs.Answers.{KeepsRun};
-ghost use Rattle.runner.specs.Kept.{Kept};
-ghost use Rattle.runner.specs.Stands.{IsAtPoint};
+ghost use Rattle.run_course.specs.Starts.{KeepsRun};
+ghost use Rattle.run_course.specs.Kept.{Kept};
+ghost use Rattle.run_course.specs.Stands.{IsAtPoint};
 ghost use Rattle.runner.specs.Waits.{WaitEnds, earlier, time_of};
-ghost use Rattle.runner.specs.Rest.{Rest};
+ghost use Rattle.run_course.specs.Rest.{Rest};
 ghost use Rattle.thread_core.specs.Ready.{any_ready_in};
 
-use crate::ends::Halt;
 use event_trace::Event;
+use run_course::Halt;
 use thread_core::World;
 
 /// The clock goes on to the next time at which something may go on, where no thread is ready and the next event isn't due; or

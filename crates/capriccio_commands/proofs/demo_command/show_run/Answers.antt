@@ -4,7 +4,7 @@ use Rattle.std.proofs.lemmas.Result.{err_from_is_err_and}
 use Rattle.accepted_pairs.specs.Accepting.{accepted_tree}
 use Rattle.command_words.specs.declared.options.Policy.{Policy}
 use Rattle.capriccio_commands.specs.Demos.{demo_policy}
-use Rattle.runner.specs.Output.{IsFitText}
+use Rattle.run_course.specs.Output.{IsFitText}
 use Rattle.capriccio_commands.specs.FitLogs.{TakesFit}
 use Rattle.pair_commands.specs.Runs.{RunsOn, pool_bytes, setup_of}
 use Rattle.capriccio_commands.proofs.FitCounting.{clean-fits}

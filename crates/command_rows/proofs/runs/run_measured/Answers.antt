@@ -4,7 +4,7 @@ use Rattle.accepted_pairs.specs.Accepting.{accepted_tree}
 use Rattle.choice_rules.specs.Policy.{by_graph}
 use Rattle.lawful_log.specs.Setup.{Setup}
 use Rattle.resource_monitor.specs.declared.curves.Curve.TheVariants.{Linear}
-use Rattle.runner.specs.Answers.{IsAtStart}
+use Rattle.run_course.specs.Starts.{IsAtStart}
 use Rattle.command_rows.specs.Given.{caps_of}
 use Rattle.command_rows.proofs.runs.run_measured.Goals as goal
 

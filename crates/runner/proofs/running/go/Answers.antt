@@ -1,18 +1,18 @@
 use Rattle.std.proofs.Common.{◌≡◌, ◌++◌, List, Option, Ok, Err, sym, ap, subst}
 use Rattle.std.specs.Io.KnownBytes.{Appends}
+use Rattle.blocking_graph.specs.Graph.{GraphState}
 use Rattle.blocking_graph.specs.declared.edges.EdgeLine.{EdgeLine}
 use Rattle.cap_io.specs.Writes.{Puts}
 use Rattle.schedule_log.specs.EntryText.{log_text}
 use Rattle.schedule_log.specs.Writing.{WriterState}
 use Rattle.runner.specs.Answers.{IsRunEnd}
-use Rattle.runner.specs.Kept.{Kept}
-use Rattle.runner.specs.Lines.{end_lines}
-use Rattle.runner.specs.Output.{IsFitText, output_of}
-use Rattle.runner.specs.Rules.{rule_of}
-use Rattle.runner.specs.Sound.{IsSound}
-use Rattle.runner.specs.Steps.{stop_line}
-use Rattle.runner.specs.declared.ends.Failure.{Failure}
-use Rattle.runner.specs.declared.ends.Halt.{Halt}
+use Rattle.run_course.specs.Lines.{end_lines}
+use Rattle.run_course.specs.Output.{IsFitText, output_of}
+use Rattle.run_course.specs.Rules.{rule_of}
+use Rattle.run_course.specs.Sound.{IsSound}
+use Rattle.run_course.specs.Steps.{stop_line}
+use Rattle.run_course.specs.declared.ends.Failure.{Failure}
+use Rattle.run_course.specs.declared.ends.Halt.{Halt}
 use Rattle.runner.specs.declared.ends.RunEnd.{RunEnd}
 use Rattle.runner.proofs.Rounds.{Ends, RunsOn, runs_first, stands_somehow, runs_step, run_fails, run_comes, run_unwritten, run_memory}
 use Rattle.runner.proofs.running.go.Goals as goal
@@ -49,30 +49,30 @@ write_end-written-requires g c = c.in-Ok-Some.ensures.unrefused
 
 pub returns-in-Err-clause-answer : goal.returns-in-Err-clause-answer
 returns-in-Err-clause-answer g c = λ s at.
-    run_fails c.args.world.now (rule_of c.args.rule) c.args.monitor (g.S.Source.left c.args.trace.now) (g.K.Sink.taken c.args.out.now) (g.S.Source.faults c.args.trace.now) (g.K.Sink.faults c.args.out.now) c.loop-halt.course c.loop-halt.world (g.S.Source.left c.loop-halt.trace) (output_of c.loop-halt.writer (g.K.Sink.taken c.loop-halt.out)) (g.S.Source.faults c.loop-halt.trace) (g.K.Sink.faults c.loop-halt.out) c.loop-halt.invariant.0 c.step.new.self c.step.new.world (g.S.Source.left c.step.new.trace) (output_of c.step.new.writer (g.K.Sink.taken c.step.new.out)) (g.S.Source.faults c.step.new.trace) (g.K.Sink.faults c.step.new.out) c.step.ensures.keeps c.in-Err.failure c.in-Err.ensures.ends c.in-Err.ensures.counts s at
+    run_fails c.args.world.now (rule_of c.args.rule) c.args.monitor (g.S.Source.left c.args.trace.now) (g.K.Sink.taken c.args.out.now) (g.S.Source.faults c.args.trace.now) (g.K.Sink.faults c.args.out.now) c.loop-halt.course c.loop-halt.world (g.S.Source.left c.loop-halt.trace) (output_of c.loop-halt.writer (g.K.Sink.taken c.loop-halt.out)) (g.S.Source.faults c.loop-halt.trace) (g.K.Sink.faults c.loop-halt.out) c.loop-halt.invariant.0 c.step.new.course c.step.new.world (g.S.Source.left c.step.new.trace) (output_of c.step.new.writer (g.K.Sink.taken c.step.new.out)) (g.S.Source.faults c.step.new.trace) (g.K.Sink.faults c.step.new.out) c.step.ensures.keeps c.in-Err.failure c.in-Err.ensures.ends c.in-Err.ensures.counts s at
 
 pub returns-in-Err-written-clause-answer : goal.returns-in-Err-written-clause-answer
 returns-in-Err-written-clause-answer g c = λ s at.
-    let ends = subst (λ (o : Option Halt). Ends c.loop-halt.course c.loop-halt.world (g.S.Source.left c.loop-halt.trace) (output_of c.loop-halt.writer (g.K.Sink.taken c.loop-halt.out)) c.step.new.self c.step.new.world (g.S.Source.left c.step.new.trace) (output_of c.step.new.writer (g.K.Sink.taken c.step.new.out)) (Ok o)) c.in-Ok-Some.field-0-is c.in-Ok-Some.ensures.ends in
-    let edges : c.course.inside.graph.edges ≡ c.step.new.self.graph.edges = ap (λ (k : Kept). k.graph.edges) c.course.view_is in
+    let ends = subst (λ (o : Option Halt). Ends c.loop-halt.course c.loop-halt.world (g.S.Source.left c.loop-halt.trace) (output_of c.loop-halt.writer (g.K.Sink.taken c.loop-halt.out)) c.step.new.course c.step.new.world (g.S.Source.left c.step.new.trace) (output_of c.step.new.writer (g.K.Sink.taken c.step.new.out)) (Ok o)) c.in-Ok-Some.field-0-is c.in-Ok-Some.ensures.ends in
+    let edges : c.graph.result.now.edges ≡ c.step.new.course.graph.edges = ap (λ (x : GraphState). x.edges) c.graph.ensures in
     let puts = subst (λ (es : List EdgeLine). Puts {E = Failure} (g.K.Sink.taken c.step.new.out) (g.K.Sink.taken c.write_end-written.new.out) (c.step.new.writer.held ++ log_text (end_lines c.step.new.world.setting.caps es (stop_line c.in-Ok-Some.halt (free_count c.step.new.world.machine.areas.pool)))) (Err c.in-Err-written.failure)) edges
     c.in-Err-written.ensures.bytes in
-    run_unwritten c.args.world.now (rule_of c.args.rule) c.args.monitor (g.S.Source.left c.args.trace.now) (g.K.Sink.taken c.args.out.now) (g.S.Source.faults c.args.trace.now) (g.K.Sink.faults c.args.out.now) c.loop-halt.course c.loop-halt.world (g.S.Source.left c.loop-halt.trace) (output_of c.loop-halt.writer (g.K.Sink.taken c.loop-halt.out)) (g.S.Source.faults c.loop-halt.trace) (g.K.Sink.faults c.loop-halt.out) c.loop-halt.invariant.0 c.step.new.self c.step.new.world (g.S.Source.left c.step.new.trace) (output_of c.step.new.writer (g.K.Sink.taken c.step.new.out)) (g.S.Source.faults c.step.new.trace) (g.K.Sink.faults c.step.new.out) c.step.ensures.keeps c.in-Ok-Some.halt ends c.in-Ok-Some.ensures.counts (g.K.Sink.taken c.write_end-written.new.out) (g.K.Sink.faults c.write_end-written.new.out)
+    run_unwritten c.args.world.now (rule_of c.args.rule) c.args.monitor (g.S.Source.left c.args.trace.now) (g.K.Sink.taken c.args.out.now) (g.S.Source.faults c.args.trace.now) (g.K.Sink.faults c.args.out.now) c.loop-halt.course c.loop-halt.world (g.S.Source.left c.loop-halt.trace) (output_of c.loop-halt.writer (g.K.Sink.taken c.loop-halt.out)) (g.S.Source.faults c.loop-halt.trace) (g.K.Sink.faults c.loop-halt.out) c.loop-halt.invariant.0 c.step.new.course c.step.new.world (g.S.Source.left c.step.new.trace) (output_of c.step.new.writer (g.K.Sink.taken c.step.new.out)) (g.S.Source.faults c.step.new.trace) (g.K.Sink.faults c.step.new.out) c.step.ensures.keeps c.in-Ok-Some.halt ends c.in-Ok-Some.ensures.counts (g.K.Sink.taken c.write_end-written.new.out) (g.K.Sink.faults c.write_end-written.new.out)
     c.in-Err-written.failure puts c.in-Err-written.ensures.counts s at
 
 pub returns-in-Ok-written-clause-answer : goal.returns-in-Ok-written-clause-answer
 returns-in-Ok-written-clause-answer g c = λ s at.
-    let ends = subst (λ (o : Option Halt). Ends c.loop-halt.course c.loop-halt.world (g.S.Source.left c.loop-halt.trace) (output_of c.loop-halt.writer (g.K.Sink.taken c.loop-halt.out)) c.step.new.self c.step.new.world (g.S.Source.left c.step.new.trace) (output_of c.step.new.writer (g.K.Sink.taken c.step.new.out)) (Ok o)) c.in-Ok-Some.field-0-is c.in-Ok-Some.ensures.ends in
-    let edges : c.course.inside.graph.edges ≡ c.step.new.self.graph.edges = ap (λ (k : Kept). k.graph.edges) c.course.view_is in
+    let ends = subst (λ (o : Option Halt). Ends c.loop-halt.course c.loop-halt.world (g.S.Source.left c.loop-halt.trace) (output_of c.loop-halt.writer (g.K.Sink.taken c.loop-halt.out)) c.step.new.course c.step.new.world (g.S.Source.left c.step.new.trace) (output_of c.step.new.writer (g.K.Sink.taken c.step.new.out)) (Ok o)) c.in-Ok-Some.field-0-is c.in-Ok-Some.ensures.ends in
+    let edges : c.graph.result.now.edges ≡ c.step.new.course.graph.edges = ap (λ (x : GraphState). x.edges) c.graph.ensures in
     let puts = subst (λ (es : List EdgeLine). Appends (g.K.Sink.taken c.step.new.out) (g.K.Sink.taken c.write_end-written.new.out) (c.step.new.writer.held ++ log_text (end_lines c.step.new.world.setting.caps es (stop_line c.in-Ok-Some.halt (free_count c.step.new.world.machine.areas.pool))))) edges
     c.in-Ok-written.ensures.bytes in
     let fits = subst (λ (es : List EdgeLine). IsFitText (log_text (end_lines c.step.new.world.setting.caps es (stop_line c.in-Ok-Some.halt (free_count c.step.new.world.machine.areas.pool))))) edges
     c.in-Ok-written.ensures.fits in
-    subst (λ (e : RunEnd). IsRunEnd s c.step.new.world (g.S.Source.left c.args.trace.now) (g.K.Sink.taken c.args.out.now) (g.K.Sink.taken c.write_end-written.new.out) (g.S.Source.faults c.args.trace.now) (g.S.Source.faults c.step.new.trace) (g.K.Sink.faults c.args.out.now) (g.K.Sink.faults c.write_end-written.new.out) e) (sym c.end.ensures)
-    (run_comes c.args.world.now (rule_of c.args.rule) c.args.monitor (g.S.Source.left c.args.trace.now) (g.K.Sink.taken c.args.out.now) (g.S.Source.faults c.args.trace.now) (g.K.Sink.faults c.args.out.now) c.loop-halt.course c.loop-halt.world (g.S.Source.left c.loop-halt.trace) (output_of c.loop-halt.writer (g.K.Sink.taken c.loop-halt.out)) (g.S.Source.faults c.loop-halt.trace) (g.K.Sink.faults c.loop-halt.out) c.loop-halt.invariant.0 c.step.new.self c.step.new.world (g.S.Source.left c.step.new.trace) (output_of c.step.new.writer (g.K.Sink.taken c.step.new.out)) (g.S.Source.faults c.step.new.trace) (g.K.Sink.faults c.step.new.out) c.step.ensures.keeps c.in-Ok-Some.halt ends c.in-Ok-Some.ensures.counts (g.K.Sink.taken c.write_end-written.new.out) (g.K.Sink.faults c.write_end-written.new.out)
+    subst (λ (e : RunEnd). IsRunEnd s c.step.new.world (g.S.Source.left c.args.trace.now) (g.K.Sink.taken c.args.out.now) (g.K.Sink.taken c.write_end-written.new.out) (g.S.Source.faults c.args.trace.now) (g.S.Source.faults c.step.new.trace) (g.K.Sink.faults c.args.out.now) (g.K.Sink.faults c.write_end-written.new.out) e) (sym c.end_of.ensures)
+    (run_comes c.args.world.now (rule_of c.args.rule) c.args.monitor (g.S.Source.left c.args.trace.now) (g.K.Sink.taken c.args.out.now) (g.S.Source.faults c.args.trace.now) (g.K.Sink.faults c.args.out.now) c.loop-halt.course c.loop-halt.world (g.S.Source.left c.loop-halt.trace) (output_of c.loop-halt.writer (g.K.Sink.taken c.loop-halt.out)) (g.S.Source.faults c.loop-halt.trace) (g.K.Sink.faults c.loop-halt.out) c.loop-halt.invariant.0 c.step.new.course c.step.new.world (g.S.Source.left c.step.new.trace) (output_of c.step.new.writer (g.K.Sink.taken c.step.new.out)) (g.S.Source.faults c.step.new.trace) (g.K.Sink.faults c.step.new.out) c.step.ensures.keeps c.in-Ok-Some.halt ends c.in-Ok-Some.ensures.counts (g.K.Sink.taken c.write_end-written.new.out) (g.K.Sink.faults c.write_end-written.new.out)
     puts fits c.in-Ok-written.ensures.counts s at)
 
 pub loop-halt-preserved : goal.loop-halt-preserved
 loop-halt-preserved g c =
-    let ends = subst (λ (o : Option Halt). Ends c.loop-halt.course c.loop-halt.world (g.S.Source.left c.loop-halt.trace) (output_of c.loop-halt.writer (g.K.Sink.taken c.loop-halt.out)) c.step.new.self c.step.new.world (g.S.Source.left c.step.new.trace) (output_of c.step.new.writer (g.K.Sink.taken c.step.new.out)) (Ok o)) c.in-Ok-None.field-0-is c.in-Ok-None.ensures.ends in
-    (runs_step c.args.world.now (rule_of c.args.rule) c.args.monitor (g.S.Source.left c.args.trace.now) (g.K.Sink.taken c.args.out.now) (g.S.Source.faults c.args.trace.now) (g.K.Sink.faults c.args.out.now) c.loop-halt.course c.loop-halt.world (g.S.Source.left c.loop-halt.trace) (output_of c.loop-halt.writer (g.K.Sink.taken c.loop-halt.out)) (g.S.Source.faults c.loop-halt.trace) (g.K.Sink.faults c.loop-halt.out) c.loop-halt.invariant.0 c.step.new.self c.step.new.world (g.S.Source.left c.step.new.trace) (output_of c.step.new.writer (g.K.Sink.taken c.step.new.out)) (g.S.Source.faults c.step.new.trace) (g.K.Sink.faults c.step.new.out) c.step.ensures.keeps ends c.in-Ok-None.ensures.counts, c.in-Ok-None.ensures.unrefused)
+    let ends = subst (λ (o : Option Halt). Ends c.loop-halt.course c.loop-halt.world (g.S.Source.left c.loop-halt.trace) (output_of c.loop-halt.writer (g.K.Sink.taken c.loop-halt.out)) c.step.new.course c.step.new.world (g.S.Source.left c.step.new.trace) (output_of c.step.new.writer (g.K.Sink.taken c.step.new.out)) (Ok o)) c.in-Ok-None.field-0-is c.in-Ok-None.ensures.ends in
+    (runs_step c.args.world.now (rule_of c.args.rule) c.args.monitor (g.S.Source.left c.args.trace.now) (g.K.Sink.taken c.args.out.now) (g.S.Source.faults c.args.trace.now) (g.K.Sink.faults c.args.out.now) c.loop-halt.course c.loop-halt.world (g.S.Source.left c.loop-halt.trace) (output_of c.loop-halt.writer (g.K.Sink.taken c.loop-halt.out)) (g.S.Source.faults c.loop-halt.trace) (g.K.Sink.faults c.loop-halt.out) c.loop-halt.invariant.0 c.step.new.course c.step.new.world (g.S.Source.left c.step.new.trace) (output_of c.step.new.writer (g.K.Sink.taken c.step.new.out)) (g.S.Source.faults c.step.new.trace) (g.K.Sink.faults c.step.new.out) c.step.ensures.keeps ends c.in-Ok-None.ensures.counts, c.in-Ok-None.ensures.unrefused)

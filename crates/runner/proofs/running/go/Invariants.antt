@@ -1,8 +1,8 @@
 use Rattle.std.proofs.Common.{◌≡◌}
 use Rattle.std.specs.Prelude.{None}
-use Rattle.runner.specs.Output.{output_of}
-use Rattle.runner.specs.Ranks.{rank}
-use Rattle.runner.specs.Rules.{rule_of}
+use Rattle.run_course.specs.Output.{output_of}
+use Rattle.run_course.specs.Ranks.{rank}
+use Rattle.run_course.specs.Rules.{rule_of}
 use Rattle.runner.proofs.Rounds.{RunsOn}
 use Rattle.runner.proofs.running.go.Given as goal
 

@@ -1,0 +1,29 @@
+-- What a run keeps beside its world.
+use Rattle.std.specs.Prelude.{ℕ, Option, None, Some, Result, Ok, Err}
+use Rattle.blocking_graph.specs.Graph.{GraphState}
+use Rattle.event_trace.specs.Reader.{ReaderState}
+use Rattle.event_trace.specs.declared.events.Event.{Event}
+use Rattle.resource_monitor.specs.Monitor.{MonitorState}
+use Rattle.rule_state.specs.declared.rules.RuleState.{RuleState}
+use Rattle.run_course.specs.declared.course.Under.{Under}
+use Rattle.run_course.specs.declared.looking.Next.{Next}
+
+pub record Kept : Type 0 where
+  pub rule : RuleState
+  pub graph : GraphState
+  pub monitor : MonitorState
+  pub reader : ReaderState
+  pub next : Next
+  pub under : Option Under
+
+-- the next line, if it has been looked at
+abbrev pub known : Next → Option (Option Event)
+known Next.Unread = None
+known (Next.Event event) = Some (Some event)
+known Next.Over = Some None
+
+-- how many lines an answer of a reader gives
+abbrev pub given_by : {E : Type 0} → Result (Option Event) E → ℕ
+given_by (Ok None) = 0
+given_by (Ok (Some event)) = 1
+given_by (Err refusal) = 0

@@ -1,0 +1,17 @@
+pub mod Kept
+pub mod Times
+pub mod Needs
+pub mod Rules
+pub mod Stands
+pub mod Steps
+pub mod Starts
+pub mod Lines
+pub mod Output
+pub mod Looks
+pub mod Counts
+pub mod Ranks
+pub mod Recorded
+pub mod Sound
+pub mod Ways
+pub mod Rest
+pub mod GoingOn

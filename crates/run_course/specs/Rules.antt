@@ -1,0 +1,46 @@
+-- The state of the rule beside the state of a log.
+use Rattle.std.specs.Prelude.{ℕ, ◌≡◌, ⊤, List, [], Option, None}
+use Rattle.cap_word.specs.declared.threads.ThreadId.{ThreadId}
+use Rattle.choice_rules.specs.Policy.{Rule, by_graph, by_stride}
+use Rattle.choice_rules.specs.Seen.{Waiter, Past}
+use Rattle.lawful_steps.specs.Beside.{HasLasts}
+use Rattle.lawful_steps.specs.Waiting.{AreQueued}
+use Rattle.machine_world.specs.Threads.{World}
+use Rattle.rule_state.specs.declared.rules.RuleState.{RuleState}
+use Rattle.rule_state.specs.declared.rules.RuleState.TheVariants.{Graph, Stride}
+use Rattle.scheduler.specs.State.{started}
+use Rattle.stride_rule.specs.State.{new_rule}
+use Rattle.stride_steps.specs.Clients.{AreClients, HasRunner}
+use Rattle.stride_steps.specs.Passes.{HasPasses}
+use Rattle.run_course.specs.Needs.{AreNeeded}
+
+-- the rule of a policy of which this is the state
+abbrev pub rule_of : RuleState → Rule
+rule_of (Graph scheduler) = by_graph
+rule_of (Stride strides) = by_stride strides.rule.tickets
+
+-- no thread was started
+abbrev pub HasNothing : RuleState → Type 0
+HasNothing (Graph scheduler) = scheduler ≡ started
+HasNothing (Stride strides) = strides ≡ record { rule = new_rule strides.rule.tickets; nodes = [] }
+
+-- between segments the threads that wait are kept by the rule, and none is under way
+abbrev pub AreKept : List (Option ℕ) → RuleState → List Waiter → Type 0
+AreKept places (Graph scheduler) waiting = AreQueued places scheduler waiting
+AreKept places (Stride strides) waiting = AreClients places strides waiting × (strides.rule.running ≡ None)
+
+-- within the segment of a thread they are, and that thread is under way
+abbrev pub AreKeptBeside : List (Option ℕ) → RuleState → List Waiter → ThreadId → Type 0
+AreKeptBeside places (Graph scheduler) waiting thread = AreQueued places scheduler waiting
+AreKeptBeside places (Stride strides) waiting thread = AreClients places strides waiting × HasRunner strides thread
+
+-- the needs that were told are those of the threads; the stride rule is told none
+abbrev pub AreTold : World → RuleState → Type 0
+AreTold w (Graph scheduler) = AreNeeded w scheduler
+AreTold w (Stride strides) = ⊤
+
+-- what the rule rests its choices on is as the past has it
+abbrev pub HasAccounts : Rule → RuleState → Past → Type 0
+HasAccounts by_graph (Graph scheduler) past = HasLasts scheduler past
+HasAccounts (by_stride tickets) (Stride strides) past = HasPasses tickets strides.rule past.taken
+HasAccounts _ _ past = ⊥

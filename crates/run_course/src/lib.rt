@@ -1,0 +1,24 @@
+// What a run keeps beside its world of threads, and the parts of its steps.
+//
+// In: a world, an event of a trace, a sink. Out: a `Course` with the rule of choice, the graph, the monitor, the reader of the
+// trace and the segment that is under way; and in the sink the lines of what was done. A look reads the next line of the trace,
+// a delivery takes an event, a choice begins a segment, and a pass tells what its thread did last and goes on. `runner` makes
+// steps and a whole run of these. The clauses say by the lawful log (`lawful_log`) what each part may write, and not how.
+#![tactic(auto)]
+
+mod counted;
+mod course;
+mod deliveries;
+mod edges;
+mod ends;
+mod fitting;
+mod lines;
+mod looking;
+mod segments;
+mod uses;
+
+pub use course::{Course, Under};
+pub use edges::write_edges;
+pub use ends::{Failure, Halt, goes_on};
+pub use lines::{failure_of, write_line};
+pub use looking::{Looked, Next};

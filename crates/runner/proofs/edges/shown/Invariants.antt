@@ -1,5 +1,0 @@
-use Rattle.runner.proofs.Edged.{IsShown}
-use Rattle.runner.proofs.edges.shown.Given as goal
-
-abbrev pub invariant-loop-resource : goal.invariant-loop-resource
-invariant-loop-resource l = IsShown l.world.setting.caps l.change l.places l.used l.resource

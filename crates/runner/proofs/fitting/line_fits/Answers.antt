@@ -1,5 +1,0 @@
-use Rattle.runner.proofs.FitTexts.{fit_one}
-use Rattle.runner.proofs.fitting.line_fits.Goals as goal
-
-pub returns : goal.returns
-returns c = fit_one c.args.entry.now c.entry_fits.ensures

@@ -1,9 +1,0 @@
-use Rattle.std.proofs.Common.{ℕ, ◌^◌, ◌<◌, subst, arith}
-use Rattle.std.proofs.lemmas.List.{get_or_default}
-use Rattle.std.proofs.lemmas.List.Elements.{recursion_from_All}
-use Rattle.runner.proofs.fitting.words_fit.Goals as goal
-
-pub returns : goal.returns
-returns c =
-    recursion_from_All (λ (n : ℕ). n < 2 ^ 32) c.args.words.now
-    (λ k d within. subst (λ (n : ℕ). n < 2 ^ 32) (get_or_default c.args.words.now k 0 d within) (omega (arith, c.type_inv.words k)))
