@@ -1,21 +1,30 @@
 // A program that makes a run of Capriccio and shows what happened in it.
 //
 // In: options of its own and the words of the run, the source in a file, and the trace on standard input. Out: a report on
-// standard output, pictures in files, and the status of the run. The run is that of `capriccio`, which the crate `report_run` calls
+// standard output, pictures in files, and the status of the run. The run is that of `capriccio`, which `make_run` calls
 // over a log in memory; with `--log` a stored log is read in place of a run. docs/REPORT.md says what the report tells. `show` of
 // outcome.rt is the whole program over the objects that it is handed; `main` makes the real ones.
 #![tactic(auto)]
 
+mod again;
+mod code;
 mod failures;
 mod inputs;
 mod outcome;
+mod outside;
+mod run;
+mod segments;
+mod stacks;
+mod starting;
+mod stop;
 mod subject;
+mod uses;
 mod wanted;
 
 use crate::failures::{Failure, tell};
 use crate::outcome::show;
 use cap_io::{DirShelf, StdSink, StdSource};
-use report_run::words_of;
+use capriccio_call::words_of;
 use std::process::ExitCode;
 
 fn main(rt: HostRuntime) -> ExitCode {

@@ -1,18 +1,19 @@
+use crate::again::Told;
 use crate::failures::{Failure, of_places, of_report, of_text};
 use crate::inputs::{load, read_whole, store};
+use crate::run::{let_go, make_run};
+use crate::starting::make_once_more;
+use crate::stop::put_stop;
 use crate::subject::{Subject, subject_of};
 use crate::wanted::Wanted;
 use cap_io::{CleanSink, CleanSource, Shelf, Sink, Source, put_all};
 use choice_reasons::Holders;
-use report_run::{let_go, make_once_more, make_run};
 use report_text::{
     Decided, Places, ReportError, last_line, put_blocking, put_line, put_report, put_times,
     times_of,
 };
-use run_again::Told;
 use schedule_log::read_entry;
 use std::alloc::{AllocError, Global};
-use stop_report::put_stop;
 use thread_core::World;
 
 /// The most bytes of a source.

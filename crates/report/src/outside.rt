@@ -1,0 +1,67 @@
+// What comes to a world that is made again, and its clock.
+ghost use Rattle.report.specs.Between.{IsBetween};
+
+use event_trace::{Event, EventKind};
+use schedule_log::Item;
+use thread_core::World;
+
+/// The latest clock of a run.
+const LAST: u64 = 0x8000_0000_0000_0000;
+
+/// How many channels there are.
+const CHANNELS: u32 = 64;
+
+/// The clock goes on to that time. False where it is past, or later than any.
+pub(crate) fn reach(world: &mut World, clock: u64) -> bool
+    requires { IsBetween world.old }
+    ensures { IsBetween world.new }
+{
+    if clock < world.clock() || clock > LAST {
+        return false;
+    }
+    world.advance(clock);
+    true
+}
+
+/// An item comes at that time, as the log says. False where it can't.
+pub(crate) fn come(world: &mut World, clock: u64, item: &Item) -> bool
+    requires { IsBetween world.old }
+    ensures { IsBetween world.new }
+{
+    if !reach(world, clock) {
+        return false;
+    }
+    match item {
+        Item::Arrive { value } => {
+            arrive(world, clock, value.cast_unsigned());
+            true
+        }
+        Item::Data { channel, value } => send(world, clock, *channel, value.cast_unsigned()),
+    }
+}
+
+/// A request comes.
+fn arrive(world: &mut World, time: u64, value: u32)
+    requires { IsBetween world.old }
+    ensures { IsBetween world.new }
+{
+    world.deliver(Event {
+        time,
+        kind: EventKind::Arrive { value },
+    });
+}
+
+/// A message comes. False where there is no such channel.
+fn send(world: &mut World, time: u64, channel: u32, value: u32) -> bool
+    requires { IsBetween world.old }
+    ensures { IsBetween world.new }
+{
+    if channel >= CHANNELS {
+        return false;
+    }
+    world.deliver(Event {
+        time,
+        kind: EventKind::Message { channel, value },
+    });
+    true
+}
