@@ -15,6 +15,7 @@ mod first;
 mod site_rules;
 mod tables;
 
+pub use accepted_pairs::Accepted;
 pub use checking::{CheckError, check};
 pub use failures::Failure;
 pub use first::first_failure;
