@@ -5,7 +5,7 @@ use Rattle.std.proofs.KnownBytes.{Appends-nil, Appends-trans}
 use Rattle.std.proofs.lemmas.List.{take-append-le}
 use Rattle.cap_io.specs.Writes.{Puts}
 use Rattle.schedule_log.specs.Writing.{TakesPrefix}
-use Rattle.schedule_log.specs.declared.writing.PutError.{PutError}
+use Rattle.buffered_writer.specs.declared.writer.PutError.{PutError}
 use Rattle.schedule_log.proofs.Written.{prefix_none, put_finished}
 use Rattle.run_course.specs.declared.ends.Failure.{Failure}
 use Rattle.run_course.specs.Output.{Output, joined, TakesPart, Grows, PutsText}

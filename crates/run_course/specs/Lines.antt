@@ -7,7 +7,7 @@ use Rattle.choice_rules.specs.EdgeLines.{shown}
 use Rattle.run_course.specs.declared.ends.Failure.{Failure}
 use Rattle.schedule_log.specs.declared.entries.Entry.{Entry}
 use Rattle.schedule_log.specs.declared.entries.StopLine.{StopLine}
-use Rattle.schedule_log.specs.declared.writing.PutError.{PutError}
+use Rattle.buffered_writer.specs.declared.writer.PutError.{PutError}
 use Rattle.thread_core.specs.declared.outside.Delivered.{Delivered}
 
 -- the line of what came

@@ -5,4 +5,4 @@ pub mod KeyPieces
 pub mod ListsRead
 pub mod LogLines
 pub mod Pushed
-pub mod Written
+pub use Rattle.buffered_writer.proofs.Written

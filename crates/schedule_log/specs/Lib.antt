@@ -1,6 +1,6 @@
 pub mod Averages
 pub mod EntryRanges
 pub mod EntryText
-pub mod Puts
 pub mod Readings
-pub mod Writing
+pub use Rattle.buffered_writer.specs.Puts
+pub use Rattle.buffered_writer.specs.Writing

@@ -17,8 +17,9 @@ mod writer;
 mod writing;
 
 pub use averages::Averages;
+pub use buffered_writer::PutError;
 pub use entries::{Entry, Item, StopLine};
 pub use laws::log_lines_are_entries;
 pub use reading::{LogError, read_entry};
 pub use writer::LogWriter;
-pub use writing::{PutError, put_entry};
+pub use writing::put_entry;

@@ -1,37 +1,31 @@
-// A writer of a log through a buffer.
-ghost use Rattle.std.specs.Prelude.{◌≡◌, ◌≤◌, ◌<◌, ◌∷◌, [], ◌++◌, length, true, false, OnOk, IfOk, IfSome, IsSome, None, Err};
+// A writer of a log.
+ghost use Rattle.std.specs.Prelude.{◌≡◌, ◌≤◌, ◌∷◌, [], ◌++◌, length, OnOk, IfOk, IfSome, None, Err};
 ghost use Rattle.std.specs.Io.KnownBytes.{Appends, append_known};
 ghost use Rattle.cap_io.specs.Writes.{Puts};
 ghost use Rattle.schedule_log.specs.EntryText.{entry_text};
 ghost use Rattle.schedule_log.specs.Puts.{CountsPut};
-ghost use Rattle.schedule_log.specs.Writing.{KeepsAnswer, TakesPrefix, Writes, log_state};
+ghost use Rattle.schedule_log.specs.Writing.{KeepsAnswer, TakesPrefix};
 
 use crate::Entry;
-use crate::writing::{PutError, write_line};
-use cap_io::{Sink, SinkError, put_all};
+use crate::writing::write_line;
+use buffered_writer::{BufferedWriter, PutError};
+use cap_io::Sink;
 use std::alloc::{AllocError, Global};
 use std::marker::Model;
-
-/// The most bytes that a writer holds.
-const BUFFER_BYTES: usize = 4096;
 
 /// Writes entries to a sink through a buffer of 4,096 bytes, which goes to the sink when it is full and at the end.
 /// Contracts see the bytes that it holds, which its sink did not take yet, and the refusal that it gave, if it gave one.
 #[derive(Drop)]
 pub struct LogWriter {
-    held: Vec<u8>,
-    refused: Option<PutError>,
+    bytes: BufferedWriter,
 }
 
 impl Model for LogWriter {
-    ghost use Rattle.std.specs.Prelude.{◌≤◌, vec_len, vec_capacity};
     ghost use Rattle.schedule_log.specs.Writing.{WriterState};
 
     ghost Value = { WriterState };
 
-    ghost view = { λ w. record { held = w.held.items; refused = w.refused } };
-
-    ghost invariant = { λ w. (vec_len w.held ≤ 4096) × (4096 ≤ vec_capacity w.held) };
+    ghost view = { λ w. w.bytes };
 }
 
 impl LogWriter {
@@ -40,8 +34,7 @@ impl LogWriter {
         ensures { IfOk result (λ writer. writer ≡ record { held = []; refused = None }) }
     {
         Ok(LogWriter {
-            held: Vec::with_capacity(alloc, BUFFER_BYTES)?,
-            refused: None,
+            bytes: BufferedWriter::new(alloc)?,
         })
     }
 
@@ -63,11 +56,11 @@ impl LogWriter {
         ensures never_falls { K.faults out.old ≤ K.faults out.new }
         ensures most { length self.new.held ≤ 4096 }
     {
-        match self.refused {
-            Some(refusal) => Err(refusal),
-            None => {
-                write_line(self, out, entry);
-                self.answer()
+        match self.bytes.answer() {
+            Err(refusal) => Err(refusal),
+            Ok(()) => {
+                write_line(&mut self.bytes, out, entry);
+                self.bytes.answer()
             }
         }
     }
@@ -83,96 +76,6 @@ impl LogWriter {
         ensures counts { self.refused ≡ None → CountsPut result (K.faults out.old) (K.faults out.new) }
         ensures never_falls { K.faults out.old ≤ K.faults out.new }
     {
-        match self.refused {
-            Some(earlier) => Err(earlier),
-            None => send(out, &self.held),
-        }
-    }
-
-    /// Writes these bytes, unless a refusal was given.
-    pub(crate) fn write<K: Sink>(&mut self, out: &mut K, bytes: &[u8])
-        ensures { Writes (log_state self.old (K.taken out.old) (K.faults out.old))
-            (log_state self.new (K.taken out.new) (K.faults out.new)) bytes.now }
-    {
-        for byte in bytes {
-            self.write_byte(out, *byte);
-        }
-    }
-
-    /// The same of one byte.
-    pub(crate) fn write_byte<K: Sink>(&mut self, out: &mut K, byte: u8)
-        ensures { Writes (log_state self.old (K.taken out.old) (K.faults out.old))
-            (log_state self.new (K.taken out.new) (K.faults out.new)) (byte ∷ []) }
-    {
-        self.make_room(out);
-        self.hold(byte);
-    }
-
-    /// Makes room for a byte, unless a refusal was given.
-    fn make_room<K: Sink>(&mut self, out: &mut K)
-        ensures bytes { Writes (log_state self.old (K.taken out.old) (K.faults out.old))
-            (log_state self.new (K.taken out.new) (K.faults out.new)) [] }
-        ensures room { self.new.refused ≡ None → length self.new.held < 4096 }
-    {
-        if self.is_full() {
-            self.flush(out);
-        }
-    }
-
-    /// Tells whether the buffer has no room left, and no refusal was given.
-    fn is_full(&self) -> bool
-        ensures room { result ≡ false → self.now.refused ≡ None → length self.now.held < 4096 }
-        ensures unrefused { result ≡ true → self.now.refused ≡ None }
-    {
-        self.refused.is_none() && self.held.len() == BUFFER_BYTES
-    }
-
-    /// Holds one byte more, unless a refusal was given.
-    fn hold(&mut self, byte: u8)
-        requires { self.old.refused ≡ None → length self.old.held < 4096 }
-        ensures refused { self.new.refused ≡ self.old.refused }
-        ensures more { self.old.refused ≡ None → self.new.held ≡ self.old.held ++ byte ∷ [] }
-        ensures stays { IsSome self.old.refused → self.new ≡ self.old }
-    {
-        if self.refused.is_none() {
-            self.held.push_reserved(byte);
-        }
-    }
-
-    /// Writes what is held to the sink, and holds nothing where it took all of it.
-    fn flush<K: Sink>(&mut self, out: &mut K)
-        requires { self.old.refused ≡ None }
-        ensures bytes { Writes (log_state self.old (K.taken out.old) (K.faults out.old))
-            (log_state self.new (K.taken out.new) (K.faults out.new)) [] }
-        ensures empty { self.new.refused ≡ None → self.new.held ≡ [] }
-    {
-        match send(out, &self.held) {
-            Ok(()) => self.held.clear(),
-            Err(refusal) => self.refused = Some(refusal),
-        }
-    }
-
-    /// What the writer answers: the refusal that it keeps.
-    fn answer(&self) -> Result<(), PutError>
-        ensures kept { KeepsAnswer self.now result }
-        ensures most { length self.now.held ≤ 4096 }
-    {
-        match self.refused {
-            None => Ok(()),
-            Some(refusal) => Err(refusal),
-        }
-    }
-}
-
-/// Writes these bytes to the sink.
-fn send<K: Sink>(out: &mut K, bytes: &[u8]) -> Result<(), PutError>
-    ensures bytes { Puts (K.taken out.old) (K.taken out.new) bytes.now result }
-    ensures counts { CountsPut result (K.faults out.old) (K.faults out.new) }
-    ensures never_falls { K.faults out.old ≤ K.faults out.new }
-{
-    match put_all(out, bytes) {
-        Ok(()) => Ok(()),
-        Err(SinkError::Failed) => Err(PutError::WriteFault),
-        Err(SinkError::Memory) => Err(PutError::Memory),
+        self.bytes.finish(out)
     }
 }

@@ -7,19 +7,11 @@ ghost use Rattle.cap_text.specs.Decimals.{canonical_decimal, canonical_integer};
 ghost use Rattle.schedule_log.specs.EntryText.{after_blanks, cause_fields, entry_text, item_fields, key_field, more_sites, stop_fields, trap_field};
 
 use crate::{Averages, Entry, Item, LogWriter, StopLine};
+use buffered_writer::{BufferedWriter, PutError};
 use cap_io::Sink;
 use cap_word::{SiteKey, Stop, TrapKind};
 use itoa::Buffer;
 use std::alloc::Global;
-
-/// Why an entry was not put.
-#[derive(Clone, Copy, PartialEq, Eq)]
-pub enum PutError {
-    /// A write failed: the sink counted a fault.
-    WriteFault,
-    /// There was no memory, here or in the sink.
-    Memory,
-}
 
 /// Writes the line of `entry` to `out`, and its line feed.
 ///
@@ -53,7 +45,7 @@ fn put_alone<K: Sink>(mut writer: LogWriter, out: &mut K, entry: &Entry) -> Resu
 }
 
 // Writes an entry's line and its line feed, unless the writer gave a refusal. So do those below of parts of a line.
-pub(crate) fn write_line<K: Sink>(writer: &mut LogWriter, out: &mut K, entry: &Entry)
+pub(crate) fn write_line<K: Sink>(writer: &mut BufferedWriter, out: &mut K, entry: &Entry)
     ensures { Writes (log_state writer.old (K.taken out.old) (K.faults out.old))
         (log_state writer.new (K.taken out.new) (K.faults out.new)) (entry_text entry.now ++ 10 ∷ []) }
 {
@@ -62,7 +54,7 @@ pub(crate) fn write_line<K: Sink>(writer: &mut LogWriter, out: &mut K, entry: &E
 }
 
 #[tactic(auto, unfolding(crate::specs::EntryText::entry_text))]
-fn write_entry<K: Sink>(writer: &mut LogWriter, out: &mut K, entry: &Entry)
+fn write_entry<K: Sink>(writer: &mut BufferedWriter, out: &mut K, entry: &Entry)
     ensures { Writes (log_state writer.old (K.taken out.old) (K.faults out.old))
         (log_state writer.new (K.taken out.new) (K.faults out.new)) (entry_text entry.now) }
 {
@@ -94,7 +86,7 @@ fn write_entry<K: Sink>(writer: &mut LogWriter, out: &mut K, entry: &Entry)
     }
 }
 
-fn write_event<K: Sink>(writer: &mut LogWriter, out: &mut K, clock: u64, item: &Item)
+fn write_event<K: Sink>(writer: &mut BufferedWriter, out: &mut K, clock: u64, item: &Item)
     ensures { Writes (log_state writer.old (K.taken out.old) (K.faults out.old))
         (log_state writer.new (K.taken out.new) (K.faults out.new)) (codes "event" ++ after_blanks (canonical_decimal clock ∷ item_fields item.now)) }
 {
@@ -103,7 +95,7 @@ fn write_event<K: Sink>(writer: &mut LogWriter, out: &mut K, clock: u64, item: &
     write_item(writer, out, item);
 }
 
-fn write_dropped<K: Sink>(writer: &mut LogWriter, out: &mut K, clock: u64, item: &Item)
+fn write_dropped<K: Sink>(writer: &mut BufferedWriter, out: &mut K, clock: u64, item: &Item)
     ensures { Writes (log_state writer.old (K.taken out.old) (K.faults out.old))
         (log_state writer.new (K.taken out.new) (K.faults out.new)) (codes "drop" ++ after_blanks (canonical_decimal clock ∷ item_fields item.now)) }
 {
@@ -112,7 +104,7 @@ fn write_dropped<K: Sink>(writer: &mut LogWriter, out: &mut K, clock: u64, item:
     write_item(writer, out, item);
 }
 
-fn write_run<K: Sink>(writer: &mut LogWriter, out: &mut K, clock: u64, thread: u32, node: u32)
+fn write_run<K: Sink>(writer: &mut BufferedWriter, out: &mut K, clock: u64, thread: u32, node: u32)
     ensures { Writes (log_state writer.old (K.taken out.old) (K.faults out.old))
         (log_state writer.new (K.taken out.new) (K.faults out.new)) (codes "run"
         ++ after_blanks (canonical_decimal clock ∷ canonical_decimal thread ∷ canonical_decimal node ∷ [])) }
@@ -123,7 +115,7 @@ fn write_run<K: Sink>(writer: &mut LogWriter, out: &mut K, clock: u64, thread: u
     write_word(writer, out, node);
 }
 
-fn write_out<K: Sink>(writer: &mut LogWriter, out: &mut K, thread: u32, value: i32)
+fn write_out<K: Sink>(writer: &mut BufferedWriter, out: &mut K, thread: u32, value: i32)
     ensures { Writes (log_state writer.old (K.taken out.old) (K.faults out.old))
         (log_state writer.new (K.taken out.new) (K.faults out.new)) (codes "out"
         ++ after_blanks (canonical_decimal thread ∷ canonical_integer value ∷ [])) }
@@ -134,7 +126,7 @@ fn write_out<K: Sink>(writer: &mut LogWriter, out: &mut K, thread: u32, value: i
 }
 
 fn write_block<K: Sink>(
-    writer: &mut LogWriter,
+    writer: &mut BufferedWriter,
     out: &mut K,
     thread: u32,
     node: u32,
@@ -154,7 +146,7 @@ fn write_block<K: Sink>(
     write_segment(writer, out, cost, free);
 }
 
-fn write_end<K: Sink>(writer: &mut LogWriter, out: &mut K, thread: u32, cost: u64, free: u32)
+fn write_end<K: Sink>(writer: &mut BufferedWriter, out: &mut K, thread: u32, cost: u64, free: u32)
     ensures { Writes (log_state writer.old (K.taken out.old) (K.faults out.old))
         (log_state writer.new (K.taken out.new) (K.faults out.new)) (codes "end"
         ++ after_blanks (canonical_decimal thread ∷ canonical_decimal cost ∷ canonical_decimal free ∷ [])) }
@@ -165,7 +157,7 @@ fn write_end<K: Sink>(writer: &mut LogWriter, out: &mut K, thread: u32, cost: u6
 }
 
 fn write_edge<K: Sink>(
-    writer: &mut LogWriter,
+    writer: &mut BufferedWriter,
     out: &mut K,
     from: u32,
     to: u32,
@@ -187,7 +179,7 @@ fn write_edge<K: Sink>(
 }
 
 // A stop line.
-fn write_last<K: Sink>(writer: &mut LogWriter, out: &mut K, stop: &StopLine)
+fn write_last<K: Sink>(writer: &mut BufferedWriter, out: &mut K, stop: &StopLine)
     ensures { Writes (log_state writer.old (K.taken out.old) (K.faults out.old))
         (log_state writer.new (K.taken out.new) (K.faults out.new)) (codes "stop" ++ after_blanks (stop_fields stop.now)) }
 {
@@ -196,7 +188,7 @@ fn write_last<K: Sink>(writer: &mut LogWriter, out: &mut K, stop: &StopLine)
 }
 
 // A blank and a field of a number from 0 up.
-fn write_number<K: Sink>(writer: &mut LogWriter, out: &mut K, number: u64)
+fn write_number<K: Sink>(writer: &mut BufferedWriter, out: &mut K, number: u64)
     ensures { Writes (log_state writer.old (K.taken out.old) (K.faults out.old))
         (log_state writer.new (K.taken out.new) (K.faults out.new)) (32 ∷ canonical_decimal number) }
 {
@@ -204,7 +196,7 @@ fn write_number<K: Sink>(writer: &mut LogWriter, out: &mut K, number: u64)
 }
 
 // The same of a number of 32 bits.
-fn write_word<K: Sink>(writer: &mut LogWriter, out: &mut K, number: u32)
+fn write_word<K: Sink>(writer: &mut BufferedWriter, out: &mut K, number: u32)
     ensures { Writes (log_state writer.old (K.taken out.old) (K.faults out.old))
         (log_state writer.new (K.taken out.new) (K.faults out.new)) (32 ∷ canonical_decimal number) }
 {
@@ -212,7 +204,7 @@ fn write_word<K: Sink>(writer: &mut LogWriter, out: &mut K, number: u32)
 }
 
 // A `<` and a site.
-fn write_site<K: Sink>(writer: &mut LogWriter, out: &mut K, site: u32)
+fn write_site<K: Sink>(writer: &mut BufferedWriter, out: &mut K, site: u32)
     ensures { Writes (log_state writer.old (K.taken out.old) (K.faults out.old))
         (log_state writer.new (K.taken out.new) (K.faults out.new)) (60 ∷ canonical_decimal site) }
 {
@@ -220,7 +212,7 @@ fn write_site<K: Sink>(writer: &mut LogWriter, out: &mut K, site: u32)
 }
 
 // That byte and a number from 0 up.
-fn write_after<K: Sink>(writer: &mut LogWriter, out: &mut K, separator: u8, number: u64)
+fn write_after<K: Sink>(writer: &mut BufferedWriter, out: &mut K, separator: u8, number: u64)
     ensures { Writes (log_state writer.old (K.taken out.old) (K.faults out.old))
         (log_state writer.new (K.taken out.new) (K.faults out.new)) (separator ∷ canonical_decimal number) }
 {
@@ -229,7 +221,7 @@ fn write_after<K: Sink>(writer: &mut LogWriter, out: &mut K, separator: u8, numb
 }
 
 // A blank and a field of a whole number.
-fn write_integer<K: Sink>(writer: &mut LogWriter, out: &mut K, number: i128)
+fn write_integer<K: Sink>(writer: &mut BufferedWriter, out: &mut K, number: i128)
     ensures { Writes (log_state writer.old (K.taken out.old) (K.faults out.old))
         (log_state writer.new (K.taken out.new) (K.faults out.new)) (32 ∷ canonical_integer number) }
 {
@@ -238,7 +230,7 @@ fn write_integer<K: Sink>(writer: &mut LogWriter, out: &mut K, number: i128)
 }
 
 // A whole number.
-fn write_digits<K: Sink>(writer: &mut LogWriter, out: &mut K, number: i128)
+fn write_digits<K: Sink>(writer: &mut BufferedWriter, out: &mut K, number: i128)
     ensures { Writes (log_state writer.old (K.taken out.old) (K.faults out.old))
         (log_state writer.new (K.taken out.new) (K.faults out.new)) (canonical_integer number) }
 {
@@ -247,7 +239,7 @@ fn write_digits<K: Sink>(writer: &mut LogWriter, out: &mut K, number: i128)
 }
 
 // A blank and a field of a word as a signed number.
-fn write_signed<K: Sink>(writer: &mut LogWriter, out: &mut K, value: i32)
+fn write_signed<K: Sink>(writer: &mut BufferedWriter, out: &mut K, value: i32)
     ensures { Writes (log_state writer.old (K.taken out.old) (K.faults out.old))
         (log_state writer.new (K.taken out.new) (K.faults out.new)) (32 ∷ canonical_integer value) }
 {
@@ -255,7 +247,7 @@ fn write_signed<K: Sink>(writer: &mut LogWriter, out: &mut K, value: i32)
 }
 
 // A blank and a key: its sites with `<` between.
-fn write_key<K: Sink>(writer: &mut LogWriter, out: &mut K, key: &SiteKey)
+fn write_key<K: Sink>(writer: &mut BufferedWriter, out: &mut K, key: &SiteKey)
     ensures { Writes (log_state writer.old (K.taken out.old) (K.faults out.old))
         (log_state writer.new (K.taken out.new) (K.faults out.new)) (32 ∷ key_field key.now) }
 {
@@ -265,7 +257,7 @@ fn write_key<K: Sink>(writer: &mut LogWriter, out: &mut K, key: &SiteKey)
 }
 
 // The sites after the first, each after a `<`.
-fn write_sites<K: Sink>(writer: &mut LogWriter, out: &mut K, sites: &[u32])
+fn write_sites<K: Sink>(writer: &mut BufferedWriter, out: &mut K, sites: &[u32])
     ensures { Writes (log_state writer.old (K.taken out.old) (K.faults out.old))
         (log_state writer.new (K.taken out.new) (K.faults out.new)) (more_sites sites.now) }
 {
@@ -275,7 +267,7 @@ fn write_sites<K: Sink>(writer: &mut LogWriter, out: &mut K, sites: &[u32])
 }
 
 // The averages, each after a blank.
-fn write_averages<K: Sink>(writer: &mut LogWriter, out: &mut K, averages: &Averages)
+fn write_averages<K: Sink>(writer: &mut BufferedWriter, out: &mut K, averages: &Averages)
     ensures { Writes (log_state writer.old (K.taken out.old) (K.faults out.old))
         (log_state writer.new (K.taken out.new) (K.faults out.new)) (after_blanks (map canonical_integer averages.now)) }
 {
@@ -284,7 +276,7 @@ fn write_averages<K: Sink>(writer: &mut LogWriter, out: &mut K, averages: &Avera
     }
 }
 
-fn write_item<K: Sink>(writer: &mut LogWriter, out: &mut K, item: &Item)
+fn write_item<K: Sink>(writer: &mut BufferedWriter, out: &mut K, item: &Item)
     ensures { Writes (log_state writer.old (K.taken out.old) (K.faults out.old))
         (log_state writer.new (K.taken out.new) (K.faults out.new)) (after_blanks (item_fields item.now)) }
 {
@@ -294,7 +286,7 @@ fn write_item<K: Sink>(writer: &mut LogWriter, out: &mut K, item: &Item)
     }
 }
 
-fn write_arrival<K: Sink>(writer: &mut LogWriter, out: &mut K, value: i32)
+fn write_arrival<K: Sink>(writer: &mut BufferedWriter, out: &mut K, value: i32)
     ensures { Writes (log_state writer.old (K.taken out.old) (K.faults out.old))
         (log_state writer.new (K.taken out.new) (K.faults out.new)) (after_blanks (codes "arrive" ∷ canonical_integer value ∷ [])) }
 {
@@ -302,7 +294,7 @@ fn write_arrival<K: Sink>(writer: &mut LogWriter, out: &mut K, value: i32)
     write_signed(writer, out, value);
 }
 
-fn write_message<K: Sink>(writer: &mut LogWriter, out: &mut K, channel: u32, value: i32)
+fn write_message<K: Sink>(writer: &mut BufferedWriter, out: &mut K, channel: u32, value: i32)
     ensures { Writes (log_state writer.old (K.taken out.old) (K.faults out.old))
         (log_state writer.new (K.taken out.new) (K.faults out.new)) (after_blanks (codes "data" ∷ canonical_decimal channel ∷ canonical_integer value ∷ [])) }
 {
@@ -312,7 +304,7 @@ fn write_message<K: Sink>(writer: &mut LogWriter, out: &mut K, channel: u32, val
 }
 
 // The cost of a segment and the free chunks after it.
-fn write_segment<K: Sink>(writer: &mut LogWriter, out: &mut K, cost: u64, free: u32)
+fn write_segment<K: Sink>(writer: &mut BufferedWriter, out: &mut K, cost: u64, free: u32)
     ensures { Writes (log_state writer.old (K.taken out.old) (K.faults out.old))
         (log_state writer.new (K.taken out.new) (K.faults out.new)) (after_blanks (canonical_decimal cost ∷ canonical_decimal free ∷ [])) }
 {
@@ -320,7 +312,7 @@ fn write_segment<K: Sink>(writer: &mut LogWriter, out: &mut K, cost: u64, free: 
     write_word(writer, out, free);
 }
 
-fn write_stop<K: Sink>(writer: &mut LogWriter, out: &mut K, stop: &StopLine)
+fn write_stop<K: Sink>(writer: &mut BufferedWriter, out: &mut K, stop: &StopLine)
     ensures { Writes (log_state writer.old (K.taken out.old) (K.faults out.old))
         (log_state writer.new (K.taken out.new) (K.faults out.new)) (after_blanks (stop_fields stop.now)) }
 {
@@ -337,7 +329,7 @@ fn write_stop<K: Sink>(writer: &mut LogWriter, out: &mut K, stop: &StopLine)
     }
 }
 
-fn write_refused<K: Sink>(writer: &mut LogWriter, out: &mut K, line: u64)
+fn write_refused<K: Sink>(writer: &mut BufferedWriter, out: &mut K, line: u64)
     ensures { Writes (log_state writer.old (K.taken out.old) (K.faults out.old))
         (log_state writer.new (K.taken out.new) (K.faults out.new)) (after_blanks (codes "trace" ∷ canonical_decimal line ∷ [])) }
 {
@@ -346,7 +338,7 @@ fn write_refused<K: Sink>(writer: &mut LogWriter, out: &mut K, line: u64)
 }
 
 fn write_cut<K: Sink>(
-    writer: &mut LogWriter,
+    writer: &mut BufferedWriter,
     out: &mut K,
     thread: u32,
     stop: &Stop,
@@ -362,7 +354,7 @@ fn write_cut<K: Sink>(
 }
 
 // Why a segment was cut, and its thread.
-fn write_cause<K: Sink>(writer: &mut LogWriter, out: &mut K, thread: u32, stop: &Stop)
+fn write_cause<K: Sink>(writer: &mut BufferedWriter, out: &mut K, thread: u32, stop: &Stop)
     ensures { Writes (log_state writer.old (K.taken out.old) (K.faults out.old))
         (log_state writer.new (K.taken out.new) (K.faults out.new)) (after_blanks (cause_fields thread stop.now)) }
 {
@@ -374,7 +366,7 @@ fn write_cause<K: Sink>(writer: &mut LogWriter, out: &mut K, thread: u32, stop: 
     }
 }
 
-fn write_trap<K: Sink>(writer: &mut LogWriter, out: &mut K, thread: u32, kind: TrapKind)
+fn write_trap<K: Sink>(writer: &mut BufferedWriter, out: &mut K, thread: u32, kind: TrapKind)
     ensures { Writes (log_state writer.old (K.taken out.old) (K.faults out.old))
         (log_state writer.new (K.taken out.new) (K.faults out.new)) (after_blanks (codes "trap" ∷ canonical_decimal thread ∷ trap_field kind ∷ [])) }
 {
@@ -384,7 +376,7 @@ fn write_trap<K: Sink>(writer: &mut LogWriter, out: &mut K, thread: u32, kind: T
 }
 
 // That text and a number.
-fn write_name<K: Sink>(writer: &mut LogWriter, out: &mut K, name: &[u8], thread: u32)
+fn write_name<K: Sink>(writer: &mut BufferedWriter, out: &mut K, name: &[u8], thread: u32)
     ensures { Writes (log_state writer.old (K.taken out.old) (K.faults out.old))
         (log_state writer.new (K.taken out.new) (K.faults out.new)) (name.now ++ 32 ∷ canonical_decimal thread) }
 {

@@ -1,26 +1,19 @@
-use Rattle.std.proofs.Common.{◌≡◌, ap, sym, ◌∙◌}
-use Rattle.std.specs.Prelude.{None}
-use Rattle.schedule_log.specs.Writing.{WriterState}
+use Rattle.std.proofs.Common.{◌≡◌}
 use Rattle.schedule_log.proofs.Written.{prefix_none, passed_grows, passed_prefix, passed_counts, passed_rises}
 use Rattle.schedule_log.proofs.writer.LogWriter.put.Goals as goal
 
-pub returns-in-Some-clause-prefix : goal.returns-in-Some-clause-prefix
-returns-in-Some-clause-prefix g c = prefix_none _ _
+pub returns-in-Err-clause-prefix : goal.returns-in-Err-clause-prefix
+returns-in-Err-clause-prefix g c = prefix_none _ _
 
-pub returns-in-None-clause-grows : goal.returns-in-None-clause-grows
-returns-in-None-clause-grows g c =
-    let none : c.args.self.now.refused ≡ None = ap (λ (w : WriterState). w.refused) (sym c.self.view_is) ∙ c.in-None.is
-    in passed_grows _ _ _ c.answer.result c.write_line.ensures none c.answer.ensures.kept
+pub returns-in-Ok-clause-grows : goal.returns-in-Ok-clause-grows
+returns-in-Ok-clause-grows g c =
+    passed_grows _ _ _ c.answer-2.result c.write_line.ensures c.in-Ok.ensures.kept c.answer-2.ensures.kept
 
-pub returns-in-None-clause-prefix : goal.returns-in-None-clause-prefix
-returns-in-None-clause-prefix g c =
-    let none : c.args.self.now.refused ≡ None = ap (λ (w : WriterState). w.refused) (sym c.self.view_is) ∙ c.in-None.is
-    in passed_prefix _ _ _ c.write_line.ensures none
+pub returns-in-Ok-clause-prefix : goal.returns-in-Ok-clause-prefix
+returns-in-Ok-clause-prefix g c = passed_prefix _ _ _ c.write_line.ensures c.in-Ok.ensures.kept
 
-pub returns-in-None-clause-counts : goal.returns-in-None-clause-counts
-returns-in-None-clause-counts g c = λ none. passed_counts _ _ _ c.answer.result c.write_line.ensures none c.answer.ensures.kept
+pub returns-in-Ok-clause-counts : goal.returns-in-Ok-clause-counts
+returns-in-Ok-clause-counts g c = λ none. passed_counts _ _ _ c.answer-2.result c.write_line.ensures none c.answer-2.ensures.kept
 
-pub returns-in-None-clause-never_falls : goal.returns-in-None-clause-never_falls
-returns-in-None-clause-never_falls g c =
-    let none : c.args.self.now.refused ≡ None = ap (λ (w : WriterState). w.refused) (sym c.self.view_is) ∙ c.in-None.is
-    in passed_rises _ _ _ c.write_line.ensures none
+pub returns-in-Ok-clause-never_falls : goal.returns-in-Ok-clause-never_falls
+returns-in-Ok-clause-never_falls g c = passed_rises _ _ _ c.write_line.ensures c.in-Ok.ensures.kept

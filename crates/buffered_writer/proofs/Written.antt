@@ -7,10 +7,10 @@ use Rattle.std.proofs.lemmas.List.{append-nil, append_cancel_left, take-append-d
 use Rattle.std.proofs.Math.Seq.{take-append_seam}
 use Rattle.cap_io.specs.Faults.{Rose}
 use Rattle.cap_io.specs.Writes.{Puts}
-use Rattle.schedule_log.specs.declared.writing.PutError.{PutError}
-use Rattle.schedule_log.specs.declared.writing.PutError.TheVariants.{WriteFault, Memory}
-use Rattle.schedule_log.specs.Puts.{CountsPut}
-use Rattle.schedule_log.specs.Writing.{WriterState, LogState, log_state, KeepsAnswer, TakesPrefix, CountsRefusal, Passes, Rests, Writes}
+use Rattle.buffered_writer.specs.declared.writer.PutError.{PutError}
+use Rattle.buffered_writer.specs.declared.writer.PutError.TheVariants.{WriteFault, Memory}
+use Rattle.buffered_writer.specs.Puts.{CountsPut}
+use Rattle.buffered_writer.specs.Writing.{WriterState, LogState, log_state, KeepsAnswer, TakesPrefix, CountsRefusal, Passes, Rests, Writes}
 
 -- a count that stayed, and then does as the refusal says
 counts_on : (r : Option PutError) (a b c : ℕ) → b ≡ a → CountsRefusal r b c → CountsRefusal r a c

@@ -1,5 +1,5 @@
-use Rattle.schedule_log.proofs.Written.{writes_more, writes_held}
-use Rattle.schedule_log.proofs.writer.LogWriter.write_byte.Goals as goal
+use Rattle.buffered_writer.proofs.Written.{writes_more, writes_held}
+use Rattle.buffered_writer.proofs.writer.BufferedWriter.write_byte.Goals as goal
 
 pub returns : goal.returns
 returns g c =

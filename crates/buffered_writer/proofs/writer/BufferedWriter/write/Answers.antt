@@ -1,6 +1,6 @@
 use Rattle.std.proofs.lemmas.List.{take_more}
-use Rattle.schedule_log.proofs.Written.{writes_step}
-use Rattle.schedule_log.proofs.writer.LogWriter.write.Goals as goal
+use Rattle.buffered_writer.proofs.Written.{writes_step}
+use Rattle.buffered_writer.proofs.writer.BufferedWriter.write.Goals as goal
 
 pub loop-byte-preserved : goal.loop-byte-preserved
 loop-byte-preserved g c =

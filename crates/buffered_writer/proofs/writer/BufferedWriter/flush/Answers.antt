@@ -1,7 +1,7 @@
 use Rattle.std.proofs.Common.{ap, ◌∙◌}
-use Rattle.schedule_log.specs.Writing.{WriterState}
-use Rattle.schedule_log.proofs.Written.{writes_refused}
-use Rattle.schedule_log.proofs.writer.LogWriter.flush.Goals as goal
+use Rattle.buffered_writer.specs.Writing.{WriterState}
+use Rattle.buffered_writer.proofs.Written.{writes_refused}
+use Rattle.buffered_writer.proofs.writer.BufferedWriter.flush.Goals as goal
 
 pub returns-in-Err-clause-bytes : goal.returns-in-Err-clause-bytes
 returns-in-Err-clause-bytes g c =

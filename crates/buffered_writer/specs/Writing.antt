@@ -2,8 +2,8 @@
 use Rattle.std.specs.Prelude.{◌≡◌, ℕ, ◌≤◌, List, ◌++◌, length, take, Option, None, Some, IsSome, Result, Ok, Err}
 use Rattle.std.specs.Io.KnownBytes.{Appends, Keeps}
 use Rattle.cap_io.specs.Faults.{Rose}
-use Rattle.schedule_log.specs.declared.writing.PutError.{PutError}
-use Rattle.schedule_log.specs.declared.writing.PutError.TheVariants.{WriteFault, Memory}
+use Rattle.buffered_writer.specs.declared.writer.PutError.{PutError}
+use Rattle.buffered_writer.specs.declared.writer.PutError.TheVariants.{WriteFault, Memory}
 
 -- the bytes that a writer holds, and the refusal that it gave, if it gave one
 pub record WriterState : Type 0 where

@@ -1,8 +1,8 @@
 -- What putting an entry does to the sink's count of faults.
 use Rattle.std.specs.Prelude.{◌≡◌, ℕ, Result, Ok, Err}
 use Rattle.cap_io.specs.Faults.{Rose}
-use Rattle.schedule_log.specs.declared.writing.PutError.{PutError}
-use Rattle.schedule_log.specs.declared.writing.PutError.TheVariants.{WriteFault, Memory}
+use Rattle.buffered_writer.specs.declared.writer.PutError.{PutError}
+use Rattle.buffered_writer.specs.declared.writer.PutError.TheVariants.{WriteFault, Memory}
 
 -- the count rises where a write failed, and only there
 abbrev pub CountsPut : Result (Unit {0}) PutError → ℕ → ℕ → Type 0

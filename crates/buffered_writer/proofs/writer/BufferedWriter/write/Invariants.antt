@@ -1,6 +1,6 @@
 use Rattle.std.proofs.Common.{take}
-use Rattle.schedule_log.specs.Writing.{Writes, log_state}
-use Rattle.schedule_log.proofs.writer.LogWriter.write.Given as goal
+use Rattle.buffered_writer.specs.Writing.{Writes, log_state}
+use Rattle.buffered_writer.proofs.writer.BufferedWriter.write.Given as goal
 
 abbrev pub invariant-loop-byte : goal.invariant-loop-byte
 invariant-loop-byte g l =
