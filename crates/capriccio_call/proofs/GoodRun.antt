@@ -5,7 +5,7 @@ use Rattle.command_words.specs.WordList.{IsWordList, Request, Serve, Run, Build,
 use Rattle.lawful_log.specs.Setup.{Setup}
 use Rattle.thread_core.specs.Worlds.{Held}
 use Rattle.command_outcomes.specs.Outcome.{Outcome, Ran}
-use Rattle.command_outcomes.specs.Loads.{IsSourceText}
+use Rattle.command_files.specs.Loads.{IsSourceText}
 use Rattle.pair_commands.specs.Runs.{IsRun, IsRunOfSome, RunsOn, run_outcome}
 use Rattle.capriccio_commands.specs.Demos.{ShowsRun, shown_outcome}
 use Rattle.capriccio_commands.specs.Due.{IsDue}

@@ -31,7 +31,7 @@ use Rattle.pair_commands.specs.declared.check_command.Verdict.{Verdict}
 use Rattle.pair_commands.specs.declared.check_command.Verdict.TheVariants.{Accepted, Rejected}
 use Rattle.command_outcomes.specs.Outcome.{Outcome, refused, printed}
 use Rattle.command_outcomes.specs.CauseLines.{refusal, frame_words, cycle_words}
-use Rattle.command_outcomes.specs.Loads.{OfFile, AfterLoad, AfterThree, AfterSource, AfterImage, AfterCertificate, IsImageText, IsCertificateText}
+use Rattle.command_files.specs.Loads.{OfFile, AfterLoad, AfterThree, AfterSource, AfterImage, AfterCertificate, IsImageText, IsCertificateText}
 use Rattle.pair_commands.specs.Graphs.{Graphs, GraphsProgram, HasFittingFrames, IsFrameRefused, names_of}
 use Rattle.pair_commands.specs.Checks.{Checks, ChecksBytes, ChecksPair, IsVerdict, verdict_outcome}
 use Rattle.call_cycles.specs.Cycles.{IsOnCycle}

@@ -24,7 +24,7 @@ use Rattle.command_outcomes.specs.declared.stops.Cause.TheVariants as cause
 use Rattle.command_outcomes.specs.CauseLines.{cause_status, refusal}
 use Rattle.command_outcomes.specs.FaultLines.{fault_status}
 use Rattle.command_outcomes.specs.Outcome.{Outcome}
-use Rattle.command_outcomes.specs.Loads.{IsSourceText, OfFile, AfterLoad, AfterThree, AfterSource, AfterImage, AfterCertificate}
+use Rattle.command_files.specs.Loads.{IsSourceText, OfFile, AfterLoad, AfterThree, AfterSource, AfterImage, AfterCertificate}
 use Rattle.command_outcomes.specs.Done.{Outside}
 use Rattle.command_audit.specs.declared.judgements.Judgement.{Judgement}
 use Rattle.command_audit.specs.declared.judgements.Judgement.TheVariants as judgement

@@ -18,8 +18,8 @@ use Rattle.command_outcomes.specs.declared.documents.Document.TheVariants as doc
 use Rattle.command_outcomes.specs.declared.faults.Fault.TheVariants.{Memory}
 use Rattle.command_outcomes.specs.Done.{Outside, NoFault}
 use Rattle.command_outcomes.specs.FaultLines.{fault_status}
-use Rattle.command_outcomes.specs.Loads.{IsSourceText}
-use Rattle.command_outcomes.specs.Steps.{IsLoaded}
+use Rattle.command_files.specs.Loads.{IsSourceText}
+use Rattle.command_files.specs.Loaded.{IsLoaded}
 use Rattle.command_audit.specs.Audits.{judgement_line, judgement_status, reading_policy}
 use Rattle.pair_commands.specs.Runs.{IsAccepted}
 use Rattle.command_audit.specs.declared.judgements.Judgement.{Judgement}

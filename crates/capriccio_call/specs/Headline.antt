@@ -12,7 +12,7 @@ use Rattle.schedule_log.specs.declared.entries.Entry.{Entry}
 use Rattle.schedule_log.specs.declared.entries.StopLine.{StopLine}
 use Rattle.thread_core.specs.Worlds.{Held}
 use Rattle.command_outcomes.specs.declared.faults.Fault.{Fault}
-use Rattle.command_outcomes.specs.Loads.{IsSourceText}
+use Rattle.command_files.specs.Loads.{IsSourceText}
 use Rattle.command_outcomes.specs.Outcome.{Outcome}
 use Rattle.command_outcomes.specs.Done.{Outside, IsDone, IsExact, IsTold, IsLast, IsWorldOf, status_of, line_of, last_of}
 use Rattle.capriccio_commands.specs.Due.{IsDue}

@@ -23,7 +23,7 @@ use Rattle.command_outcomes.specs.Outcome.{Outcome, Ran, NoMore}
 use Rattle.command_outcomes.specs.CauseLines.{refusal}
 use Rattle.command_outcomes.specs.Done.{Outside, WhereTold, AreStored, IsRisen, IsTraceLeft, IsLast}
 use Rattle.command_outcomes.specs.Prefixes.{TakesPrefix}
-use Rattle.command_outcomes.specs.Loads.{IsSourceText}
+use Rattle.command_files.specs.Loads.{IsSourceText}
 use Rattle.command_outcomes.specs.Steps.{IsStop, IsPrinted, EndsAs, RunEnds}
 use Rattle.command_outcomes.proofs.Ending.{kept-are-stored, refused-at-once, memory-at-once}
 use Rattle.capriccio_commands.specs.declared.demo_command.Shown.{Shown}

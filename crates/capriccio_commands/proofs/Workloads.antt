@@ -22,7 +22,7 @@ use Rattle.command_outcomes.specs.declared.faults.Fault.TheVariants.{Read, Write
 use Rattle.command_outcomes.specs.declared.stops.Stop.{Stop}
 use Rattle.command_outcomes.specs.declared.stops.Stop.TheVariants.{Refused, Failed}
 use Rattle.command_outcomes.specs.Outcome.{Outcome, NoMore}
-use Rattle.command_outcomes.specs.Loads.{AfterSource}
+use Rattle.command_files.specs.Loads.{AfterSource}
 use Rattle.command_outcomes.specs.Steps.{IsStop}
 use Rattle.pair_commands.specs.BuildsFiles.{IsUnbuilt}
 use Rattle.capriccio_commands.specs.Demos.{demo_sizes, demo_policy}

@@ -17,7 +17,7 @@ use Rattle.workload_source.specs.Programs.{program_text}
 use Rattle.workload.specs.Traces.{trace_text}
 use Rattle.command_outcomes.specs.Outcome.{Outcome}
 use Rattle.command_outcomes.specs.Done.{IsLast}
-use Rattle.command_outcomes.specs.Loads.{IsSourceText}
+use Rattle.command_files.specs.Loads.{IsSourceText}
 use Rattle.capriccio_commands.specs.declared.demo_command.Shown.{Shown}
 use Rattle.pair_commands.specs.Runs.{IsAccepted, IsRun, ServesProgram, setup_of, stop_status}
 use Rattle.pair_commands.specs.RunSteps.{LeadsOn}

@@ -18,11 +18,12 @@ use Rattle.command_outcomes.specs.declared.ended.Ended.{Ended}
 use Rattle.command_outcomes.specs.declared.stops.Stop.{Stop}
 use Rattle.command_outcomes.specs.declared.stops.Stop.TheVariants.{Refused, Failed}
 use Rattle.command_outcomes.specs.Done.{Outside}
-use Rattle.command_outcomes.specs.Loads.{AfterLoad, AfterSource, IsSourceText}
+use Rattle.command_files.specs.Loads.{AfterLoad, AfterSource, IsSourceText}
 use Rattle.command_outcomes.specs.Outcome.{Outcome, NoMore}
-use Rattle.command_outcomes.specs.Steps.{EndsAs, IsLoaded, IsPrinted, IsShelfStop, IsStop}
+use Rattle.command_outcomes.specs.Steps.{EndsAs, IsPrinted, IsShelfStop, IsStop}
+use Rattle.command_files.specs.Loaded.{IsLoaded}
 use Rattle.command_outcomes.proofs.Ending.{kept-are-stored, keeps-itself, printed-ends, stopped-reading}
-use Rattle.command_outcomes.proofs.Follows.{load-before, load-follows, loaded, shelf-stop-follows, source-follows, stop-on-shelf}
+use Rattle.command_files.proofs.Follows.{load-before, load-follows, loaded, shelf-stop-follows, source-follows, stop-on-shelf}
 use Rattle.command_options.specs.Options.{AreAuditOptions, as_run, IsNewMonitor}
 use Rattle.command_audit.specs.Audits.{Audits, AuditsBytes, AuditsProgram, IsJudged, LeadsToAudit, audit_limits, judged_as, judged_outcome, judgement_line, judgement_status, reading_of}
 use Rattle.command_audit.specs.declared.judgements.Judgement.{Judgement}

@@ -16,7 +16,7 @@ use Rattle.command_outcomes.specs.declared.documents.Document.TheVariants as doc
 use Rattle.command_outcomes.specs.declared.faults.Fault.TheVariants.{Read, Memory}
 use Rattle.command_outcomes.specs.declared.stops.Stop.{Stop}
 use Rattle.command_outcomes.specs.declared.stops.Stop.TheVariants.{Refused, Failed}
-use Rattle.command_outcomes.specs.Loads.{AfterLoad, AfterSource}
+use Rattle.command_files.specs.Loads.{AfterLoad, AfterSource}
 use Rattle.command_outcomes.specs.Outcome.{Outcome}
 use Rattle.command_outcomes.specs.Steps.{IsReadStop}
 

@@ -2,6 +2,5 @@ pub mod Prefixes
 pub mod FaultLines
 pub mod Outcome
 pub mod CauseLines
-pub mod Loads
 pub mod Done
 pub mod Steps

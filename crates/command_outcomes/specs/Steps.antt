@@ -5,8 +5,6 @@ use Rattle.std.specs.Io.KnownBytes.{Appends}
 use Rattle.cap_io.specs.Faults.{Rose}
 use Rattle.cap_io.specs.Files.{Files, KeepsFiles}
 use Rattle.command_outcomes.specs.declared.documents.Document.{Document}
-use Rattle.command_outcomes.specs.declared.documents.Document.TheVariants as document
-use Rattle.command_outcomes.specs.declared.loading.LoadedFiles.{LoadedFiles}
 use Rattle.command_outcomes.specs.declared.stops.Stop.{Stop}
 use Rattle.command_outcomes.specs.declared.stops.Stop.TheVariants.{Refused, Failed}
 use Rattle.command_outcomes.specs.declared.ended.Ended.{Ended}
@@ -17,7 +15,6 @@ use Rattle.command_outcomes.specs.CauseLines.{most_bytes, refusal}
 use Rattle.command_outcomes.specs.Done.{Outside, WhereTold, AreStored, AreCutShort, IsRisen, IsDone, IsTold, IsLast}
 use Rattle.command_outcomes.specs.Prefixes.{TakesPrefix}
 use Rattle.command_outcomes.specs.FaultLines.{fault_status, fault_line}
-use Rattle.command_outcomes.specs.Loads.{AfterLoad, AfterThree}
 
 -- a step over values stops: it refuses, where that is due, or finds no memory
 abbrev pub IsStop : (Outcome → Type 0) → Stop → Type 0
@@ -38,25 +35,6 @@ abbrev pub IsReadStop : Fault → (reads reads' : ℕ) → Type 0
 IsReadStop Read reads reads' = Rose reads reads'
 IsReadStop Memory reads reads' = Unit {0}
 IsReadStop Write reads reads' = ⊥
-
--- a loaded file of this name
-pub record IsLoaded (which : Document) (files : Option Files) (name bytes : List ℕ) : Type 0 where
-  pub file : IfSome files (λ f. f name ≡ Some bytes)
-  pub fits : length bytes ≤ most_bytes which
-
--- a file was loaded, or its load is the last step
-abbrev pub IsLoadAnswer : Document → Option Files → List ℕ → (loads loads' : ℕ) → Result (Vec ℕ) Stop → Type 0
-IsLoadAnswer which files name loads loads' (Ok bytes) =
-    IsLoaded which files name bytes.items × (loads' ≡ loads)
-IsLoadAnswer which files name loads loads' (Err stop) = IsShelfStop (AfterLoad which files name NoMore) loads loads' stop
-
--- three files were loaded, or the load of one of them is the last step
-abbrev pub AreLoaded : Option Files → (source image certificate : List ℕ) → (loads loads' : ℕ) → Result LoadedFiles Stop → Type 0
-AreLoaded files source image certificate loads loads' (Ok loaded) =
-    IsLoaded document.Source files source loaded.source.items × IsLoaded document.Image files image loaded.image.items
-    × IsLoaded document.Certificate files certificate loaded.certificate.items × (loads' ≡ loads)
-AreLoaded files source image certificate loads loads' (Err stop) =
-    IsShelfStop (AfterThree files source image certificate (λ _ _ bytes. NoMore bytes)) loads loads' stop
 
 -- a text was printed, and a status goes with it; or the text is cut short
 abbrev pub IsPrinted : ℕ → List ℕ → (old new : Option (List ℕ)) → (writes writes' : ℕ) → Result Ended Stop → Type 0

@@ -29,7 +29,7 @@ impl Document {
     }
 
     /// The most bytes that it may have.
-    pub(crate) fn most_bytes(self) -> u32
+    pub fn most_bytes(self) -> u32
         ensures { result ≡ most_bytes self }
     {
         match self {

@@ -10,7 +10,7 @@ use Rattle.command_outcomes.specs.declared.documents.Document.TheVariants as doc
 use Rattle.command_outcomes.specs.declared.stops.Cause.TheVariants as cause
 use Rattle.command_outcomes.specs.CauseLines.{most_bytes, refusal}
 use Rattle.command_outcomes.specs.Done.{Outside}
-use Rattle.command_outcomes.specs.Loads.{AfterLoad, AfterSource, IsSourceText, OfFile}
+use Rattle.command_files.specs.Loads.{AfterLoad, AfterSource, IsSourceText, OfFile}
 use Rattle.command_outcomes.specs.Outcome.{Outcome}
 use Rattle.command_audit.specs.Audits.{Audits, AuditsBytes, AuditsProgram, judged_outcome, reading_of}
 use Rattle.command_audit.specs.declared.judgements.Judgement.TheVariants as judgement

@@ -16,7 +16,7 @@ use Rattle.command_words.specs.declared.options.Policy.{Policy as RunOptions}
 use Rattle.command_words.specs.WordList.{Serve, Demo, IsWordList}
 use Rattle.command_outcomes.specs.declared.documents.Document.TheVariants as document
 use Rattle.command_outcomes.specs.Done.{Outside}
-use Rattle.command_outcomes.specs.Loads.{IsSourceText}
+use Rattle.command_files.specs.Loads.{IsSourceText}
 use Rattle.pair_commands.specs.BuildsFiles.{IsUnbuilt}
 use Rattle.command_options.specs.Options.{IsRunPolicy, sizes_of}
 use Rattle.pair_commands.specs.Runs.{setup_of, pool_bytes, IsAccepted, ServesProgram, Serves}

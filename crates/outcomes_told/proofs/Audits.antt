@@ -7,9 +7,9 @@ use Rattle.command_words.specs.declared.options.Audit.{Audit as AuditOptions}
 use Rattle.command_words.specs.WordList.{Audit, IsWordList}
 use Rattle.command_outcomes.specs.declared.documents.Document.TheVariants as document
 use Rattle.command_outcomes.specs.Done.{Outside}
-use Rattle.command_outcomes.specs.Loads.{AfterLoad}
+use Rattle.command_files.specs.Loads.{AfterLoad}
 use Rattle.command_outcomes.specs.Outcome.{Outcome}
-use Rattle.command_outcomes.specs.Steps.{IsLoaded}
+use Rattle.command_files.specs.Loaded.{IsLoaded}
 use Rattle.command_audit.specs.Audits.{Audits, AuditsBytes, AuditsProgram, IsJudgement, reading_of}
 use Rattle.command_audit.specs.declared.judgements.Judgement.{Judgement}
 use Rattle.outcomes_told.specs.Given.{HasAnswered, HasSource}

@@ -14,7 +14,7 @@ use Rattle.stack_certificate.specs.declared.certificates.Certificate.{Certificat
 use Rattle.workload.specs.Traces.{trace_text}
 use Rattle.workload_source.specs.Programs.{program_text}
 use Rattle.command_outcomes.specs.Done.{Outside, IsWhole}
-use Rattle.command_outcomes.specs.Loads.{IsSourceText}
+use Rattle.command_files.specs.Loads.{IsSourceText}
 use Rattle.command_outcomes.specs.Outcome.{Outcome}
 use Rattle.capriccio_commands.specs.Demos.{ShowsRun, shown_outcome, demo_sizes, demo_policy}
 use Rattle.command_options.specs.Options.{sizes_of}

@@ -16,8 +16,8 @@ use Rattle.certificate_text.proofs.Spellings.{spelling_unique, spelling_unrefuse
 use Rattle.command_outcomes.specs.declared.documents.Document.{Document}
 use Rattle.command_outcomes.specs.declared.documents.Document.TheVariants as document
 use Rattle.command_outcomes.specs.Outcome.{Outcome}
-use Rattle.command_outcomes.specs.Loads.{OfFile, AfterLoad, AfterThree, IsSourceText, AfterSource, IsImageText, AfterImage, IsCertificateText, AfterCertificate}
-use Rattle.command_outcomes.specs.Steps.{IsLoaded}
+use Rattle.command_files.specs.Loads.{OfFile, AfterLoad, AfterThree, IsSourceText, AfterSource, IsImageText, AfterImage, IsCertificateText, AfterCertificate}
+use Rattle.command_files.specs.Loaded.{IsLoaded}
 use Rattle.pair_commands.specs.BuildsFiles.{HasFittingCode, IsUnbuilt}
 use Rattle.pair_commands.specs.Graphs.{HasFittingFrames, IsFrameRefused}
 use Rattle.outcomes_told.specs.Given.{HasSource, HasValidPair}

@@ -10,8 +10,8 @@ use Rattle.stack_certificate.specs.declared.certificates.Certificate.{Certificat
 use Rattle.thread_core.specs.Worlds.{Held}
 use Rattle.command_outcomes.specs.declared.documents.Document.TheVariants as document
 use Rattle.command_outcomes.specs.Done.{Outside, NoFault}
-use Rattle.command_outcomes.specs.Loads.{IsSourceText, IsImageText, IsCertificateText}
-use Rattle.command_outcomes.specs.Steps.{IsLoaded}
+use Rattle.command_files.specs.Loads.{IsSourceText, IsImageText, IsCertificateText}
+use Rattle.command_files.specs.Loaded.{IsLoaded}
 use Rattle.pair_commands.specs.BuildsFiles.{HasFittingCode}
 use Rattle.pair_commands.specs.Graphs.{HasFittingFrames}
 use Rattle.capriccio_call.specs.Headline.{IsAnswer}

@@ -16,8 +16,8 @@ ghost use Rattle.stack_certificate.specs.declared.certificates.Certificate.{Cert
 ghost use Rattle.workload.specs.Traces.{trace_text};
 ghost use Rattle.workload_source.specs.Programs.{program_text};
 ghost use Rattle.command_outcomes.specs.Done.{Outside, WhereTold, AreStored};
-ghost use Rattle.command_outcomes.specs.Loads.{IsSourceText};
-ghost use Rattle.command_outcomes.specs.Steps.{IsLoaded};
+ghost use Rattle.command_files.specs.Loads.{IsSourceText};
+ghost use Rattle.command_files.specs.Loaded.{IsLoaded};
 ghost use Rattle.command_outcomes.specs.declared.documents.Document.TheVariants as document;
 ghost use Rattle.command_audit.specs.Audits.{IsJudgement, reading_of};
 ghost use Rattle.command_audit.specs.declared.judgements.Judgement.{Judgement};

@@ -17,16 +17,18 @@ use Rattle.stack_build.specs.Builds.{IsLaidOut}
 use Rattle.stack_image.specs.declared.images.Image.{Image}
 use Rattle.stack_certificate.specs.declared.certificates.Certificate.{Certificate}
 use Rattle.command_outcomes.specs.declared.documents.Document.{Document}
-use Rattle.command_outcomes.specs.declared.loading.LoadedFiles.{LoadedFiles}
+use Rattle.command_files.specs.declared.loading.LoadedFiles.{LoadedFiles}
 use Rattle.command_outcomes.specs.declared.stops.Stop.{Stop}
 use Rattle.command_outcomes.specs.Outcome.{Outcome}
 use Rattle.pair_commands.specs.BuildsFiles.{HasFittingCode}
 use Rattle.pair_commands.specs.Graphs.{HasFittingFrames}
-use Rattle.command_outcomes.specs.Loads.{AfterLoad, AfterThree}
+use Rattle.command_files.specs.Loads.{AfterLoad, AfterThree}
 use Rattle.pair_commands.specs.Runs.{RunsOn, RunsPair, ServesProgram, pool_bytes, setup_of}
 use Rattle.pair_commands.specs.RunSteps.{LeadsOn, IsUnaccepted}
-use Rattle.command_outcomes.specs.Steps.{IsStop, IsShelfStop, IsLoaded, AreLoaded}
-use Rattle.command_outcomes.proofs.Follows.{loaded, of-three, stop-on-shelf}
+use Rattle.command_outcomes.specs.Steps.{IsStop, IsShelfStop}
+use Rattle.command_files.specs.Loaded.{IsLoaded}
+use Rattle.command_files.specs.Loaded.{AreLoaded}
+use Rattle.command_files.proofs.Follows.{loaded, of-three, stop-on-shelf}
 
 -- Loads.
 

@@ -5,11 +5,11 @@ use Rattle.c_tree.specs.ProgramView.{program_tree}
 use Rattle.c_tree.specs.Trees.{ProgramTree}
 use Rattle.stack_image.specs.declared.images.Image.{Image}
 use Rattle.stack_certificate.specs.declared.certificates.Certificate.{Certificate}
-use Rattle.command_outcomes.specs.Loads.{AfterImage, AfterCertificate}
+use Rattle.command_files.specs.Loads.{AfterImage, AfterCertificate}
 use Rattle.command_outcomes.specs.Outcome.{Outcome}
 use Rattle.command_outcomes.specs.Steps.{IsStop}
 use Rattle.command_outcomes.specs.declared.stops.Stop.{Stop}
-use Rattle.command_outcomes.proofs.Follows.{stop-follows, source-follows, image-follows, certificate-follows}
+use Rattle.command_files.proofs.Follows.{stop-follows, source-follows, image-follows, certificate-follows}
 use Rattle.pair_commands.specs.Pairs.{AfterPair, IsPairText, Unread}
 use Rattle.pair_commands.specs.declared.pairs.ReadPair.{ReadPair}
 

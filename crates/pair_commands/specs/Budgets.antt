@@ -14,7 +14,7 @@ use Rattle.stack_certificate.specs.declared.certificates.Certificate.{Certificat
 use Rattle.command_outcomes.specs.declared.stops.Cause.TheVariants as cause
 use Rattle.command_outcomes.specs.Outcome.{Outcome, printed, refused}
 use Rattle.command_outcomes.specs.CauseLines.{cycle_words, refusal}
-use Rattle.command_outcomes.specs.Loads.{AfterThree, AfterSource, AfterImage, AfterCertificate}
+use Rattle.command_files.specs.Loads.{AfterThree, AfterSource, AfterImage, AfterCertificate}
 use Rattle.pair_commands.specs.Graphs.{names_of}
 
 -- the line of a function's height

@@ -16,7 +16,7 @@ use Rattle.command_outcomes.specs.declared.stops.Cause.TheVariants as cause
 use Rattle.command_outcomes.specs.declared.documents.Document.TheVariants as document
 use Rattle.command_outcomes.specs.Outcome.{Outcome}
 use Rattle.command_outcomes.specs.CauseLines.{refusal}
-use Rattle.command_outcomes.specs.Loads.{AfterLoad, AfterSource}
+use Rattle.command_files.specs.Loads.{AfterLoad, AfterSource}
 use Rattle.pair_commands.specs.Graphs.{IsFrameRefused, HasFittingFrames}
 
 -- `built code W globals G tables T`, with its line feed

@@ -10,7 +10,7 @@ use Rattle.pair_commands.specs.declared.check_command.Verdict.{Verdict}
 use Rattle.pair_commands.specs.declared.check_command.Verdict.TheVariants.{Accepted, Rejected}
 use Rattle.command_outcomes.specs.Outcome.{Outcome, printed}
 use Rattle.command_outcomes.specs.CauseLines.{rejected_words}
-use Rattle.command_outcomes.specs.Loads.{AfterThree, AfterSource, AfterImage, AfterCertificate}
+use Rattle.command_files.specs.Loads.{AfterThree, AfterSource, AfterImage, AfterCertificate}
 
 -- the status of a verdict, and its line
 abbrev pub verdict_status : Verdict → ℕ

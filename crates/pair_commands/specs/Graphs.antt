@@ -11,7 +11,7 @@ use Rattle.analysis_lines.specs.Lines.{analysis_lines, name_at}
 use Rattle.command_outcomes.specs.declared.documents.Document.TheVariants as document
 use Rattle.command_outcomes.specs.Outcome.{Outcome, printed, refused}
 use Rattle.command_outcomes.specs.CauseLines.{frame_words}
-use Rattle.command_outcomes.specs.Loads.{AfterLoad, AfterSource}
+use Rattle.command_files.specs.Loads.{AfterLoad, AfterSource}
 
 -- the names of a program's functions, by number
 abbrev pub names_of : ProgramTree → List (List ℕ)

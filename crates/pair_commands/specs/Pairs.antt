@@ -4,7 +4,7 @@ use Rattle.c_tree.specs.ProgramView.{program_tree}
 use Rattle.c_tree.specs.Trees.{ProgramTree}
 use Rattle.stack_image.specs.declared.images.Image.{Image}
 use Rattle.stack_certificate.specs.declared.certificates.Certificate.{Certificate}
-use Rattle.command_outcomes.specs.Loads.{AfterSource, AfterImage, AfterCertificate, IsSourceText, IsImageText, IsCertificateText}
+use Rattle.command_files.specs.Loads.{AfterSource, AfterImage, AfterCertificate, IsSourceText, IsImageText, IsCertificateText}
 use Rattle.command_outcomes.specs.Outcome.{Outcome, NoMore}
 use Rattle.pair_commands.specs.declared.pairs.ReadPair.{ReadPair}
 

@@ -29,7 +29,7 @@ use Rattle.command_outcomes.specs.declared.stops.Cause.TheVariants as cause
 use Rattle.command_outcomes.specs.CauseLines.{refusal}
 use Rattle.pair_commands.specs.Graphs.{HasFittingFrames}
 use Rattle.pair_commands.specs.BuildsFiles.{HasFittingCode, IsUnbuilt}
-use Rattle.command_outcomes.specs.Loads.{AfterLoad, AfterThree, AfterSource, AfterImage, AfterCertificate}
+use Rattle.command_files.specs.Loads.{AfterLoad, AfterThree, AfterSource, AfterImage, AfterCertificate}
 use Rattle.command_outcomes.specs.Outcome.{Outcome}
 
 -- ---- a run

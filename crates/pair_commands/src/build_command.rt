@@ -5,7 +5,7 @@ ghost use Rattle.c_tree.specs.ProgramView.{program_tree};
 ghost use Rattle.codegen_link.specs.Plans.{AreInRange};
 ghost use Rattle.stack_image.specs.Spelling as images;
 ghost use Rattle.certificate_text.specs.Text as texts;
-ghost use Rattle.command_outcomes.specs.Loads.{AfterSource};
+ghost use Rattle.command_files.specs.Loads.{AfterSource};
 ghost use Rattle.pair_commands.specs.BuildsFiles.{Builds, BuildsProgram, built_line, IsProductsOf, stored_products};
 ghost use Rattle.command_outcomes.specs.Steps.{EndsAs, IsStop, IsShelfStop};
 ghost use Rattle.command_outcomes.specs.Done.{Outside};
@@ -15,9 +15,8 @@ use c_tree::Program;
 use cap_io::{Shelf, Sink};
 use certificate_text::write_cert;
 use codegen_link::Options;
-use command_outcomes::{
-    Document, Ended, Fault, Stop, load, print, put_number, put_text, read_source, store_both,
-};
+use command_files::{load, read_source, store_both};
+use command_outcomes::{Document, Ended, Fault, Stop, print, put_number, put_text};
 use stack_build::{Built, lay_out};
 use stack_image::{Image, write_image};
 use std::alloc::{AllocError, Global};

@@ -8,7 +8,7 @@ ghost use Rattle.stack_build.specs.declared.refusals.BuildError.TheVariants as e
 ghost use Rattle.stack_plan.specs.Plans.{IsEnough};
 ghost use Rattle.command_outcomes.specs.Done.{Outside};
 ghost use Rattle.command_outcomes.specs.Outcome.{printed};
-ghost use Rattle.command_outcomes.specs.Loads.{AfterSource};
+ghost use Rattle.command_files.specs.Loads.{AfterSource};
 ghost use Rattle.pair_commands.specs.Graphs.{Graphs, GraphsProgram, IsFrameRefused, IsAnalysed};
 ghost use Rattle.command_outcomes.specs.Steps.{EndsAs, IsStop, IsShelfStop};
 
@@ -17,7 +17,8 @@ use analysis_lines::{Findings, analysis_text};
 use c_tree::Program;
 use cap_io::{Shelf, Sink};
 use codegen_link::Options;
-use command_outcomes::{Document, Ended, Fault, Stop, load, print, read_source};
+use command_files::{load, read_source};
+use command_outcomes::{Document, Ended, Fault, Stop, print};
 use stack_build::{Analysis, BuildError, analyse};
 use std::alloc::{AllocError, Global};
 

@@ -1,12 +1,13 @@
 // What the files of a pair are read as.
 ghost use Rattle.std.specs.Prelude.{◌≡◌, ◌≤◌, length, MatchResult};
-ghost use Rattle.command_outcomes.specs.Loads.{AfterCertificate, IsCertificateText};
+ghost use Rattle.command_files.specs.Loads.{AfterCertificate, IsCertificateText};
 ghost use Rattle.command_outcomes.specs.Outcome.{NoMore};
 ghost use Rattle.command_outcomes.specs.Steps.{IsStop};
 ghost use Rattle.pair_commands.specs.Pairs.{AfterPair, IsPairText, Unread};
 
 use c_tree::Program;
-use command_outcomes::{Stop, read_certificate_bytes, read_image_bytes, read_source};
+use command_files::{read_certificate_bytes, read_image_bytes, read_source};
+use command_outcomes::Stop;
 use stack_certificate::Certificate;
 use stack_image::Image;
 use std::alloc::Global;

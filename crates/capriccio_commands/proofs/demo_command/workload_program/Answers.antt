@@ -7,7 +7,7 @@ use Rattle.c_scope.specs.SourceText.{ReadsAs}
 use Rattle.c_hoist.proofs.WholeReads.{reads_nested}
 use Rattle.workload_source.specs.Programs.{program_text}
 use Rattle.command_outcomes.specs.Outcome.{NoMore}
-use Rattle.command_outcomes.specs.Loads.{AfterSource, IsSourceText}
+use Rattle.command_files.specs.Loads.{AfterSource, IsSourceText}
 use Rattle.command_outcomes.specs.Steps.{IsStop}
 use Rattle.capriccio_commands.proofs.Workloads.{program-short, no-source-error}
 use Rattle.capriccio_commands.proofs.demo_command.workload_program.Goals as goal

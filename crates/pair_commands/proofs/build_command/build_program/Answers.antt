@@ -3,7 +3,7 @@ use Rattle.c_tree.specs.ProgramView.{program_tree}
 use Rattle.lowered_facts.proofs.Formed.{formed}
 use Rattle.pair_commands.specs.BuildsFiles.{BuildsProgram, IsUnbuilt}
 use Rattle.pair_commands.proofs.Built.{pair-built}
-use Rattle.command_outcomes.proofs.Follows.{stop-follows}
+use Rattle.command_files.proofs.Follows.{stop-follows}
 use Rattle.one_plan.proofs.Limits.{image-fits, certificate-fits}
 use Rattle.pair_commands.proofs.build_command.build_program.Goals as goal
 

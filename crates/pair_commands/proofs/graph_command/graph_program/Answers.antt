@@ -5,7 +5,7 @@ use Rattle.c_lower.specs.ProgramCode.{lowered}
 use Rattle.stack_build.proofs.Frames.{frames-fit}
 use Rattle.pair_commands.specs.Graphs.{GraphsProgram}
 use Rattle.command_outcomes.specs.Outcome.{Outcome}
-use Rattle.command_outcomes.proofs.Follows.{stop-follows}
+use Rattle.command_files.proofs.Follows.{stop-follows}
 use Rattle.pair_commands.proofs.graph_command.graph_program.Goals as goal
 
 pub returns : goal.returns

@@ -7,7 +7,7 @@ use Rattle.stack_build.specs.declared.refusals.BuildError.TheVariants as errors
 use Rattle.pair_commands.specs.BuildsFiles.{IsUnbuilt}
 use Rattle.pair_commands.specs.Graphs.{IsFrameRefused}
 use Rattle.pair_commands.proofs.Built.{frame-of, code-of}
-use Rattle.command_outcomes.proofs.Follows.{stop-follows}
+use Rattle.command_files.proofs.Follows.{stop-follows}
 use Rattle.pair_commands.proofs.layouts.layout_stop.Goals as goal
 
 pub frame_stop-requires : goal.frame_stop-requires

@@ -2,9 +2,8 @@
 ghost use Rattle.std.specs.Prelude.{◌≡◌, ◌∷◌, []};
 ghost use Rattle.command_outcomes.specs.Steps.{AreStores};
 
-use crate::faults::Fault;
-use crate::stops::Stop;
 use cap_io::{Shelf, ShelfError};
+use command_outcomes::{Fault, Stop};
 use std::alloc::Global;
 
 /// Stores two files, one after the other.

@@ -1,6 +1,6 @@
 use Rattle.std.proofs.lemmas.Result.{err_from_is_err_and}
-use Rattle.command_outcomes.proofs.Follows.{second-stop, third-stop}
-use Rattle.command_outcomes.proofs.loading.load_three.Goals as goal
+use Rattle.command_files.proofs.Follows.{second-stop, third-stop}
+use Rattle.command_files.proofs.loading.load_three.Goals as goal
 
 pub returns-in_err-image-clause-answer : goal.returns-in_err-image-clause-answer
 returns-in_err-image-clause-answer g c =

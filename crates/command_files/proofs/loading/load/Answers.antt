@@ -1,5 +1,5 @@
-use Rattle.command_outcomes.proofs.Follows.{too-long}
-use Rattle.command_outcomes.proofs.loading.load.Goals as goal
+use Rattle.command_files.proofs.Follows.{too-long}
+use Rattle.command_files.proofs.loading.load.Goals as goal
 
 pub returns-in-Err-TooLong-clause-answer : goal.returns-in-Err-TooLong-clause-answer
 returns-in-Err-TooLong-clause-answer g c =

@@ -16,9 +16,10 @@ use Rattle.command_outcomes.specs.declared.stops.Stop.TheVariants.{Refused, Fail
 use Rattle.command_outcomes.specs.declared.faults.Fault.TheVariants.{Read, Write, Memory}
 use Rattle.command_outcomes.specs.Outcome.{Outcome, NoMore}
 use Rattle.command_outcomes.specs.CauseLines.{most_bytes, refusal}
-use Rattle.command_outcomes.specs.Loads.{OfFile, AfterLoad, AfterThree, AfterSource, AfterImage, AfterCertificate}
-use Rattle.command_outcomes.specs.Steps.{IsStop, IsShelfStop, IsLoaded, AreLoaded}
-use Rattle.command_outcomes.specs.declared.loading.LoadedFiles.{LoadedFiles}
+use Rattle.command_files.specs.Loads.{OfFile, AfterLoad, AfterThree, AfterSource, AfterImage, AfterCertificate}
+use Rattle.command_outcomes.specs.Steps.{IsStop, IsShelfStop}
+use Rattle.command_files.specs.Loaded.{IsLoaded, AreLoaded}
+use Rattle.command_files.specs.declared.loading.LoadedFiles.{LoadedFiles}
 
 -- What follows may be put in the place of what implies it.
 
