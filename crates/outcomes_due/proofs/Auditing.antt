@@ -16,7 +16,7 @@ use Rattle.command_audit.specs.Audits.{Audits, AuditsBytes, AuditsProgram, judge
 use Rattle.command_audit.specs.declared.judgements.Judgement.TheVariants as judgement
 use Rattle.capriccio_commands.specs.Due.{IsDue}
 use Rattle.log_verdicts.proofs.Some.{some_verdict}
-use Rattle.sources_decided.proofs.Sources.{AProgram, AnError, source_decided}
+use Rattle.decisions.proofs.Sources.{AProgram, AnError, source_decided}
 
 -- it can't be that none is due
 abbrev pub Never_none : (Outcome → Type 0) → Type 0

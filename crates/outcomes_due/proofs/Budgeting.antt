@@ -22,8 +22,8 @@ use Rattle.command_outcomes.specs.CauseLines.{cycle_words, refusal}
 use Rattle.pair_commands.specs.Budgets.{budget_text, BudgetsPair}
 use Rattle.pair_commands.specs.Graphs.{names_of}
 use Rattle.one_plan.proofs.LoweredGraph.{lowered-graph}
-use Rattle.placements_decided.proofs.Graphs.{a_graph}
-use Rattle.budgets_decided.proofs.Heights.{budget_or_cycle}
+use Rattle.decisions.proofs.Graphs.{a_graph}
+use Rattle.decisions.proofs.Heights.{budget_or_cycle}
 use Rattle.outcomes_due.proofs.Loading.{Some_due}
 
 module _ (program : ProgramTree) (scoped : IsWellScoped program) (i : Image) (c : Certificate) where

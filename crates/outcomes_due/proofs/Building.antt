@@ -33,9 +33,9 @@ use Rattle.pair_commands.specs.Graphs.{names_of, IsFrameRefused, HasFittingFrame
 use Rattle.pair_commands.specs.BuildsFiles.{built, HasFittingCode, IsUnbuilt, BuildsProgram, Builds}
 use Rattle.one_plan.proofs.LoweredGraph.{lowered-graph}
 use Rattle.pair_commands.proofs.OneBuild.{plans-are-one}
-use Rattle.placements_decided.proofs.Graphs.{a_graph}
-use Rattle.placements_decided.proofs.Bounds.{a_placement}
-use Rattle.layouts_decided.proofs.Layouts.{a_layout}
+use Rattle.decisions.proofs.Graphs.{a_graph}
+use Rattle.decisions.proofs.Bounds.{a_placement}
+use Rattle.decisions.proofs.Layouts.{a_layout}
 use Rattle.outcomes_due.specs.Told.{HoldBytes}
 use Rattle.outcomes_due.proofs.Loading.{Some_due, load_due, source_due}
 

@@ -22,7 +22,7 @@ use Rattle.command_options.specs.Options.{IsRunPolicy, sizes_of}
 use Rattle.pair_commands.specs.Runs.{setup_of, pool_bytes, RunsPair, RunsBytes, Runs}
 use Rattle.capriccio_commands.specs.Due.{Does, IsDue}
 use Rattle.command_options.proofs.Options.{run-policy}
-use Rattle.pairs_decided.proofs.Pairs.{pair_decided}
+use Rattle.decisions.proofs.Pairs.{pair_decided}
 use Rattle.outcomes_due.specs.Told.{HoldBytes}
 use Rattle.outcomes_due.proofs.Loading.{Some_due, three_due, source_due, image_due, certificate_due}
 use Rattle.outcomes_due.proofs.Building.{graph_due, build_due}

@@ -4,7 +4,7 @@ use Rattle.command_words.specs.WordList.{Request, Serve, Run, Build, Check, Grap
 use Rattle.command_words.specs.declared.options.Audit.{Audit as AuditOptions}
 use Rattle.command_outcomes.specs.Done.{Outside}
 use Rattle.capriccio_commands.specs.Due.{IsDue}
-use Rattle.words_decided.proofs.Requests.{list_or_none}
+use Rattle.decisions.proofs.Requests.{list_or_none}
 use Rattle.outcomes_due.specs.Told.{HoldBytes}
 use Rattle.outcomes_due.proofs.Auditing.{Never_none, audit_words_due}
 use Rattle.outcomes_due.proofs.Loading.{Some_due}

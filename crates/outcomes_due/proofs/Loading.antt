@@ -11,9 +11,9 @@ use Rattle.command_outcomes.specs.declared.stops.Cause.TheVariants as cause
 use Rattle.command_outcomes.specs.Outcome.{Outcome}
 use Rattle.command_outcomes.specs.CauseLines.{most_bytes, refusal}
 use Rattle.command_files.specs.Loads.{OfFile, AfterLoad, AfterThree, IsSourceText, AfterSource, IsImageText, AfterImage, IsCertificateText, AfterCertificate}
-use Rattle.sources_decided.proofs.Sources.{AProgram, AnError, source_decided}
-use Rattle.files_decided.proofs.Images as images
-use Rattle.files_decided.proofs.Certificates as certificates
+use Rattle.decisions.proofs.Sources.{AProgram, AnError, source_decided}
+use Rattle.decisions.proofs.Images as images
+use Rattle.decisions.proofs.Certificates as certificates
 use Rattle.outcomes_due.specs.Told.{AreBytes, HoldBytes}
 
 -- some outcome is due

@@ -24,8 +24,8 @@ use Rattle.capriccio_commands.specs.Demos.{demo_sizes, demo_policy, Demos}
 use Rattle.capriccio_commands.specs.Due.{IsDue}
 use Rattle.command_options.proofs.Options.{serve-sizes, serve-policy, serve-pool}
 use Rattle.capriccio_commands.proofs.Workloads.{always-built, demo-in-range, demo-run-policy, demo-pool}
-use Rattle.sources_decided.proofs.Sources.{AProgram, AnError, source_decided}
-use Rattle.sources_decided.proofs.Starts.{HasWord, starts_with_words}
+use Rattle.decisions.proofs.Sources.{AProgram, AnError, source_decided}
+use Rattle.decisions.proofs.Starts.{HasWord, starts_with_words}
 use Rattle.outcomes_due.specs.Told.{HoldBytes}
 use Rattle.outcomes_due.proofs.Loading.{Some_due, load_due, source_due}
 use Rattle.outcomes_due.proofs.Building.{ABuild, built_or_not}

@@ -17,7 +17,7 @@ use Rattle.command_outcomes.specs.declared.faults.Fault.TheVariants.{Memory}
 use Rattle.pair_commands.specs.BuildsFiles.{built}
 use Rattle.command_options.specs.Options.{sizes_of}
 use Rattle.command_options.proofs.Options.{build-sizes}
-use Rattle.sources_decided.proofs.Starts.{starts_with_words}
+use Rattle.decisions.proofs.Starts.{starts_with_words}
 use Rattle.outcomes_due.proofs.Valid.{layout_words}
 use Rattle.pairs_read_again.specs.ReadAgain.{IsReadAgain}
 use Rattle.pairs_read_again.proofs.Together.{read_again}

@@ -1,5 +1,0 @@
-use Rattle.layouts_decided.proofs.Layouts.{a_layout}
-use Rattle.layouts_decided.proofs.laws.layout_is_there.Goals as goal
-
-pub returns : goal.returns
-returns c = λ code options plan distinct planned. let l = a_layout code options plan distinct planned in (l.image, l.certificate, l.is)

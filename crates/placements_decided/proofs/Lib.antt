@@ -1,4 +1,0 @@
-pub mod Sorting
-pub mod Parts
-pub mod Graphs
-pub mod Bounds

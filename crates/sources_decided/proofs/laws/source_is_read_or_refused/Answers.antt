@@ -1,6 +1,0 @@
-use Rattle.std.proofs.Common.{inl, inr}
-use Rattle.sources_decided.proofs.Sources.{source_decided}
-use Rattle.sources_decided.proofs.laws.source_is_read_or_refused.Goals as goal
-
-pub returns : goal.returns
-returns c = λ source. elim (source_decided source) [ inl p ↦ inl (p.program, p.reads, p.scoped) | inr refused ↦ inr refused ]

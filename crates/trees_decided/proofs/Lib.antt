@@ -1,9 +1,0 @@
-pub mod Signs
-pub mod Means
-pub mod Alternatives
-pub mod Trees
-pub mod Parsing
-pub mod Tables
-pub mod Words
-pub mod Lexing
-pub mod Scoping

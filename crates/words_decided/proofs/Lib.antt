@@ -1,4 +1,0 @@
-pub mod Spoken
-pub mod Values
-pub mod Commands
-pub mod Requests

@@ -1,5 +1,0 @@
-use Rattle.words_decided.proofs.Requests.{list_or_none}
-use Rattle.words_decided.proofs.laws.words_are_a_list_or_none.Goals as goal
-
-pub returns : goal.returns
-returns c = list_or_none
