@@ -1,0 +1,5 @@
+pub mod ReadAgain
+pub mod Told
+pub mod Looked
+pub mod Given
+pub mod Written

@@ -1,9 +1,0 @@
-pub mod Loading
-pub mod Running
-pub mod Building
-pub mod Valid
-pub mod Budgeting
-pub mod Commands
-pub mod Serving
-pub mod Auditing
-pub mod Every

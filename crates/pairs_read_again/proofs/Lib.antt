@@ -1,5 +1,0 @@
-pub mod Fewer
-pub mod Valid
-pub mod Words
-pub mod Lengths
-pub mod Together
