@@ -23,7 +23,7 @@ use Rattle.machine_world.proofs.FormWorlds.{IsWellFormedIf-start}
 use Rattle.schedule_log.specs.EntryText.{log_text}
 use Rattle.schedule_log.specs.declared.entries.Entry.{Entry}
 use Rattle.schedule_log.specs.declared.entries.StopLine.{StopLine}
-use Rattle.segment_call_facts.proofs.ValidCalls.{CallFacts-valid}
+use Rattle.segment_steps.proofs.ValidCalls.{CallFacts-valid}
 use Rattle.stack_certificate.specs.Certificates.{fact_at}
 use Rattle.world_source.proofs.Between.{starts_law}
 use Rattle.audited_logs.specs.Audited.{given_of, IsLawfulOrTooLong, AreCapsSmall}

@@ -22,7 +22,7 @@ use Rattle.machine_world.specs.Threads.{World, Move, step, step_on}
 use Rattle.machine_world.specs.WellFormed.{AreWellFormed, IsWellFormedIf, DeliversWords, most_fuel}
 use Rattle.machine_world.proofs.CountedLaws.{all_free-new}
 use Rattle.machine_world.proofs.FormWorlds.{IsWellFormedIf-start}
-use Rattle.segment_call_facts.proofs.ValidCalls.{CallFacts-valid}
+use Rattle.segment_steps.proofs.ValidCalls.{CallFacts-valid}
 use Rattle.stack_certificate.specs.Certificates.{fact_at}
 use Rattle.world_source.proofs.Between.{starts_law}
 use Rattle.budget_laws.specs.Lives.{live}

@@ -12,7 +12,7 @@ use Rattle.machine_world.specs.Runs.{Action, Deliver, Advance, Pick, after_actio
 use Rattle.machine_world.specs.Threads.{World, Move, Goes, Puts, Spawns, Blocks, Ends, step}
 use Rattle.machine_world.specs.WellFormed.{AreWellFormed, IsWellFormed, IsWellFormedIf, KeepsWellFormed, DeliversWords, most_fuel}
 use Rattle.machine_world.proofs.FormWorlds.{KeepsWellFormed-step, IsWellFormedIf-action, IsWellFormedIf-start}
-use Rattle.segment_call_facts.proofs.ValidCalls.{CallFacts-valid}
+use Rattle.segment_steps.proofs.ValidCalls.{CallFacts-valid}
 use Rattle.stack_certificate.specs.Certificates.{fact_at}
 use Rattle.good_logs.proofs.Stretching.{AreKept}
 use Rattle.world_source.specs.Reached.{IsReached, StepReaches}

@@ -10,7 +10,7 @@ use Rattle.c_tree.specs.TextOrder.{simple_names}
 use Rattle.c_tree.specs.Trees.{ExprTree, Number, Local, Global, LocalElement, GlobalElement, Unary, Parenthesized, Binary, LogicalAnd, LogicalOr, Conditional, CallTree, CallFunction, CallTable, CallSpawn, CallModelled, RightTree, Computed, Called, SimpleTree, DeclareScalar, DeclareArray, DeclareWith, SetLocal, SetGlobal, SetLocalElement, SetGlobalElement, Calling, StmtTree, StmtTrees, Do, Empty, Block, If, IfElse, While, For, Break, Continue, Return, NoStmts, Then, FunctionTree, ProgramTree}
 use Rattle.c_tree.specs.WellScoped.{Context, context_of, IsSimpleScoped, AreSimplesScoped, with_names, scope_after, scope_after_all, IsStepScoped, IsStmtScoped, AreStmtsScoped, IsFunctionScoped, AreFunctionsScoped, IsWellScoped}
 use Rattle.flat_code.specs.declared.operations.Op.{Op}
-use Rattle.segment_facts.specs.Zeroes.{ZeroesSome}
+use Rattle.segment_steps.specs.Zeroes.{ZeroesSome}
 use Rattle.c_lower.specs.Operations.{unary_code}
 use Rattle.c_lower.specs.ExprCode.{expr_size, expr_code}
 use Rattle.c_lower.specs.CallCode.{arguments_code, call_code, set_code, held_code}

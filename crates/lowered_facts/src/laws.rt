@@ -7,7 +7,7 @@ ghost use Rattle.flat_code.specs.Codes.{FlatCode, function_at, operation_at};
 ghost use Rattle.flat_code.specs.WellFormed.{IsWellFormed};
 ghost use Rattle.flat_code.specs.declared.operations.Op.{Op};
 ghost use Rattle.machine_world.specs.Rests.{ecall_word};
-ghost use Rattle.segment_facts.specs.Zeroes.{ZeroesSome};
+ghost use Rattle.segment_steps.specs.Zeroes.{ZeroesSome};
 ghost use Rattle.stack_certificate.specs.Certificates.{fact_at};
 ghost use Rattle.stack_certificate.specs.declared.certificates.Certificate.{Certificate};
 ghost use Rattle.stack_image.specs.declared.images.Image.{Image};

@@ -12,7 +12,7 @@ use Rattle.lowered_facts.proofs.Zeroes.{program_zeroes}
 use Rattle.machine_world.specs.Local.{Local, Question}
 use Rattle.machine_world.specs.Places.{Checked, size_in}
 use Rattle.machine_world.specs.Rests.{AtCall}
-use Rattle.segment_facts.proofs.ValidFacts.{CodeFacts-valid}
+use Rattle.segment_steps.proofs.ValidFacts.{CodeFacts-valid}
 use Rattle.segment_laws.specs.Facts.{CodeFacts}
 use Rattle.machine_world.specs.Areas.{Areas}
 use Rattle.segment_run.specs.Contexts.{checked_of, code_of, chain_from, local_of, IsOwned, IsReady}

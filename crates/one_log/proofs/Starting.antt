@@ -16,7 +16,7 @@ use Rattle.machine_world.specs.Runs.{empty_world, started_on, start_world}
 use Rattle.machine_world.specs.Threads.{World, with_thread}
 use Rattle.machine_world.specs.WellFormed.{AreWellFormed, IsWellFormed, IsWellFormedIf, most_fuel}
 use Rattle.machine_world.proofs.FormWorlds.{IsWellFormedIf-start}
-use Rattle.segment_call_facts.proofs.ValidCalls.{CallFacts-valid}
+use Rattle.segment_steps.proofs.ValidCalls.{CallFacts-valid}
 use Rattle.stack_certificate.specs.Certificates.{fact_at}
 use Rattle.world_source.specs.UnderWay.{StandsSettled}
 use Rattle.world_source.proofs.Between.{starts_law}

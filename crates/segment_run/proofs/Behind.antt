@@ -18,14 +18,14 @@ use Rattle.certificate_rules.specs.Validity.{IsValid}
 use Rattle.lowered_facts.proofs.Formed.{formed, follows}
 use Rattle.lowered_facts.proofs.Zeroes.{program_zeroes}
 use Rattle.machine_world.specs.Rests.{IsResting, AtStart, AtCall, PastCall, IsAtCall, IsPastCall, ecall_word}
-use Rattle.segment_around.proofs.Passing.{call_is_ecall}
-use Rattle.segment_facts.proofs.ValidFacts.{CodeFacts-valid}
+use Rattle.segment_steps.proofs.Passing.{call_is_ecall}
+use Rattle.segment_steps.proofs.ValidFacts.{CodeFacts-valid}
 use Rattle.segment_run.specs.Passing as passing
 use Rattle.stack_certificate.specs.declared.certificates.Certificate.{Certificate}
 use Rattle.stack_image.specs.declared.images.Image.{Image}
-use Rattle.segment_around.proofs.FirstWords.{HasOther, has_other, first_other, ask_words}
+use Rattle.segment_steps.proofs.FirstWords.{HasOther, has_other, first_other, ask_words}
 use Rattle.segment_laws.specs.Facts.{CodeFacts}
-use Rattle.segment_rest.proofs.Past.{row_first, size_some, function_of_op}
+use Rattle.segment_steps.proofs.Past.{row_first, size_some, function_of_op}
 use Rattle.segment_steps.specs.Alike.{FollowsAsks}
 use Rattle.segment_steps.proofs.Resting.{ask_shape, some_at}
 

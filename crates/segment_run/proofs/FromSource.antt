@@ -23,7 +23,7 @@ use Rattle.machine_world.specs.Places.{Checked}
 use Rattle.machine_world.specs.Rests.{IsAtCall, IsResting, AtCall}
 use Rattle.rv_code.specs.declared.instructions.Instr.{Instr}
 use Rattle.rv_machine.specs.Step.{instruction_at}
-use Rattle.segment_facts.proofs.ValidFacts.{CodeFacts-valid}
+use Rattle.segment_steps.proofs.ValidFacts.{CodeFacts-valid}
 use Rattle.segment_laws.specs.Facts.{CodeFacts}
 use Rattle.segment_laws.specs.Ways.{HasForm, WayIn, Leads}
 use Rattle.segment_run.specs.Safe.{AsksAt, IsSafeMove, StaysSafe}

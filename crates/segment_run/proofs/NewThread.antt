@@ -25,10 +25,10 @@ use Rattle.machine_world.specs.WellFormed.{AreWellFormed}
 use Rattle.rv_code.specs.declared.instructions.Instr.{Instr}
 use Rattle.rv_machine.specs.Registers.{read}
 use Rattle.rv_machine.specs.Step.{instruction_at}
-use Rattle.segment_around.specs.Around.{IsAtStart, new_thread, RestsAtStart}
-use Rattle.segment_around.proofs.Starting.{starts}
-use Rattle.segment_call_facts.proofs.ValidCalls.{CallFacts-valid}
-use Rattle.segment_facts.proofs.ValidFacts.{CodeFacts-valid}
+use Rattle.segment_steps.specs.Around.{IsAtStart, new_thread, RestsAtStart}
+use Rattle.segment_steps.proofs.Starting.{starts}
+use Rattle.segment_steps.proofs.ValidCalls.{CallFacts-valid}
+use Rattle.segment_steps.proofs.ValidFacts.{CodeFacts-valid}
 use Rattle.segment_laws.proofs.Facts.{CodeFacts}
 use Rattle.segment_steps.proofs.Needs.{NeedsFit-valid}
 use Rattle.segment_run.specs.Contexts.{AreOf, IsOwned, IsReady}

@@ -14,7 +14,7 @@ use Rattle.lowered_facts.proofs.Zeroes.{program_zeroes}
 use Rattle.machine_world.specs.InPlace.{Frame, IsFrame, IsAbove, IsStack, HeadersName, chain_below, low_below, frame_bytes, return_word}
 use Rattle.machine_world.specs.Local.{saved_tp, saved_sp}
 use Rattle.machine_world.specs.Places.{Checked}
-use Rattle.segment_facts.proofs.ValidFacts.{CodeFacts-valid}
+use Rattle.segment_steps.proofs.ValidFacts.{CodeFacts-valid}
 use Rattle.stack_certificate.specs.Certificates.{fact_at}
 use Rattle.stack_certificate.specs.declared.certificates.Certificate.{Certificate}
 use Rattle.stack_image.specs.declared.images.Image.{Image}

@@ -19,8 +19,8 @@ use Rattle.machine_world.specs.Places.{Checked}
 use Rattle.machine_world.specs.Rests.{IsResting, AtStart, AtCall, PastCall, IsAtCall}
 use Rattle.machine_world.specs.StandsFor.{Waits, HoldsIndex, StandAtCall, StandsFor}
 use Rattle.rv_machine.specs.Registers.{write}
-use Rattle.segment_around.proofs.Passing.{passes, behind_by}
-use Rattle.segment_facts.proofs.ValidFacts.{CodeFacts-valid}
+use Rattle.segment_steps.proofs.Passing.{passes, behind_by}
+use Rattle.segment_steps.proofs.ValidFacts.{CodeFacts-valid}
 use Rattle.segment_laws.proofs.Facts.{CodeFacts}
 use Rattle.segment_laws.proofs.Finish.{frame_at}
 use Rattle.segment_laws.proofs.Registers.{add-small, read-write_other}

@@ -18,10 +18,10 @@ use Rattle.machine_world.specs.Keys.{standing, site_in, with_site, sites_of, key
 use Rattle.machine_world.specs.Local.{Core, sp}
 use Rattle.machine_world.specs.Places.{Checked, Place, InOperation, IsAt, Row, Whole, row_at, size_in, before_transfer, through_call}
 use Rattle.machine_world.specs.Rests.{IsResting, AtStart, AtCall, PastCall, IsAtCall, IsPastCall, ecall_word}
-use Rattle.segment_facts.proofs.ValidFacts.{CodeFacts-valid}
+use Rattle.segment_steps.proofs.ValidFacts.{CodeFacts-valid}
 use Rattle.segment_laws.specs.Facts.{CodeFacts}
-use Rattle.segment_rest.proofs.OnePlace.{one_place}
-use Rattle.segment_rest.proofs.Past.{row_first, size_some, function_of_op}
+use Rattle.segment_steps.proofs.OnePlace.{one_place}
+use Rattle.segment_steps.proofs.Past.{row_first, size_some, function_of_op}
 use Rattle.segment_steps.proofs.Resting.{ask_shape}
 use Rattle.segment_steps.specs.Alike.{FollowsAsks}
 use Rattle.machine_world.specs.StandsFor.{StandsFor, Waits}

@@ -16,7 +16,7 @@ use Rattle.machine_world.specs.StandsFor.{SourceThread, StandsForThread, going_o
 use Rattle.rv_code.specs.declared.instructions.Instr.{Instr}
 use Rattle.rv_machine.specs.Registers.{read}
 use Rattle.rv_machine.specs.Step.{instruction_at}
-use Rattle.segment_facts.proofs.ValidFacts.{CodeFacts-valid}
+use Rattle.segment_steps.proofs.ValidFacts.{CodeFacts-valid}
 use Rattle.segment_laws.specs.Ways.{HasForm}
 use Rattle.segment_source.specs.AsSource.{HoldsWanted, HoldsResult, RunsAsSource}
 use Rattle.segment_source.proofs.Combined.{FlatLaw, rests_source}

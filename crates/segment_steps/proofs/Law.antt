@@ -7,9 +7,9 @@ use Rattle.flat_code.specs.WellFormed.{IsWellFormed}
 use Rattle.machine_world.specs.Local.{Local}
 use Rattle.machine_world.specs.Places.{Checked}
 use Rattle.machine_world.specs.StandsFor.{StandsForFlatThread}
-use Rattle.segment_call_facts.proofs.ValidCalls.{CallFacts-valid}
-use Rattle.segment_facts.proofs.ValidFacts.{CodeFacts-valid}
-use Rattle.segment_facts.specs.Zeroes.{ZeroesSome}
+use Rattle.segment_steps.proofs.ValidCalls.{CallFacts-valid}
+use Rattle.segment_steps.proofs.ValidFacts.{CodeFacts-valid}
+use Rattle.segment_steps.specs.Zeroes.{ZeroesSome}
 use Rattle.segment_laws.specs.Ways.{HasForm}
 use Rattle.segment_steps.proofs.Needs.{NeedsFit-valid}
 use Rattle.segment_steps.proofs.Reaching.{runs_alike}

@@ -16,7 +16,7 @@ use Rattle.certificate_rules.specs.Sites.{certified_site, greatest_bound, callee
 use Rattle.certificate_rules.specs.Validity.{IsValid}
 use Rattle.machine_world.specs.InPlace.{Calls}
 use Rattle.machine_world.specs.Places.{Checked}
-use Rattle.segment_facts.proofs.Standing.{all_at, all_index}
+use Rattle.segment_steps.proofs.StandingCode.{all_at, all_index}
 
 -- with the header of 16 bytes
 pub record NeedsFit (c : Checked) : Type 0 where

@@ -24,7 +24,7 @@ use Rattle.segment_laws.specs.Asking.{Arrives}
 use Rattle.segment_laws.proofs.Facts.{CodeFacts}
 use Rattle.segment_laws.proofs.Simulation.{Reaches}
 use Rattle.segment_laws.proofs.Ways.{HasForm}
-use Rattle.segment_rest.proofs.Past.{behind, function_of_op, past_arrives}
+use Rattle.segment_steps.proofs.Past.{behind, function_of_op, past_arrives}
 use Rattle.segment_steps.specs.Alike.{FollowsAsks, MayRun, running_on}
 
 -- ---- an operation that asks

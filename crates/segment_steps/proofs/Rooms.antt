@@ -29,8 +29,8 @@ use Rattle.segment_laws.proofs.FlatSteps.{function_there, was_there}
 use Rattle.segment_laws.proofs.Simulation.{During, Simulates, Reaches}
 use Rattle.segment_laws.proofs.Ways.{Leads, Leads-then, ComesTo}
 use Rattle.segment_steps.proofs.Needs.{NeedsFit}
-use Rattle.segment_tables.proofs.Members.{IsMemberAt-formed}
-use Rattle.segment_tables.proofs.TableSteps.{entered, readies, first_argument, was_member, not_lost_goes}
+use Rattle.segment_steps.proofs.Members.{IsMemberAt-formed}
+use Rattle.segment_steps.proofs.TableSteps.{entered, readies, first_argument, was_member, not_lost_goes}
 use Rattle.segment_steps.proofs.Firsts.{frames-first}
 use Rattle.segment_steps.specs.Alike.{FindsNoChunk, IsCutOff, first_of}
 use Rattle.segment_laws.proofs.Inside.{HasFrames-inside}

@@ -36,8 +36,8 @@ use Rattle.segment_laws.proofs.Simulation.{During, Simulates, load_scalar}
 use Rattle.segment_laws.proofs.Straight.{one_word}
 use Rattle.segment_laws.proofs.Ways.{IsGoodState, Leads, Leads-then}
 use Rattle.segment_steps.proofs.FlatMoves.{past_of}
-use Rattle.segment_tables.proofs.Entries.{count_is}
-use Rattle.segment_tables.proofs.TableSteps.{guarded, lost_never}
+use Rattle.segment_steps.proofs.Entries.{count_is}
+use Rattle.segment_steps.proofs.TableSteps.{guarded, lost_never}
 
 -- at the ECALL of a trap
 pub record AtTrap (c : Checked) (code : List ℕ) (l : Local) (t : FlatThread) (kind : TrapKind) : Type 0 where

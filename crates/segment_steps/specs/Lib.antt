@@ -1,1 +1,4 @@
+pub mod Zeroes
+pub mod Tables
 pub mod Alike
+pub mod Around

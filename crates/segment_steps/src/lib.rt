@@ -1,10 +1,15 @@
-// One segment of a thread of checked code, as a whole: from where it rests, the machine runs as the thread of flat code that
-// it stands for, up to its next question, trap or end.
-//
-// Definitions: specs/Alike (what both come to). Law: src/segments.rt, over the laws of single operations, calls, tables and
-// rest of the crates below. The run of a segment uses it, and the law of the source stands on it.
+// TODO
 #![tactic(auto)]
-
+mod around;
+mod call_facts;
+mod facts;
+mod resting;
 mod segments;
+mod tables;
 
+pub use around::{alone_laws, passing_laws, starting_law};
+pub use call_facts::call_facts_law;
+pub use facts::facts_law;
+pub use resting::rest_laws;
 pub use segments::segment_law;
+pub use tables::table_laws;

@@ -5,7 +5,7 @@ ghost use Rattle.flat_code.specs.Frames.{FlatThread};
 ghost use Rattle.flat_code.specs.WellFormed.{IsWellFormed};
 ghost use Rattle.machine_world.specs.Local.{Local};
 ghost use Rattle.machine_world.specs.StandsFor.{StandsForFlatThread};
-ghost use Rattle.segment_facts.specs.Zeroes.{ZeroesSome};
+ghost use Rattle.segment_steps.specs.Zeroes.{ZeroesSome};
 ghost use Rattle.segment_laws.specs.Ways.{HasForm};
 ghost use Rattle.segment_steps.specs.Alike.{FollowsAsks, IsNeverLost, MayRun, running_on, RunsAlike};
 ghost use Rattle.stack_certificate.specs.declared.certificates.Certificate.{Certificate};

@@ -23,7 +23,7 @@ use Rattle.machine_world.specs.Rests.{AtCall}
 use Rattle.machine_world.specs.Threads.{Thread, World, Move, Goes, Stops, answered, unless_trap, printed, result_of, retired, resumed, step}
 use Rattle.machine_world.specs.WellFormed.{IsWellFormed, KeepsWellFormed}
 use Rattle.machine_world.proofs.FormWorlds.{KeepsWellFormed-step}
-use Rattle.segment_facts.proofs.ValidFacts.{CodeFacts-valid}
+use Rattle.segment_steps.proofs.ValidFacts.{CodeFacts-valid}
 use Rattle.segment_laws.specs.Facts.{CodeFacts}
 use Rattle.segment_run.specs.Contexts.{checked_of, code_of, local_of, IsReady}
 use Rattle.segment_run.specs.Passing.{RestsBefore, RestsBehind}

@@ -22,7 +22,7 @@ use Rattle.machine_world.specs.Rests.{IsResting, AtCall}
 use Rattle.stack_certificate.specs.Certificates.{fact_at}
 use Rattle.machine_world.specs.Threads.{Thread, World, Setting, Move, thread_of, resumed, replaced, start_core, most_threads}
 use Rattle.machine_world.specs.WellFormed.{IsWellFormed}
-use Rattle.segment_facts.proofs.ValidFacts.{CodeFacts-valid}
+use Rattle.segment_steps.proofs.ValidFacts.{CodeFacts-valid}
 use Rattle.segment_laws.specs.Facts.{CodeFacts}
 use Rattle.segment_laws.proofs.Registers.{add-small}
 use Rattle.segment_run.specs.Contexts.{checked_of, code_of, local_of, core_of, chain_from, AreOf, IsReady}

@@ -17,7 +17,7 @@ use Rattle.machine_world.specs.StandsForWorld.{StandsForRest}
 use Rattle.machine_world.specs.Threads.{Thread, World, Setting, first_with, thread_of}
 use Rattle.machine_world.specs.WellFormed.{IsCore, IsWellFormed}
 use Rattle.machine_world.proofs.HeldLaws.{KeepsShape-step}
-use Rattle.segment_around.proofs.Untouched.{keeps_step}
+use Rattle.segment_steps.proofs.Untouched.{keeps_step}
 use Rattle.segment_laws.specs.Ways.{HasForm, IsGoodState}
 use Rattle.threads_stay.specs.Kept.{KeepsChunks}
 use Rattle.threads_stay.proofs.Resting.{rests_law}

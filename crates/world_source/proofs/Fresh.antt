@@ -28,10 +28,10 @@ use Rattle.machine_world.specs.StandsFor.{Starts, StandAtStart, StandsFor}
 use Rattle.machine_world.specs.Threads.{Thread, World, Setting, thread_of}
 use Rattle.machine_world.specs.WellFormed.{AreWellFormed, IsWellFormed}
 use Rattle.rv_machine.specs.Registers.{read}
-use Rattle.segment_around.specs.Around.{new_thread}
-use Rattle.segment_around.proofs.Starting as starting
-use Rattle.segment_call_facts.proofs.ValidCalls.{CallFacts-valid}
-use Rattle.segment_rest.proofs.OnePlace.{one_place}
+use Rattle.segment_steps.specs.Around.{new_thread}
+use Rattle.segment_steps.proofs.Starting as starting
+use Rattle.segment_steps.proofs.ValidCalls.{CallFacts-valid}
+use Rattle.segment_steps.proofs.OnePlace.{one_place}
 use Rattle.segment_steps.proofs.Needs.{NeedsFit-valid}
 use Rattle.stack_certificate.specs.Certificates.{fact_at}
 use Rattle.stack_certificate.specs.declared.certificates.Certificate.{Certificate}

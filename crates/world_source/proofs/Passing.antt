@@ -10,7 +10,7 @@ use Rattle.machine_world.specs.Local.{Core, passed}
 use Rattle.machine_world.specs.Places.{Checked, Place}
 use Rattle.machine_world.specs.Rests.{IsAtCall, IsPastCall}
 use Rattle.machine_world.specs.StandsFor.{IsWaitingFrame, StandAtCall}
-use Rattle.segment_around.proofs.Passing.{behind_by}
+use Rattle.segment_steps.proofs.Passing.{behind_by}
 use Rattle.segment_laws.proofs.Finish.{frame_at}
 use Rattle.segment_laws.specs.Facts.{CodeFacts}
 use Rattle.segment_steps.specs.Alike.{FollowsAsks}

@@ -33,7 +33,7 @@ use Rattle.machine_world.specs.WellFormed.{IsWellFormed}
 use Rattle.machine_world.proofs.FormWorlds.{IsWellFormedIf-action}
 use Rattle.rv_machine.specs.Registers.{read}
 use Rattle.segment_laws.proofs.Registers.{read-write_other}
-use Rattle.segment_rest.proofs.OnePlace.{one_place}
+use Rattle.segment_steps.proofs.OnePlace.{one_place}
 use Rattle.segment_source.specs.AsSource.{HoldsWanted, HoldsResult}
 use Rattle.segment_steps.specs.Alike.{MayRun}
 use Rattle.stack_certificate.specs.Templates.{begin}

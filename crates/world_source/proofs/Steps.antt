@@ -37,7 +37,7 @@ use Rattle.machine_world.specs.Threads as machine
 use Rattle.machine_world.specs.Threads.{Blocked, Thread, World, Setting, first_with, thread_of, replaced, Move, retired, resumed, unless_trap, result_of, printed, answered, blocks, package_call, stopped, moved}
 use Rattle.machine_world.specs.WellFormed.{IsWellFormed, KeepsWellFormed}
 use Rattle.rv_machine.specs.Registers.{read}
-use Rattle.segment_facts.proofs.ValidFacts.{CodeFacts-valid}
+use Rattle.segment_steps.proofs.ValidFacts.{CodeFacts-valid}
 use Rattle.segment_laws.proofs.Registers.{read-write_same}
 use Rattle.segment_laws.specs.Facts.{CodeFacts}
 use Rattle.segment_laws.specs.Ways.{HasForm}

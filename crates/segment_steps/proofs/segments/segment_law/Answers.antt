@@ -1,6 +1,6 @@
 use Rattle.machine_world.specs.Places.{Checked}
-use Rattle.segment_call_facts.proofs.ValidCalls.{CallFacts-valid}
-use Rattle.segment_facts.proofs.ValidFacts.{CodeFacts-valid}
+use Rattle.segment_steps.proofs.ValidCalls.{CallFacts-valid}
+use Rattle.segment_steps.proofs.ValidFacts.{CodeFacts-valid}
 use Rattle.segment_steps.proofs.Needs.{NeedsFit-valid}
 use Rattle.segment_steps.proofs.Reaching.{runs_alike}
 use Rattle.segment_steps.proofs.Resting.{rest_arrives}

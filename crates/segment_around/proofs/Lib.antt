@@ -1,4 +1,0 @@
-pub mod Untouched
-pub mod FirstWords
-pub mod Passing
-pub mod Starting
