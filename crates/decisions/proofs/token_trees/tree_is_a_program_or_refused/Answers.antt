@@ -1,7 +1,7 @@
 use Rattle.std.proofs.Common.{inl, inr}
 use Rattle.scope_rules.specs.Items.{program_of}
 use Rattle.decisions.proofs.Scoping.{free_or_refused, resolved}
-use Rattle.decisions.proofs.trees.tree_is_a_program_or_refused.Goals as goal
+use Rattle.decisions.proofs.token_trees.tree_is_a_program_or_refused.Goals as goal
 
 pub returns : goal.returns
 returns c = λ tree. elim (free_or_refused tree) [ inl free ↦ inl (program_of tree, resolved tree free) | inr refused ↦ inr (refused.0, refused.1.0, refused.1.1) ]

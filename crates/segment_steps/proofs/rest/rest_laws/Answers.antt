@@ -1,7 +1,7 @@
 use Rattle.segment_steps.proofs.OnePlace.{one_place}
 use Rattle.segment_steps.proofs.Past.{past_arrives}
 use Rattle.segment_steps.proofs.StandingAtRest.{stands_asking}
-use Rattle.segment_steps.proofs.resting.rest_laws.Goals as goal
+use Rattle.segment_steps.proofs.rest.rest_laws.Goals as goal
 
 pub returns-clause-asks : goal.returns-clause-asks
 returns-clause-asks c = stands_asking

@@ -1,6 +1,6 @@
 use Rattle.std.proofs.Common.{inl, inr}
 use Rattle.decisions.proofs.Parsing.{tokens_parse, tokens_parse_nested}
-use Rattle.decisions.proofs.trees.tokens_are_a_tree_or_refused.Goals as goal
+use Rattle.decisions.proofs.token_trees.tokens_are_a_tree_or_refused.Goals as goal
 
 pub returns-clause-whole : goal.returns-clause-whole
 returns-clause-whole c = tokens_parse
