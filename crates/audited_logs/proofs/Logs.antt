@@ -15,7 +15,7 @@ use Rattle.lawful_reading.specs.Given.{Given, chunks_of}
 use Rattle.lawful_reading.specs.Reading.{IsLawful, IsUnlawful, IsTooLong}
 use Rattle.lawful_reading.specs.State as reading_state
 use Rattle.lawful_reading.proofs.Verdicts.{lawful_unlawful, unlawful_too_long}
-use Rattle.lowered_facts.proofs.Formed.{formed}
+use Rattle.segment_source.proofs.Formed.{formed}
 use Rattle.machine_world.specs.Threads.{World}
 use Rattle.machine_world.specs.WellFormed.{AreWellFormed, IsWellFormed, IsWellFormedIf, most_fuel}
 use Rattle.machine_world.proofs.CountedLaws.{all_free-new}

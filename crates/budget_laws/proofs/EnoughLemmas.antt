@@ -21,7 +21,7 @@ use Rattle.chunk_pool.specs.declared.shape.Shape.{Shape}
 use Rattle.flat_code.specs.declared.operations.Op.{Op}
 use Rattle.lawful_log.specs.Setup.{Setup, setting_of}
 use Rattle.lawful_log.specs.Good.{checked_of}
-use Rattle.lowered_facts.proofs.Formed.{formed}
+use Rattle.segment_source.proofs.Formed.{formed}
 use Rattle.machine_world.specs.InPlace.{Frame}
 use Rattle.machine_world.specs.Keys.{is_linked}
 use Rattle.machine_world.specs.Local as local
@@ -34,8 +34,8 @@ use Rattle.machine_world.specs.Threads.{World, Thread, Move, step, moved, thread
 use Rattle.segment_source.specs.AsSource.{AsksCall, IsStepAsSource}
 use Rattle.segment_steps.specs.Alike.{last_function as last_frame, IsCutOff, IsCutMove}
 use Rattle.segment_steps.proofs.Needs.{need_path}
-use Rattle.source_roots.specs.Firsts.{first_of}
-use Rattle.source_roots.proofs.FirstLemmas.{asks-first}
+use Rattle.segment_source.specs.Firsts.{first_of}
+use Rattle.segment_source.proofs.FirstLemmas.{asks-first}
 use Rattle.stack_certificate.specs.Certificates.{need_of}
 use Rattle.stack_certificate.specs.Templates.{kind_of}
 use Rattle.stack_certificate.specs.declared.sites.LinkKind.{LinkKind}

@@ -17,7 +17,7 @@ use Rattle.machine_world.specs.Rests.{IsResting, AtStart, AtCall, PastCall}
 use Rattle.machine_world.specs.StandsFor.{Starts, Waits, AreWaitingFrames, StandAtStart, StandAtCall, StandsFor}
 use Rattle.machine_world.specs.StandsForWorld.{StandsForRest}
 use Rattle.machine_world.specs.Threads.{Thread}
-use Rattle.source_roots.specs.Firsts.{last_function, first_waiting, IsFirst, Began, IsGrown}
+use Rattle.segment_source.specs.Firsts.{last_function, first_waiting, IsFirst, Began, IsGrown}
 use Rattle.budget_laws.specs.Roots.{root_of, StartsAtRoot}
 
 -- ---- lists

@@ -15,7 +15,7 @@ use Rattle.chunk_pool.specs.Pool.{Pool, fits, shape_of, words_in}
 use Rattle.chunk_pool.specs.declared.shape.Shape.{Shape}
 use Rattle.lawful_log.specs.Setup.{Setup, setting_of, start_machine, start_areas}
 use Rattle.lawful_log.specs.Good.{checked_of}
-use Rattle.lowered_facts.proofs.Formed.{formed}
+use Rattle.segment_source.proofs.Formed.{formed}
 use Rattle.machine_world.specs.Runs.{Action, Deliver, Advance, Pick, Step, after_action, after_actions, and_then, is_between, world_of}
 use Rattle.machine_world.specs.Threads as machine
 use Rattle.machine_world.specs.Threads.{World, Move, step, step_on}

@@ -34,8 +34,8 @@ use Rattle.machine_world.specs.Threads.{Blocked, World, Thread, Move, most_threa
 use Rattle.machine_world.specs.WellFormed.{IsWellFormed, IsWellFormedIf, KeepsWellFormed, DeliversWords}
 use Rattle.machine_world.proofs.FormWorlds.{KeepsWellFormed-step, IsWellFormedIf-action}
 use Rattle.segment_source.specs.AsSource.{AsksCall, IsStepAsSource, IsAlongSource}
-use Rattle.source_roots.specs.Firsts.{first_of, IsGrown, IsUnderWayFrom, RestsFrom}
-use Rattle.source_roots.proofs.FirstLemmas.{under-way-from, grown-either, rests-from, thread-on}
+use Rattle.segment_source.specs.Firsts.{first_of, IsGrown, IsUnderWayFrom, RestsFrom}
+use Rattle.segment_source.proofs.FirstLemmas.{under-way-from, grown-either, rests-from, thread-on}
 use Rattle.world_source.specs.Reached.{IsReached, StepReaches, IsFinishedIn}
 use Rattle.world_source.specs.UnderWay.{StandsSettled}
 use Rattle.world_source.proofs.Between.{delivered_law, advanced_law}

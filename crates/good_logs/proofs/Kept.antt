@@ -7,7 +7,7 @@ use Rattle.c_tree.specs.WellScoped.{IsWellScoped}
 use Rattle.certificate_rules.specs.Validity.{IsValid}
 use Rattle.lawful_log.specs.Setup.{Setup, setting_of, start_machine, start_areas}
 use Rattle.lawful_log.specs.Good.{checked_of}
-use Rattle.lowered_facts.proofs.Formed.{formed}
+use Rattle.segment_source.proofs.Formed.{formed}
 use Rattle.machine_world.specs.Runs.{Action, Deliver, Advance, Pick, after_action}
 use Rattle.machine_world.specs.Threads.{World, Move, Goes, Puts, Spawns, Blocks, Ends, step}
 use Rattle.machine_world.specs.WellFormed.{AreWellFormed, IsWellFormed, IsWellFormedIf, KeepsWellFormed, DeliversWords, most_fuel}

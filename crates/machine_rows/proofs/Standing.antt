@@ -7,8 +7,8 @@ use Rattle.accepted_pairs.specs.Acceptance.{Acceptance}
 use Rattle.accepted_pairs.specs.Accepting.{accepted_tree}
 use Rattle.certificate_rules.specs.Validity.{IsValid}
 use Rattle.flat_code.specs.declared.operations.Op.{Op}
-use Rattle.lowered_facts.proofs.Formed.{formed}
-use Rattle.lowered_facts.proofs.Zeroes.{program_zeroes}
+use Rattle.segment_source.proofs.Formed.{formed}
+use Rattle.segment_source.proofs.Zeroes.{program_zeroes}
 use Rattle.machine_world.specs.Local.{Local, Question}
 use Rattle.machine_world.specs.Places.{Checked, size_in}
 use Rattle.machine_world.specs.Rests.{AtCall}

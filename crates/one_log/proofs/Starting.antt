@@ -10,7 +10,7 @@ use Rattle.lawful_log.specs.Lawful.{ending, IsLawfulLog}
 use Rattle.lawful_log.specs.Setup.{Setup, setting_of, main_fact, start_machine, start_areas}
 use Rattle.lawful_log.specs.State.{start_of}
 use Rattle.lawful_log.proofs.AtMostOne.{same_entries, same_stops}
-use Rattle.lowered_facts.proofs.Formed.{formed}
+use Rattle.segment_source.proofs.Formed.{formed}
 use Rattle.machine_world.specs.Areas.{Areas}
 use Rattle.machine_world.specs.Runs.{empty_world, started_on, start_world}
 use Rattle.machine_world.specs.Threads.{World, with_thread}

@@ -12,7 +12,7 @@ use Rattle.call_cycles.specs.Orders.{IsGraph}
 use Rattle.certificate_rules.specs.Validity.{IsValid, IsFirstFailure}
 use Rattle.chunk_budget.specs.declared.budgets.Budget.{Budget}
 use Rattle.chunk_budget.specs.LeastBudgets.{IsLeastBudget}
-use Rattle.lowered_facts.proofs.Formed.{formed}
+use Rattle.segment_source.proofs.Formed.{formed}
 use Rattle.stack_image.specs.declared.images.Image.{Image}
 use Rattle.stack_certificate.specs.declared.certificates.Certificate.{Certificate}
 use Rattle.analysis_lines.specs.Lines.{name_at}

@@ -23,7 +23,7 @@ use Rattle.flat_code.specs.declared.functions.FlatFunction.{FlatFunction}
 use Rattle.flat_code.specs.declared.operations.Op.{Op}
 use Rattle.flat_code.specs.Codes.{FlatCode, function_at}
 use Rattle.flat_code.specs.WellFormed.{IsWellFormed}
-use Rattle.lowered_facts.proofs.Zeroes.{program_zeroes}
+use Rattle.segment_source.proofs.Zeroes.{program_zeroes}
 use Rattle.stack_build.specs.Builds.{IsPlanned, IsLaidOut}
 use Rattle.stack_build.specs.Refusals.{of_place}
 use Rattle.stack_build.proofs.Plans.{plan-for}

@@ -36,7 +36,7 @@ use Rattle.stack_build.specs.Refusals.{of_place}
 use Rattle.stack_build.proofs.Plans.{plan-for}
 use Rattle.machine_world.specs.WellFormed.{AreWords}
 use Rattle.segment_steps.proofs.Past.{size_some}
-use Rattle.lowered_facts.proofs.Zeroes.{program_zeroes}
+use Rattle.segment_source.proofs.Zeroes.{program_zeroes}
 use Rattle.pair_commands.specs.Graphs.{HasFittingFrames}
 use Rattle.pair_commands.specs.BuildsFiles.{HasFittingCode}
 use Rattle.one_plan.proofs.LoweredGraph.{lowered-graph}

@@ -15,8 +15,8 @@ use Rattle.c_lower.specs.ProgramCode.{lowered}
 use Rattle.c_tree.specs.Trees.{ProgramTree}
 use Rattle.c_tree.specs.WellScoped.{IsWellScoped}
 use Rattle.certificate_rules.specs.Validity.{IsValid}
-use Rattle.lowered_facts.proofs.Formed.{formed, follows}
-use Rattle.lowered_facts.proofs.Zeroes.{program_zeroes}
+use Rattle.segment_source.proofs.Formed.{formed, follows}
+use Rattle.segment_source.proofs.Zeroes.{program_zeroes}
 use Rattle.machine_world.specs.Rests.{IsResting, AtStart, AtCall, PastCall, IsAtCall, IsPastCall, ecall_word}
 use Rattle.segment_steps.proofs.Passing.{call_is_ecall}
 use Rattle.segment_steps.proofs.ValidFacts.{CodeFacts-valid}

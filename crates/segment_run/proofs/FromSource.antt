@@ -13,8 +13,8 @@ use Rattle.c_tree.specs.WellScoped.{IsWellScoped}
 use Rattle.certificate_rules.specs.Validity.{IsValid}
 use Rattle.flat_code.specs.WellFormed.{signature_of}
 use Rattle.flat_code.specs.declared.operations.Op.{Op}
-use Rattle.lowered_facts.proofs.Formed.{formed, entries}
-use Rattle.lowered_facts.proofs.Zeroes.{program_zeroes}
+use Rattle.segment_source.proofs.Formed.{formed, entries}
+use Rattle.segment_source.proofs.Zeroes.{program_zeroes}
 use Rattle.machine_world.specs.Globals.{AreGlobals}
 use Rattle.machine_world.specs.InPlace.{Frame}
 use Rattle.machine_world.specs.Local as local

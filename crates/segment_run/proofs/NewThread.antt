@@ -13,8 +13,8 @@ use Rattle.chunk_pool.specs.Pool.{Pool, Taken, taken_for, IsHeld, place_of, byte
 use Rattle.chunk_pool.proofs.NeedLaws.{taken_for-sound}
 use Rattle.flat_code.specs.Codes.{function_at}
 use Rattle.flat_code.specs.Frames as flat
-use Rattle.lowered_facts.proofs.Formed.{formed}
-use Rattle.lowered_facts.proofs.Zeroes.{program_zeroes}
+use Rattle.segment_source.proofs.Formed.{formed}
+use Rattle.segment_source.proofs.Zeroes.{program_zeroes}
 use Rattle.machine_world.specs.Areas.{Areas}
 use Rattle.machine_world.specs.Globals.{AreGlobals}
 use Rattle.machine_world.specs.Local.{Core, Local, a0, with_header}

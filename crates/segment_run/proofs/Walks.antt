@@ -11,8 +11,8 @@ use Rattle.chunk_pool.specs.Pool.{Pool}
 use Rattle.rv_machine.specs.Registers.{read}
 use Rattle.flat_code.specs.declared.operations.Op.{Op}
 use Rattle.flat_code.specs.Codes.{FlatCode, function_at, operation_at, result_place, site_of}
-use Rattle.lowered_facts.proofs.Formed.{formed, follows}
-use Rattle.lowered_facts.proofs.Zeroes.{program_zeroes}
+use Rattle.segment_source.proofs.Formed.{formed, follows}
+use Rattle.segment_source.proofs.Zeroes.{program_zeroes}
 use Rattle.machine_world.specs.InPlace.{Frame, IsRunning, HeadersName, FramesAt, HasFrames, ReturnsInto, joined, words_through_call, frame_bytes, return_word}
 use Rattle.machine_world.specs.Keys.{standing, site_in, with_site, sites_of, key_of}
 use Rattle.machine_world.specs.Local.{Core, sp}

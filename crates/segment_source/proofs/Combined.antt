@@ -26,8 +26,8 @@ use Rattle.segment_steps.specs.Alike.{last_flat, first_of as flat_first, IsCutMo
 use Rattle.stack_certificate.specs.declared.certificates.Certificate.{Certificate}
 use Rattle.stack_image.specs.declared.images.Image.{Image}
 use Rattle.segment_steps.proofs.Firsts.{result-function}
-use Rattle.source_roots.specs.Firsts.{last_function as source_last, first_of}
-use Rattle.source_roots.proofs.FirstLemmas.{delivered-keeps}
+use Rattle.segment_source.specs.Firsts.{last_function as source_last, first_of}
+use Rattle.segment_source.proofs.FirstLemmas.{delivered-keeps}
 use Rattle.stands_between.specs.Between.{AreBetween, FlatsStandFor, RestAlike, flat_going_on}
 use Rattle.stands_between.proofs.Going.{goes_on}
 use Rattle.stands_between.proofs.Laws as between

@@ -7,8 +7,8 @@ use Rattle.c_tree.specs.WellScoped.{IsWellScoped}
 use Rattle.certificate_rules.specs.Validity.{IsValid}
 use Rattle.chunk_pool.specs.Pool.{Pool}
 use Rattle.flat_code.specs.Codes.{result_place}
-use Rattle.lowered_facts.proofs.Formed.{formed, follows}
-use Rattle.lowered_facts.proofs.Zeroes.{program_zeroes}
+use Rattle.segment_source.proofs.Formed.{formed, follows}
+use Rattle.segment_source.proofs.Zeroes.{program_zeroes}
 use Rattle.machine_world.specs.Local.{Core, Local, a0}
 use Rattle.machine_world.specs.Places.{Checked}
 use Rattle.machine_world.specs.Rests.{IsResting, AtStart, AtCall, PastCall}

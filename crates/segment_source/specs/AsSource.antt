@@ -20,7 +20,7 @@ use Rattle.machine_world.specs.StandsFor.{StandAtCall}
 use Rattle.rv_machine.specs.Registers.{read}
 use Rattle.segment_laws.specs.Ways.{HasForm, IsGoodState}
 use Rattle.segment_steps.specs.Alike.{Comes, FindsNone, StopsAlike, FindsNoChunk, IsCutMove}
-use Rattle.source_roots.specs.Firsts.{first_of}
+use Rattle.segment_source.specs.Firsts.{first_of}
 use Rattle.stack_certificate.specs.Certificates.{fact_at, need_of}
 use Rattle.stack_certificate.specs.Templates.{kind_of}
 

@@ -1,10 +1,9 @@
-// One thread of checked code and the source: from where it rests, the machine runs as each source thread runs that it stands
-// for, up to its next modelled call, trap or end.
-//
-// Definitions: specs/AsSource (what both come to). Laws: src/sources.rt, from that of flat code (segment_steps) and those of
-// the thread of flat code between the two (stands_between). The run of a segment cites it.
+// TODO
 #![tactic(auto)]
-
+mod lowered;
+mod roots;
 mod sources;
 
+pub use lowered::lowered_facts_law;
+pub use roots::{rest_root_law, segment_root_law};
 pub use sources::{running_law, source_law};

@@ -119,7 +119,7 @@ module _ (accepted : Acceptance) (scoped : IsWellScoped (accepted_tree accepted)
       omega (arith, inside, few)
 
   bound_fits : (fact_at accepted.certificate program.main).bound + 16 ≤ accepted.certificate.chunk
-  bound_fits = (NeedsFit-valid (lowered program) accepted.image accepted.certificate (Rattle.lowered_facts.proofs.Formed.formed program accepted.image accepted.certificate scoped valid) valid).bound program.main there
+  bound_fits = (NeedsFit-valid (lowered program) accepted.image accepted.certificate (Rattle.segment_source.proofs.Formed.formed program accepted.image accepted.certificate scoped valid) valid).bound program.main there
 
   -- a chunk is there for main
   pub main_fits : (policy : WorldPolicy) (parts : Parts) → AreParts accepted policy parts → (main : ℕ) → main ≡ program.main → FitsNone parts.areas.pool (fact_at accepted.certificate main).bound → ⊥

@@ -13,7 +13,7 @@ use Rattle.accepted_pairs.specs.Accepting.{accepted_tree}
 use Rattle.certificate_rules.specs.Validity.{IsValid}
 use Rattle.chunk_pool.specs.Pool.{Taken, taken_for, FitsNone}
 use Rattle.flat_code.specs.declared.operations.Op.{Op}
-use Rattle.lowered_facts.proofs.Formed.{formed}
+use Rattle.segment_source.proofs.Formed.{formed}
 use Rattle.machine_world.specs.Places.{Checked}
 use Rattle.machine_world.specs.Threads.{Thread, World, Setting, Stops, Spawns, thread_of, starts, spawned, retired, resumed, with_thread, most_threads, moved, step_of, step_on, step}
 use Rattle.machine_world.specs.WellFormed.{IsWellFormed, KeepsWellFormed}

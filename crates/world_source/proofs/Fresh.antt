@@ -16,7 +16,7 @@ use Rattle.flat_code.specs.Frames as flats
 use Rattle.flat_code.specs.Frames.{FlatFrame}
 use Rattle.flat_code.specs.declared.functions.FlatFunction.{FlatFunction}
 use Rattle.lower_meaning.proofs.Lowered.{function_is}
-use Rattle.lowered_facts.proofs.Formed.{formed}
+use Rattle.segment_source.proofs.Formed.{formed}
 use Rattle.machine_world.specs.Areas.{Areas}
 use Rattle.machine_world.specs.Chains.{copies}
 use Rattle.machine_world.specs.Globals.{AreGlobals}

@@ -19,7 +19,7 @@ use Rattle.flat_code.specs.WellFormed as flat
 use Rattle.flat_code.specs.declared.functions.FlatFunction.{FlatFunction}
 use Rattle.flat_code.specs.declared.operations.Op.{Op}
 use Rattle.lower_meaning.proofs.Lowered.{function_is}
-use Rattle.lowered_facts.proofs.Formed.{follows}
+use Rattle.segment_source.proofs.Formed.{follows}
 use Rattle.machine_world.specs.Globals.{AreGlobals}
 use Rattle.machine_world.specs.InPlace.{Frame}
 use Rattle.machine_world.specs.Local.{Local, a0, with_header, passed}

@@ -24,7 +24,7 @@ use Rattle.machine_world.specs.Threads as machine
 use Rattle.machine_world.specs.Threads.{Thread, World, Setting, thread_of, Move, asked, moved, stopped, step_of, step_on, step}
 use Rattle.machine_world.specs.WellFormed.{IsWellFormed, KeepsWellFormed}
 use Rattle.machine_world.proofs.FormWorlds.{KeepsWellFormed-step}
-use Rattle.lowered_facts.proofs.Formed.{formed}
+use Rattle.segment_source.proofs.Formed.{formed}
 use Rattle.segment_source.specs.AsSource.{AsksCall, IsStepAsSource}
 use Rattle.segment_steps.proofs.Needs.{NeedsFit-valid}
 use Rattle.stack_certificate.specs.Certificates.{need_of}

@@ -14,7 +14,7 @@ use Rattle.c_mean.specs.ModelledCalls.{blocking_row, immediate_row}
 use Rattle.c_mean.specs.Steps.{SourceMove, to_do, on_value, stored, stored_where, assigned, delivered_or, delivered, entered, entered_where, asks, asks_if, called, assigns, does, branched, returned, gives_back, performs, performs_first, source_step, source_machine, valued, all_valued}
 use Rattle.c_mean.specs.ToDo.{Item, Simply, Choose, Test, Enter, Back, Leave, Skip, GiveBack, GiveBackWord, Fail, before, body_before}
 use Rattle.c_mean.specs.World.{World, Segment, SegmentMove, Rested, Rest, Fresh, Blocked, Ended, unless_trap, rests, calls, segment_move, segment_step, segment_machine, begun_at, begun, thread_moves, with_started}
-use Rattle.source_roots.specs.Firsts.{last_function, first_of, first_waiting, IsFirst, Began, IsGrown, IsUnderWayFrom, RestsFrom}
+use Rattle.segment_source.specs.Firsts.{last_function, first_of, first_waiting, IsFirst, Began, IsGrown, IsUnderWayFrom, RestsFrom}
 
 -- what a step of a thread that started with a function leads to is of that function
 abbrev Keeps : ℕ → SourceMove → Type 0

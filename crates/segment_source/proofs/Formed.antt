@@ -22,7 +22,7 @@ use Rattle.stack_image.specs.declared.images.Image.{Image}
 use Rattle.stands_between.proofs.Ends.{function_ends, before_last}
 use Rattle.stands_between.proofs.Past.{ecall_site, same_function, prologue_word, whole}
 use Rattle.stands_between.proofs.Sites.{has_operation}
-use Rattle.lowered_facts.proofs.Zeroes.{program_zeroes}
+use Rattle.segment_source.proofs.Zeroes.{program_zeroes}
 
 -- ---- an operation has a word
 

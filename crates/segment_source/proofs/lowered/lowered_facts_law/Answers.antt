@@ -1,6 +1,6 @@
-use Rattle.lowered_facts.proofs.Formed.{formed, follows, entries}
-use Rattle.lowered_facts.proofs.Zeroes.{program_zeroes}
-use Rattle.lowered_facts.proofs.laws.lowered_facts_law.Goals as goal
+use Rattle.segment_source.proofs.Formed.{formed, follows, entries}
+use Rattle.segment_source.proofs.Zeroes.{program_zeroes}
+use Rattle.segment_source.proofs.lowered.lowered_facts_law.Goals as goal
 
 pub returns-clause-zeroes : goal.returns-clause-zeroes
 returns-clause-zeroes c = program_zeroes

@@ -2,7 +2,7 @@ ghost use Rattle.std.specs.Prelude.{◌≡◌, ℕ, List, Some, None, slice_get}
 ghost use Rattle.cap_word.specs.Runs.{Goes, Stops};
 ghost use Rattle.c_tree.specs.Trees.{ProgramTree};
 ghost use Rattle.c_mean.specs.World.{World, Segment, Rested, thread_moves};
-ghost use Rattle.source_roots.specs.Firsts.{IsUnderWayFrom, RestsFrom};
+ghost use Rattle.segment_source.specs.Firsts.{IsUnderWayFrom, RestsFrom};
 
 /// Where a thread has come after so many steps, it is still of the function with which it started, and the threads that were
 /// there rest where they rested. It does nothing.

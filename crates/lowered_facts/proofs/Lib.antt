@@ -1,2 +1,0 @@
-pub mod Zeroes
-pub mod Formed
