@@ -28,7 +28,7 @@ use Rattle.scheduler.specs.Scores.{score}
 use Rattle.scheduler.specs.declared.choices.Choice.{Choice}
 use Rattle.thread_core.specs.Ready.{is_ready_in, is_at_accept_in, any_ready_in, any_elsewhere_in}
 use Rattle.thread_core.specs.Turns.{Tells, Begins, KeepsSetting}
-use Rattle.thread_steps.specs.Silent.{GoesOn}
+use Rattle.thread_laws.specs.Silent.{GoesOn}
 use Rattle.thread_core.specs.Worlds.{Held, KeepsPlaces}
 use Rattle.thread_core.specs.declared.turns.Turn.{Turn}
 use Rattle.world_source.specs.Reached.{IsReached}

@@ -9,7 +9,7 @@ use Rattle.lawful_steps.proofs.Counts.{Counts, counts_step}
 use Rattle.thread_core.specs.Turns.{Tells}
 use Rattle.thread_core.specs.Worlds.{Held}
 use Rattle.thread_core.specs.declared.turns.Turn.{Turn}
-use Rattle.thread_steps.specs.Silent.{GoesOn}
+use Rattle.thread_laws.specs.Silent.{GoesOn}
 use Rattle.run_course.specs.Ranks.{turn_rank}
 
 -- the instructions of a turn's own step

@@ -13,7 +13,7 @@ use Rattle.lawful_steps.proofs.Queues.{queue_kept, all_at_node}
 use Rattle.lawful_steps.proofs.Within.{within_goes}
 use Rattle.machine_world.specs.Threads.{Thread, World, thread_of}
 use Rattle.scheduler.specs.State.{SchedulerState, queue_of}
-use Rattle.thread_steps.specs.Silent.{GoesOn}
+use Rattle.thread_laws.specs.Silent.{GoesOn}
 use Rattle.thread_core.specs.Worlds.{Held, KeepsPlaces}
 use Rattle.world_source.specs.Reached.{IsReached, StepReaches}
 use Rattle.run_course.specs.Stands.{StepsAsSource}

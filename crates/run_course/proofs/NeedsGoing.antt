@@ -16,7 +16,7 @@ use Rattle.machine_world.proofs.OtherThreads.{KeepsThread-step}
 use Rattle.ready_tree.specs.declared.entries.Entry.{Entry}
 use Rattle.scheduler.specs.Queues.{threads_of}
 use Rattle.scheduler.specs.State.{SchedulerState, entries_at}
-use Rattle.thread_steps.specs.Silent.{GoesOn}
+use Rattle.thread_laws.specs.Silent.{GoesOn}
 use Rattle.run_course.specs.Needs.{IsNeeded, AreNeeded}
 use Rattle.run_course.proofs.Needs.{needed_kept}
 

@@ -42,7 +42,7 @@ use Rattle.stride_steps.proofs.Going.{chosen_client, clients_below, clients_firs
 use Rattle.stride_steps.proofs.Passing.{passes_first, passes_left, passes_rejoined, passes_started, passes_taken}
 use Rattle.thread_core.specs.Needs.{Vouches}
 use Rattle.thread_core.specs.Worlds.{Held, KeepsPlaces}
-use Rattle.thread_steps.specs.Silent.{GoesOn}
+use Rattle.thread_laws.specs.Silent.{GoesOn}
 use Rattle.run_course.specs.Needs.{IsNeeded, AreNeeded}
 use Rattle.run_course.specs.Rules.{AreKept, AreKeptBeside, AreTold, HasAccounts, HasNothing, rule_of}
 use Rattle.run_course.proofs.Going.{live_kept, queues_kept}

@@ -20,7 +20,7 @@ use Rattle.machine_world.specs.Threads.{Blocked, Thread, World, Setting, thread_
 use Rattle.thread_core.specs.Turns.{Tells, IsTurn}
 use Rattle.thread_core.specs.Worlds.{Held}
 use Rattle.thread_core.specs.declared.turns.Turn.{Turn}
-use Rattle.thread_steps.specs.Silent.{GoesOn}
+use Rattle.thread_laws.specs.Silent.{GoesOn}
 use Rattle.run_course.specs.Times.{latest, IsTimely}
 
 -- ---- threads that wake in time

@@ -12,7 +12,7 @@ use Rattle.lawful_steps.proofs.Within.{Still, still_waiting}
 use Rattle.machine_world.specs.Threads.{Thread, World, thread_of, Setting, Move, Puts, Spawns, Blocks, Ends, Stops, step}
 use Rattle.scheduler.specs.declared.choices.Choice.{Choice}
 use Rattle.thread_core.specs.Turns.{Tells, Proceeds, KeepsSetting}
-use Rattle.thread_steps.specs.Silent.{GoesOn}
+use Rattle.thread_laws.specs.Silent.{GoesOn}
 use Rattle.thread_core.specs.Worlds.{Held, KeepsPlaces}
 use Rattle.thread_core.specs.declared.turns.Turn.{Turn}
 use Rattle.run_course.specs.Kept.{Kept}

@@ -27,8 +27,8 @@ use Rattle.segment_laws.proofs.Registers.{add-small, read-write_other}
 use Rattle.segment_run.specs.Passing.{IsBefore, RestsBefore, RestsBehind, WaitsBefore, WaitsBehind}
 use Rattle.stack_certificate.specs.declared.certificates.Certificate.{Certificate}
 use Rattle.stack_image.specs.declared.images.Image.{Image}
-use Rattle.threads_stay.specs.Kept.{KeepsChunks, KeepsStack}
-use Rattle.threads_stay.proofs.Resting.{answered_law}
+use Rattle.thread_laws.specs.Kept.{KeepsChunks, KeepsStack}
+use Rattle.thread_laws.proofs.Resting.{answered_law}
 
 -- the thread at the next instruction
 abbrev pub retired : Core → Core

@@ -33,8 +33,8 @@ use Rattle.segment_run.specs.declared.contexts.Context.{Context}
 use Rattle.thread_exchange.specs.Exchanges.{Exchanging, MayResume, row_of}
 use Rattle.thread_waits.specs.Waiting.{Waiting, wait_at}
 use Rattle.thread_waits.specs.declared.waits.Wait.{Wait}
-use Rattle.threads_by_number.specs.Found.{IsNumbered, threads_in}
-use Rattle.threads_by_number.proofs.Changing.{record_written, all_same}
+use Rattle.thread_laws.specs.Found.{IsNumbered, threads_in}
+use Rattle.thread_laws.proofs.Changing.{record_written, all_same}
 use Rattle.thread_core.specs.States.{number_of, thread_of_record, threads_of, machine_of, setting_of, number_in, blocked_of}
 use Rattle.thread_core.specs.Kept.{IsKept, AreAligned}
 use Rattle.c_mean.specs.ModelledCalls.{is_past, wake_of}

@@ -23,7 +23,7 @@ use Rattle.segment_run.specs.Segments.{IsAtSpawn, IsAtAsk}
 use Rattle.segment_steps.proofs.Needs.{NeedsFit-valid}
 use Rattle.stack_certificate.specs.Certificates.{fact_at, need_of}
 use Rattle.stack_certificate.specs.Templates.{kind_of}
-use Rattle.threads_by_number.proofs.Changing.{thread_found}
+use Rattle.thread_laws.proofs.Changing.{thread_found}
 use Rattle.thread_core.specs.Kept.{IsRunningThere}
 use Rattle.thread_core.specs.States.{number_of, thread_of_record, threads_of, machine_of, setting_of, number_in}
 use Rattle.thread_core.specs.Steps.{Runs, LocalIs}

@@ -31,11 +31,11 @@ use Rattle.segment_run.specs.Segments.{IsAtAsk}
 use Rattle.segment_run.specs.declared.contexts.Context.{Context}
 use Rattle.segment_run.specs.declared.contexts.Fuel.{Fuel}
 use Rattle.segment_run.proofs.Owning.{IsOwned-owns}
-use Rattle.segment_worlds.proofs.OtherThreads.{replaced_joined}
-use Rattle.threads_by_number.specs.Found.{IsNumbered, KeepsRecords, threads_in}
-use Rattle.threads_by_number.proofs.Changing.{thread_found, record_added, record_written}
-use Rattle.threads_stay.specs.Kept.{KeepsChunks}
-use Rattle.threads_stay.proofs.Resting.{rests_law}
+use Rattle.thread_laws.proofs.OtherThreads.{replaced_joined}
+use Rattle.thread_laws.specs.Found.{IsNumbered, KeepsRecords, threads_in}
+use Rattle.thread_laws.proofs.Changing.{thread_found, record_added, record_written}
+use Rattle.thread_laws.specs.Kept.{KeepsChunks}
+use Rattle.thread_laws.proofs.Resting.{rests_law}
 use Rattle.thread_waits.specs.Waiting.{Waiting, wait_at}
 use Rattle.thread_waits.specs.declared.waits.Wait.{Wait}
 use Rattle.world_source.proofs.Forms.{has_form}

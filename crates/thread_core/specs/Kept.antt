@@ -8,7 +8,7 @@ use Rattle.accepted_pairs.specs.Accepting.{accepted_tree}
 use Rattle.machine_world.specs.WellFormed.{IsWellFormed}
 use Rattle.segment_run.specs.Contexts.{checked_of, code_of, local_of, AreOf, IsReady}
 use Rattle.thread_waits.specs.Waiting.{wait_at}
-use Rattle.threads_by_number.specs.Found.{IsNumbered}
+use Rattle.thread_laws.specs.Found.{IsNumbered}
 use Rattle.world_runs.specs.Running.{IsRunning}
 use Rattle.world_source.specs.UnderWay.{IsSettled}
 use Rattle.thread_core.specs.Waiting.{IsUntrapped}

@@ -19,8 +19,8 @@ use Rattle.machine_world.specs.WellFormed.{IsCore, IsWellFormed}
 use Rattle.machine_world.proofs.HeldLaws.{KeepsShape-step}
 use Rattle.segment_steps.proofs.Untouched.{keeps_step}
 use Rattle.segment_laws.specs.Ways.{HasForm, IsGoodState}
-use Rattle.threads_stay.specs.Kept.{KeepsChunks}
-use Rattle.threads_stay.proofs.Resting.{rests_law}
+use Rattle.thread_laws.specs.Kept.{KeepsChunks}
+use Rattle.thread_laws.proofs.Resting.{rests_law}
 use Rattle.world_source.proofs.Threads.{held_one, held_two, each_chunk}
 
 -- the thread over the areas

@@ -39,7 +39,7 @@ use Rattle.stack_image.specs.declared.images.Image.{Image}
 use Rattle.stands_between.proofs.Going as going
 use Rattle.stands_between.proofs.Laws as between
 use Rattle.stands_between.proofs.Past.{InFunction, past_function}
-use Rattle.threads_stay.specs.Kept.{KeepsChunks}
+use Rattle.thread_laws.specs.Kept.{KeepsChunks}
 use Rattle.world_source.proofs.Threads.{held_one, each_chunk}
 use Rattle.world_source.proofs.Forms.{at_most_one}
 

@@ -41,8 +41,8 @@ use Rattle.stack_certificate.specs.declared.certificates.Certificate.{Certificat
 use Rattle.stack_image.specs.declared.images.Image.{Image}
 use Rattle.stands_between.proofs.Past.{ecall_inside}
 use Rattle.stands_between.proofs.Sites.{has_operation}
-use Rattle.threads_stay.specs.Kept.{KeepsChunks, KeepsStack}
-use Rattle.threads_stay.proofs.Frames.{frames_law}
+use Rattle.thread_laws.specs.Kept.{KeepsChunks, KeepsStack}
+use Rattle.thread_laws.proofs.Frames.{frames_law}
 use Rattle.world_source.specs.Reached.{with_puts, IsReached}
 use Rattle.world_source.specs.UnderWay.{IsBlockingCall, RestsSo, IsSettledThread, IsSettledIf, StandsSettled, IsUnderWay}
 use Rattle.world_source.proofs.Forms.{local_in, has_form}

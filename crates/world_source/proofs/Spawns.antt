@@ -34,7 +34,7 @@ use Rattle.segment_laws.proofs.Registers.{read-write_same}
 use Rattle.stack_certificate.specs.Certificates.{fact_at}
 use Rattle.stack_certificate.specs.declared.certificates.Certificate.{Certificate}
 use Rattle.stack_image.specs.declared.images.Image.{Image}
-use Rattle.threads_stay.proofs.Resting.{rests_law}
+use Rattle.thread_laws.proofs.Resting.{rests_law}
 use Rattle.world_source.specs.Reached.{IsReached, StepReaches}
 use Rattle.world_source.specs.UnderWay.{IsSettledIf, IsUnderWay}
 use Rattle.world_source.proofs.Forms.{has_form, rest_stays}

@@ -11,8 +11,8 @@ use Rattle.flat_code.specs.Codes.{result_place}
 use Rattle.rv_machine.specs.Registers.{read}
 use Rattle.segment_source.specs.AsSource.{HoldsWanted, HoldsResult}
 use Rattle.segment_steps.specs.Alike.{MayRun}
-use Rattle.threads_stay.specs.Kept.{KeepsChunks, KeepsStack}
-use Rattle.threads_stay.proofs.Frames.{frames_law}
+use Rattle.thread_laws.specs.Kept.{KeepsChunks, KeepsStack}
+use Rattle.thread_laws.proofs.Frames.{frames_law}
 use Rattle.world_source.specs.UnderWay.{IsSettledIf, RestsSo}
 
 -- ---- rest

@@ -1,0 +1,3 @@
+pub mod Silent
+pub mod Found
+pub mod Kept
