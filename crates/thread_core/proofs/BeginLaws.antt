@@ -14,8 +14,8 @@ use Rattle.slab.specs.Slab.{get}
 use Rattle.segment_run.specs.Contexts.{checked_of, code_of, local_of, IsReady}
 use Rattle.thread_core.specs.declared.records.Record.{Record}
 use Rattle.thread_laws.specs.Silent.{GoesOn}
-use Rattle.world_runs.specs.Running.{IsRunning, KeepsRunning}
-use Rattle.world_runs.proofs.Stretching as runs
+use Rattle.world_source.specs.Running.{IsRunning, KeepsRunning}
+use Rattle.world_source.proofs.Stretching as runs
 use Rattle.world_source.specs.UnderWay.{IsSettled}
 use Rattle.thread_core.specs.Kept.{IsKept, HasCome}
 use Rattle.thread_core.specs.States.{machine_of, setting_of, number_in}

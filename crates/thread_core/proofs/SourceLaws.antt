@@ -17,8 +17,8 @@ use Rattle.machine_world.specs.StandsForWorld.{StandsForWorld}
 use Rattle.machine_world.specs.Threads.{World, Setting, Move, Puts, Spawns, Blocks, Ends, Stops, step}
 use Rattle.machine_world.specs.WellFormed.{IsWellFormed}
 use Rattle.segment_run.specs.Contexts.{checked_of}
-use Rattle.world_runs.specs.Running.{IsRunning}
-use Rattle.world_runs.proofs.Stretching as runs
+use Rattle.world_source.specs.Running.{IsRunning}
+use Rattle.world_source.proofs.Stretching as runs
 use Rattle.world_source.proofs.Laws as law
 use Rattle.world_source.specs.Reached.{IsReached, IsFinished, IsFinishedIn, StepReaches}
 use Rattle.world_source.specs.UnderWay.{IsSettled}

@@ -9,7 +9,7 @@ use Rattle.machine_world.specs.WellFormed.{IsWellFormed}
 use Rattle.segment_run.specs.Contexts.{checked_of, code_of, local_of, AreOf, IsReady}
 use Rattle.thread_waits.specs.Waiting.{wait_at}
 use Rattle.thread_laws.specs.Found.{IsNumbered}
-use Rattle.world_runs.specs.Running.{IsRunning}
+use Rattle.world_source.specs.Running.{IsRunning}
 use Rattle.world_source.specs.UnderWay.{IsSettled}
 use Rattle.thread_core.specs.Waiting.{IsUntrapped}
 use Rattle.thread_core.specs.States.{number_of, threads_of, setting_of, machine_of}

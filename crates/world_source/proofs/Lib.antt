@@ -12,3 +12,4 @@ pub mod Picks
 pub mod Sound
 pub mod Between
 pub mod Laws
+pub mod Stretching

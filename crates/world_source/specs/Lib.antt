@@ -1,2 +1,3 @@
 pub mod UnderWay
 pub mod Reached
+pub mod Running

@@ -1,5 +1,5 @@
-use Rattle.world_runs.proofs.Stretching.{picks, steps, stretch, stretch_on, source_along}
-use Rattle.world_runs.proofs.runs.running_laws.Goals as goal
+use Rattle.world_source.proofs.Stretching.{picks, steps, stretch, stretch_on, source_along}
+use Rattle.world_source.proofs.runs.running_laws.Goals as goal
 
 pub returns-clause-picks : goal.returns-clause-picks
 returns-clause-picks c = λ program image certificate s w after number scoped valid code formed settled e. picks program image certificate s scoped valid code w after number formed settled e

@@ -14,7 +14,7 @@ use Rattle.machine_world.proofs.FormWorlds.{KeepsWellFormed-step}
 use Rattle.stack_certificate.specs.declared.certificates.Certificate.{Certificate}
 use Rattle.stack_image.specs.declared.images.Image.{Image}
 use Rattle.thread_laws.specs.Silent.{GoesOn}
-use Rattle.world_runs.specs.Running.{IsRunning, KeepsRunning}
+use Rattle.world_source.specs.Running.{IsRunning, KeepsRunning}
 use Rattle.world_source.specs.Reached.{IsReached, StepReaches}
 use Rattle.world_source.specs.UnderWay.{IsSettled}
 use Rattle.world_source.proofs.Laws as law

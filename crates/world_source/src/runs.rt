@@ -11,7 +11,7 @@ ghost use Rattle.machine_world.specs.WellFormed.{IsWellFormed};
 ghost use Rattle.stack_certificate.specs.declared.certificates.Certificate.{Certificate};
 ghost use Rattle.stack_image.specs.declared.images.Image.{Image};
 ghost use Rattle.thread_laws.specs.Silent.{GoesOn};
-ghost use Rattle.world_runs.specs.Running.{IsRunning, KeepsRunning};
+ghost use Rattle.world_source.specs.Running.{IsRunning, KeepsRunning};
 ghost use Rattle.world_source.specs.Reached.{IsReached};
 ghost use Rattle.world_source.specs.UnderWay.{IsSettled};
 
