@@ -6,8 +6,8 @@ use Rattle.chunk_pool.proofs.PoolStart.{IsPool-start_bytes}
 use Rattle.lawful_log.specs.Good.{checked_of}
 use Rattle.lawful_log.specs.Setup.{Setup, start_areas}
 use Rattle.machine_world.specs.WellFormed.{AreWellFormed}
-use Rattle.one_log.specs.One.{HasOneLog}
-use Rattle.one_log.proofs.Starting.{one_log}
+use Rattle.log_laws.specs.One.{HasOneLog}
+use Rattle.log_laws.proofs.Starting.{one_log}
 use Rattle.segment_run.proofs.Forming.{areas_formed}
 use Rattle.command_outcomes.specs.Outcome.{Outcome}
 use Rattle.capriccio_commands.specs.Demos.{ShowsRun, shown_outcome}

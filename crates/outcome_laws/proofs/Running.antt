@@ -7,9 +7,9 @@ use Rattle.chunk_pool.proofs.ShapeLaws.{first_bytes-start}
 use Rattle.lawful_log.specs.Good.{checked_of}
 use Rattle.lawful_log.specs.Setup.{Setup, start_areas}
 use Rattle.machine_world.specs.WellFormed.{AreWellFormed}
-use Rattle.one_log.specs.One.{HasOneLog}
-use Rattle.one_log.proofs.Starting.{one_log}
-use Rattle.good_logs.proofs.Good.{good}
+use Rattle.log_laws.specs.One.{HasOneLog}
+use Rattle.log_laws.proofs.Starting.{one_log}
+use Rattle.log_laws.proofs.Good.{good}
 use Rattle.segment_run.proofs.Forming.{areas_formed}
 use Rattle.pair_commands.specs.Runs.{IsAccepted, IsRun, RunsOn, run_outcome}
 use Rattle.capriccio_commands.specs.Demos.{ShowsRun, shown_outcome}

@@ -3,7 +3,7 @@ use Rattle.std.proofs.Common.{◌≡◌, ℕ, zero, suc, ◌+◌, ◌≤◌, Lis
 use Rattle.std.specs.Prelude.{IfSome}
 use Rattle.std.specs.Io.KnownBytes.{Appends}
 use Rattle.blocking_graph.specs.declared.edges.EdgeLine.{EdgeLine}
-use Rattle.good_logs.proofs.Good.{good}
+use Rattle.log_laws.proofs.Good.{good}
 use Rattle.choice_rules.specs.Policy.{Rule}
 use Rattle.choice_rules.specs.EdgeLines.{edge_entry}
 use Rattle.lawful_log.specs.Good.{IsGoodLog, checked_of}
@@ -13,8 +13,8 @@ use Rattle.lawful_log.specs.State.{State, start_of}
 use Rattle.lawful_log.proofs.AtMostOne.{begins_each}
 use Rattle.machine_world.specs.Stretches as stretches
 use Rattle.machine_world.specs.Threads.{World, Setting}
-use Rattle.one_log.specs.One.{HasOneLog}
-use Rattle.one_log.proofs.Starting.{one_log}
+use Rattle.log_laws.specs.One.{HasOneLog}
+use Rattle.log_laws.proofs.Starting.{one_log}
 use Rattle.resource_monitor.specs.Monitor.{MonitorState}
 use Rattle.run_course.specs.Starts.{IsAtStartBy}
 use Rattle.runner.specs.Answers.{IsEndAt, IsOfThread, CameTo, FellShort}

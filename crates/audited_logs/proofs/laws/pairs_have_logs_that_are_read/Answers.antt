@@ -1,5 +1,5 @@
 use Rattle.audited_logs.proofs.Logs.{log_judged}
-use Rattle.one_log.proofs.Starting.{one_log}
+use Rattle.log_laws.proofs.Starting.{one_log}
 use Rattle.audited_logs.proofs.laws.pairs_have_logs_that_are_read.Goals as goal
 
 pub returns : goal.returns

@@ -23,8 +23,8 @@ use Rattle.machine_world.specs.Threads.{World, Setting}
 use Rattle.schedule_log.specs.declared.entries.Entry.{Entry}
 use Rattle.schedule_log.specs.declared.entries.Item.{Item}
 use Rattle.schedule_log.specs.declared.entries.StopLine.{StopLine}
-use Rattle.good_logs.proofs.Words.{delivered_is, delivers_words}
-use Rattle.good_logs.proofs.Stretching.{AreKept, Way, way_begun, way_quiet, way_puts, Rested, way_blocks, way_ends}
+use Rattle.log_laws.proofs.Words.{delivered_is, delivers_words}
+use Rattle.log_laws.proofs.Stretching.{AreKept, Way, way_begun, way_quiet, way_puts, Rested, way_blocks, way_ends}
 
 abbrev no_segment : Option Segment
 no_segment = None

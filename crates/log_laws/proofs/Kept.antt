@@ -14,7 +14,7 @@ use Rattle.machine_world.specs.WellFormed.{AreWellFormed, IsWellFormed, IsWellFo
 use Rattle.machine_world.proofs.FormWorlds.{KeepsWellFormed-step, IsWellFormedIf-action, IsWellFormedIf-start}
 use Rattle.segment_steps.proofs.ValidCalls.{CallFacts-valid}
 use Rattle.stack_certificate.specs.Certificates.{fact_at}
-use Rattle.good_logs.proofs.Stretching.{AreKept}
+use Rattle.log_laws.proofs.Stretching.{AreKept}
 use Rattle.world_source.specs.Reached.{IsReached, StepReaches}
 use Rattle.world_source.specs.UnderWay.{IsSettled, StandsSettled}
 use Rattle.world_source.proofs.Between.{delivered_law, advanced_law, starts_law}

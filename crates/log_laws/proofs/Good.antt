@@ -10,8 +10,8 @@ use Rattle.machine_world.specs.Threads.{World}
 use Rattle.machine_world.specs.WellFormed.{AreWellFormed, most_fuel}
 use Rattle.schedule_log.specs.declared.entries.Entry.{Entry}
 use Rattle.schedule_log.specs.declared.entries.StopLine.{StopLine}
-use Rattle.good_logs.proofs.Going.{log_is_good}
-use Rattle.good_logs.proofs.Kept.{Rests, Runs, kept, starts}
+use Rattle.log_laws.proofs.Going.{log_is_good}
+use Rattle.log_laws.proofs.Kept.{Rests, Runs, kept, starts}
 
 pub good : (g : Setup) (trace : List ℕ) (entries : List Entry) (stop : StopLine) (end : World) → IsWellScoped g.program → IsValid (lowered g.program) g.image g.certificate →
     AreWellFormed (checked_of g) (start_areas g) → g.policy.fuel ≤ most_fuel →

@@ -23,8 +23,8 @@ use Rattle.world_source.proofs.Between.{starts_law}
 use Rattle.c_mean.specs.World as source
 use Rattle.lawful_steps.specs.Waiting.{AreWaiting}
 use Rattle.lawful_steps.proofs.Between.{between_after}
-use Rattle.one_log.specs.One.{HasOneLog}
-use Rattle.one_log.proofs.Runs.{Between, rest_of}
+use Rattle.log_laws.specs.One.{HasOneLog}
+use Rattle.log_laws.proofs.Runs.{Between, rest_of}
 use Rattle.chunk_pool.proofs.NeedLaws.{taken_for-start}
 use Rattle.chunk_pool.proofs.ShapeLaws.{first_bytes-start}
 use Rattle.machine_world.proofs.CountedLaws.{all_free-new}

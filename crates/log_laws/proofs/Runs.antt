@@ -50,9 +50,9 @@ use Rattle.lawful_steps.proofs.Own.{found_below}
 use Rattle.lawful_steps.proofs.Picked.{is_picked}
 use Rattle.lawful_steps.proofs.Told.{ready_same}
 use Rattle.lawful_steps.proofs.Within.{within_goes, within_spawns, within_puts, put_state, put_segment, out_allowed, rests_blocked, blocked_state, cost_of, block_allowed, threads_blocked, formed_after_block, ended_state, end_allowed, threads_ended, formed_after_end, stop_allowed}
-use Rattle.one_log.proofs.Least.{lawful_choice}
-use Rattle.one_log.proofs.Lines.{Next, Over, Line, Refused, next_of, shorter}
-use Rattle.one_log.proofs.Times as times
+use Rattle.log_laws.proofs.Least.{lawful_choice}
+use Rattle.log_laws.proofs.Lines.{Next, Over, Line, Refused, next_of, shorter}
+use Rattle.log_laws.proofs.Times as times
 use Rattle.chunk_pool.specs.Pool.{free_count}
 
 -- ---- small things

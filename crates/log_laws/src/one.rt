@@ -5,7 +5,7 @@ ghost use Rattle.certificate_rules.specs.Validity.{IsValid};
 ghost use Rattle.lawful_log.specs.Good.{checked_of};
 ghost use Rattle.lawful_log.specs.Setup.{Setup, start_areas};
 ghost use Rattle.machine_world.specs.WellFormed.{AreWellFormed, most_fuel};
-ghost use Rattle.one_log.specs.One.{HasOneLog};
+ghost use Rattle.log_laws.specs.One.{HasOneLog};
 
 /// A valid pair of a well scoped program has exactly one lawful log, whatever the trace and the policy, where the policy's chunks
 /// make a pool of the certificate's chunks and its fuel is in range. It does nothing.

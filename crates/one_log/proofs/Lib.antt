@@ -1,5 +1,0 @@
-mod Least
-mod Lines
-mod Times
-mod Runs
-pub mod Starting
