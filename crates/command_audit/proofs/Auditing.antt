@@ -8,7 +8,7 @@ use Rattle.c_tree.specs.Trees.{ProgramTree}
 use Rattle.choice_rules.specs.Policy.{by_graph}
 use Rattle.command_words.specs.declared.options.Audit.{Audit as AuditOptions}
 use Rattle.lawful_reading.specs.Given.{Given}
-use Rattle.log_verdicts.proofs.Some.{some_verdict}
+use Rattle.lawful_reading.proofs.Some.{some_verdict}
 use Rattle.resource_monitor.specs.Monitor.{MonitorState}
 use Rattle.schedule_audit.specs.Verdicts.{IsVerdict}
 use Rattle.schedule_reading.specs.Limits.{MayAudit, given_of}

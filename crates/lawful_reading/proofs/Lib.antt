@@ -1,3 +1,4 @@
+pub mod Some
 pub mod Refused
 pub mod Moves
 pub mod Once

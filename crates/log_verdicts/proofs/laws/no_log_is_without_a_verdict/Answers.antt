@@ -1,5 +1,0 @@
-use Rattle.log_verdicts.proofs.Some.{some_verdict}
-use Rattle.log_verdicts.proofs.laws.no_log_is_without_a_verdict.Goals as goal
-
-pub returns : goal.returns
-returns c = λ g trace log lawful unlawful long. some_verdict g trace log lawful unlawful long
