@@ -1,3 +1,7 @@
+pub mod Finding
+pub mod Passing
+pub mod StrideChoices
+pub mod Going
 pub mod Counts
 pub mod Own
 pub mod Lists

@@ -1,3 +1,5 @@
+pub mod Clients
+pub mod Passes
 pub mod Waiting
 pub mod Tests
 pub mod Beside

@@ -1,16 +1,11 @@
-// How a log goes on: for each thing that a run may do, the entry that is then allowed and the state after it.
-//
-// Laws alone, over the definitions of lawful_log. A run keeps a machine world beside the state of its log: between segments
-// (IsBetween, specs/Within), where the clock may have moved (specs/Clocks), and within one (IsWithin), some steps without an
-// entry behind the state. It keeps the queues of a scheduler (specs/Waiting) and what choices rest on (specs/Beside). The laws
-// in src/ say of each step of such a run which entry it may write; the runner cites their lemmas. Ready threads, sleepers and
-// the choice are said once by the machine world and once by the source world; here both are the same.
+// TODO
 #![tactic(auto)]
-
 mod choosing;
 mod points;
 mod segments;
+mod strides;
 
 pub use choosing::choice_laws;
 pub use points::point_laws;
 pub use segments::segment_entry_laws;
+pub use strides::stride_step_laws;

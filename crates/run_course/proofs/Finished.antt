@@ -34,8 +34,8 @@ use Rattle.run_course.specs.Rules.{AreKept, AreTold}
 use Rattle.run_course.specs.Rest.{Rest}
 use Rattle.rule_state.specs.Rules.{HasLeft}
 use Rattle.rule_state.specs.declared.rules.RuleState.{RuleState}
-use Rattle.stride_steps.specs.Clients.{waiter_of}
-use Rattle.stride_steps.proofs.Finding.{none_waiting}
+use Rattle.lawful_steps.specs.Clients.{waiter_of}
+use Rattle.lawful_steps.proofs.Finding.{none_waiting}
 use Rattle.run_course.proofs.Rules.{accounts_left, kept_left, noted_left, told_left, told_step}
 use Rattle.run_course.proofs.Over.{between_any, gate_more, edges_more}
 use Rattle.chunk_pool.specs.Pool.{free_count}

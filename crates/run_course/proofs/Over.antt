@@ -33,8 +33,8 @@ use Rattle.resource_monitor.specs.Gate.{gate, gate_after}
 use Rattle.resource_monitor.specs.Pressure.{pressures}
 use Rattle.rule_state.specs.Rules.{HasRejoined}
 use Rattle.rule_state.specs.declared.rules.RuleState.{RuleState}
-use Rattle.stride_steps.specs.Clients.{waiter_of}
-use Rattle.stride_steps.proofs.Finding.{none_waiting}
+use Rattle.lawful_steps.specs.Clients.{waiter_of}
+use Rattle.lawful_steps.proofs.Finding.{none_waiting}
 use Rattle.stands_between.specs.Between.{resting_key}
 use Rattle.stands_between.proofs.SiteKeys.{key_is}
 use Rattle.thread_core.specs.Turns.{Tells, HasKey, HasKeyOf}

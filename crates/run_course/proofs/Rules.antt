@@ -34,12 +34,12 @@ use Rattle.scheduler.specs.Scores.{score}
 use Rattle.scheduler.specs.State.{SchedulerState, last_of, queue_of, started}
 use Rattle.scheduler.specs.declared.choices.Choice.{Choice}
 use Rattle.stride_rule.specs.State.{StrideState, after_choice, new_rule}
-use Rattle.stride_steps.specs.Clients.{waiter_of, AreClients}
-use Rattle.stride_steps.specs.Passes.{HasPasses, StartedBy}
-use Rattle.stride_steps.proofs.Choosing.{stride_choice_told}
-use Rattle.stride_steps.proofs.Finding.{none_at}
-use Rattle.stride_steps.proofs.Going.{chosen_client, clients_below, clients_first, clients_left, clients_placed, clients_rejoined, clients_started, clients_taken, may_start, others, runner_started, runner_taken}
-use Rattle.stride_steps.proofs.Passing.{passes_first, passes_left, passes_rejoined, passes_started, passes_taken}
+use Rattle.lawful_steps.specs.Clients.{waiter_of, AreClients}
+use Rattle.lawful_steps.specs.Passes.{HasPasses, StartedBy}
+use Rattle.lawful_steps.proofs.StrideChoices.{stride_choice_told}
+use Rattle.lawful_steps.proofs.Finding.{none_at}
+use Rattle.lawful_steps.proofs.Going.{chosen_client, clients_below, clients_first, clients_left, clients_placed, clients_rejoined, clients_started, clients_taken, may_start, others, runner_started, runner_taken}
+use Rattle.lawful_steps.proofs.Passing.{passes_first, passes_left, passes_rejoined, passes_started, passes_taken}
 use Rattle.thread_core.specs.Needs.{Vouches}
 use Rattle.thread_core.specs.Worlds.{Held, KeepsPlaces}
 use Rattle.thread_laws.specs.Silent.{GoesOn}

@@ -18,7 +18,7 @@ use Rattle.machine_world.proofs.OtherThreads.{KeepsThread-step}
 use Rattle.machine_world.specs.Threads.{World, thread_of, Move, Goes, Puts, Spawns, Blocks, Ends, Stops, Wrong, step}
 use Rattle.rule_state.specs.Rules.{HasStarted, MayStart}
 use Rattle.rule_state.specs.declared.rules.RuleState.{RuleState}
-use Rattle.stride_steps.specs.Clients.{waiter_of}
+use Rattle.lawful_steps.specs.Clients.{waiter_of}
 use Rattle.thread_core.specs.Turns.{Tells}
 use Rattle.thread_core.specs.Worlds.{Held, IsThread, segment_cost}
 use Rattle.thread_core.specs.declared.turns.Turn.{Turn}

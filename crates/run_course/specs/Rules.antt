@@ -10,8 +10,8 @@ use Rattle.rule_state.specs.declared.rules.RuleState.{RuleState}
 use Rattle.rule_state.specs.declared.rules.RuleState.TheVariants.{Graph, Stride}
 use Rattle.scheduler.specs.State.{started}
 use Rattle.stride_rule.specs.State.{new_rule}
-use Rattle.stride_steps.specs.Clients.{AreClients, HasRunner}
-use Rattle.stride_steps.specs.Passes.{HasPasses}
+use Rattle.lawful_steps.specs.Clients.{AreClients, HasRunner}
+use Rattle.lawful_steps.specs.Passes.{HasPasses}
 use Rattle.run_course.specs.Needs.{AreNeeded}
 
 -- the rule of a policy of which this is the state

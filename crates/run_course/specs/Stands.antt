@@ -30,7 +30,7 @@ use Rattle.rule_state.specs.declared.rules.RuleState.{RuleState}
 use Rattle.scheduler.specs.declared.choices.Choice.{Choice}
 use Rattle.run_course.specs.declared.course.Under.{Under}
 use Rattle.run_course.specs.declared.looking.Next.{Next}
-use Rattle.stride_steps.specs.Passes.{StartedBy}
+use Rattle.lawful_steps.specs.Passes.{StartedBy}
 use Rattle.thread_core.specs.Ready.{any_ready_in}
 use Rattle.thread_core.specs.Turns.{Tells}
 use Rattle.thread_core.specs.declared.turns.Turn.{Turn}

@@ -20,8 +20,8 @@ ghost use Rattle.stride_rule.specs.Clients.{client_of};
 ghost use Rattle.stride_rule.specs.State.{AreOnce, StrideState, after_choice, after_leaving, after_segment, with_client};
 ghost use Rattle.stride_rule.specs.declared.choices.StrideChoice.{StrideChoice};
 ghost use Rattle.stride_rule.specs.declared.clients.Client.{Client};
-ghost use Rattle.stride_steps.specs.Clients.{AreClients, HasRunner, waiter_of};
-ghost use Rattle.stride_steps.specs.Passes.{HasPasses, StartedBy};
+ghost use Rattle.lawful_steps.specs.Clients.{AreClients, HasRunner, waiter_of};
+ghost use Rattle.lawful_steps.specs.Passes.{HasPasses, StartedBy};
 
 /// The choice of a stride rule whose clients are the threads that wait, and whose passes are those of the log, is the lawful one;
 /// there is one where a thread is ready. A choice, a start and the end of a segment keep the clients and the passes. It does

@@ -12,8 +12,8 @@ use Rattle.stride_rule.specs.Clients.{client_of, with_growth, grown}
 use Rattle.stride_rule.specs.State.{StrideState, AreOnce, new_rule, with_client, after_choice, after_segment, after_leaving}
 use Rattle.stride_rule.specs.Tickets.{stride_of}
 use Rattle.stride_rule.proofs.ClientLemmas.{by_test, same_number, all_append, all-without, pass-of_client}
-use Rattle.stride_steps.specs.Passes.{IsAtPass, HasPasses, StartedBy}
-use Rattle.stride_steps.proofs.Finding.{all_at, key_is}
+use Rattle.lawful_steps.specs.Passes.{IsAtPass, HasPasses, StartedBy}
+use Rattle.lawful_steps.proofs.Finding.{all_at, key_is}
 
 -- ---- a choice
 

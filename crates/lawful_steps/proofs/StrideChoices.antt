@@ -28,9 +28,9 @@ use Rattle.stride_rule.specs.Clients.{client_of, goes_before}
 use Rattle.stride_rule.specs.State.{waiting_in, waiting_of}
 use Rattle.stride_rule.proofs.NotingLemmas.{waiting-none}
 use Rattle.stride_rule.proofs.OrderLemmas.{goes_before-total}
-use Rattle.stride_steps.specs.Clients.{waiter_of, IsClientOf, AreBoth, AreClients}
-use Rattle.stride_steps.specs.Passes.{IsAtPass, HasPasses}
-use Rattle.stride_steps.proofs.Finding.{all_both, all_at, key_is, own, none_passes, found_passing}
+use Rattle.lawful_steps.specs.Clients.{waiter_of, IsClientOf, AreBoth, AreClients}
+use Rattle.lawful_steps.specs.Passes.{IsAtPass, HasPasses}
+use Rattle.lawful_steps.proofs.Finding.{all_both, all_at, key_is, own, none_passes, found_passing}
 
 -- ---- a client and what waits
 

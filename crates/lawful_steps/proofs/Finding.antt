@@ -9,7 +9,7 @@ use Rattle.stride_rule.specs.declared.clients.Client.{Client}
 use Rattle.stride_rule.specs.Clients.{IsAbsent, client_of, with_growth, grown, without}
 use Rattle.stride_rule.specs.State.{AreOnce}
 use Rattle.stride_rule.proofs.ClientLemmas.{by_test, same_number, other_number}
-use Rattle.stride_steps.specs.Clients.{waiter_of}
+use Rattle.lawful_steps.specs.Clients.{waiter_of}
 
 pub all_both : {X : Type 0} (P Q R : X → Type 0) → ((x : X) → P x → Q x → R x) → (xs : List X) → AllByRecursion P xs → AllByRecursion Q xs → AllByRecursion R xs
 all_both P Q R gives [] p q = tt

@@ -1,7 +1,7 @@
-use Rattle.stride_steps.proofs.Choosing as choosing
-use Rattle.stride_steps.proofs.Going as going
-use Rattle.stride_steps.proofs.Passing as passing
-use Rattle.stride_steps.proofs.laws.stride_step_laws.Goals as goal
+use Rattle.lawful_steps.proofs.StrideChoices as choosing
+use Rattle.lawful_steps.proofs.Going as going
+use Rattle.lawful_steps.proofs.Passing as passing
+use Rattle.lawful_steps.proofs.strides.stride_step_laws.Goals as goal
 
 pub returns : goal.returns
 returns c = record {

@@ -15,9 +15,9 @@ use Rattle.stride_rule.specs.State.{StrideState, new_rule, with_client, after_ch
 use Rattle.stride_rule.specs.Tickets.{stride_of}
 use Rattle.stride_rule.proofs.ClientLemmas.{once-grown, once-without, once-append}
 use Rattle.stride_rule.proofs.NotingLemmas.{waiting-none}
-use Rattle.stride_steps.specs.Clients.{waiter_of, IsClientOf, AreBoth, AreClients, HasRunner}
-use Rattle.stride_steps.proofs.Finding.{all_both, all_at, key_is, apart_at, append_other, append_self, append_there, but, but_self, but_other, grown_other, grown_self, without_other, without_self, own_clients, filtered_other}
-use Rattle.stride_steps.proofs.Choosing.{waiter_for}
+use Rattle.lawful_steps.specs.Clients.{waiter_of, IsClientOf, AreBoth, AreClients, HasRunner}
+use Rattle.lawful_steps.proofs.Finding.{all_both, all_at, key_is, apart_at, append_other, append_self, append_there, but, but_self, but_other, grown_other, grown_self, without_other, without_self, own_clients, filtered_other}
+use Rattle.lawful_steps.proofs.StrideChoices.{waiter_for}
 
 abbrev number_of : Client → ℕ
 number_of = λ client. client.thread.number
