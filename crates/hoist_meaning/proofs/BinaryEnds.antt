@@ -18,7 +18,7 @@ use Rattle.deep_mean.specs.Naming.{calls_in}
 use Rattle.hoist_parts.specs.Calls.{holds_call, is_named}
 use Rattle.hoist_parts.specs.Expressions.{one_if, names_in, part_after, part_or, part_named, left_of, before}
 use Rattle.hoist_parts.proofs.NoCalls.{no_left, no_before}
-use Rattle.hoist_calls.proofs.KnownSpawn.{AreFine}
+use Rattle.hoist_meaning.proofs.KnownSpawn.{AreFine}
 use Rattle.hoist_meaning.specs.SourceNames.{AreSourceNames}
 use Rattle.hoist_meaning.proofs.Bindings.{Agreement, in_tree}
 use Rattle.hoist_meaning.proofs.Items.{items_of, after, items_three}

@@ -21,7 +21,7 @@ use Rattle.deep_mean.specs.Naming as deep
 use Rattle.hoist_parts.specs.NewNames.{new_name, used, set_to}
 use Rattle.hoist_parts.specs.Expressions.{names_in, left_of, in_block, before}
 use Rattle.hoist_parts.proofs.Whole.{left_whole}
-use Rattle.hoist_calls.proofs.KnownSpawn.{AreFine, one_fine}
+use Rattle.hoist_meaning.proofs.KnownSpawn.{AreFine, one_fine}
 use Rattle.hoist_meaning.proofs.Bindings.{Agreement, New, in_tree}
 use Rattle.hoist_meaning.proofs.Items.{items_of, after, items_both, taken_leads, passed_leads, choice_stops, at, stop_step}
 use Rattle.hoist_meaning.proofs.Spots.{with_names, before_stands}

@@ -25,7 +25,7 @@ use Rattle.deep_mean.specs.Naming.{calls_in, callee_by, first_function, is_spawn
 use Rattle.hoist_parts.specs.NewNames.{new_name, used, declared_as}
 use Rattle.hoist_parts.specs.Calls.{holds_call, is_spawn}
 use Rattle.hoist_parts.specs.Expressions.{arguments_names, spawned_left, arguments_left, call_left, arguments_before}
-use Rattle.hoist_calls.proofs.KnownSpawn.{both_fine, one_fine}
+use Rattle.hoist_meaning.proofs.KnownSpawn.{both_fine, one_fine}
 use Rattle.hoist_meaning.specs.SourceNames.{AreSourceNames, AllSourceNames}
 use Rattle.hoist_meaning.proofs.Bindings.{Agreement, New, in_text, in_tree, IsAgreement, LocalAlike, MeaningAlike, FoundAlike, found_alike, callee_alike}
 use Rattle.hoist_meaning.proofs.Items.{items_of, after, items_both, at, stop_step, call_stops, call_parts, ReadyAlike}

@@ -19,7 +19,7 @@ use Rattle.hoist_parts.specs.NewNames.{used, declared, set_to}
 use Rattle.hoist_parts.specs.Calls.{holds_call}
 use Rattle.hoist_parts.specs.Expressions.{one_if, names_in, left_of, in_block, before}
 use Rattle.hoist_parts.proofs.Whole.{left_whole}
-use Rattle.hoist_calls.proofs.KnownSpawn.{AreFine, both_fine, one_fine}
+use Rattle.hoist_meaning.proofs.KnownSpawn.{AreFine, both_fine, one_fine}
 use Rattle.hoist_meaning.specs.SourceNames.{AreSourceNames}
 use Rattle.hoist_meaning.proofs.Bindings.{Agreement, New, in_tree}
 use Rattle.hoist_meaning.proofs.Values.{then_choice}

@@ -15,9 +15,9 @@ use Rattle.deep_mean.specs.DeepFrames as frames
 use Rattle.deep_mean.specs.Naming as deep
 use Rattle.hoist_parts.specs.Expressions.{left_of, before}
 use Rattle.hoist_parts.specs.Statements.{value_left, value_before, simple_left, simple_before, hoisted, all_hoisted}
-use Rattle.hoist_calls.specs.CallPlaces.{StandsAt}
-use Rattle.hoist_calls.specs.SpawnArguments.{IsPlain, IsSimplePlain, IsStmtPlain, AreStmtsPlain}
-use Rattle.hoist_calls.proofs.KnownSpawn.{AreFine}
+use Rattle.hoist_meaning.specs.CallPlaces.{StandsAt}
+use Rattle.hoist_meaning.specs.SpawnArguments.{IsPlain, IsSimplePlain, IsStmtPlain, AreStmtsPlain}
+use Rattle.hoist_meaning.proofs.KnownSpawn.{AreFine}
 use Rattle.hoist_meaning.specs.SourceNames.{AreSourceNames, IsSimpleNamed, IsStmtNamed, AreStmtsNamed}
 use Rattle.hoist_meaning.proofs.Bindings.{Agreement}
 use Rattle.hoist_meaning.proofs.Items.{after}

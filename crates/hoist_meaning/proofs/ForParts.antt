@@ -21,10 +21,10 @@ use Rattle.hoist_parts.specs.Expressions.{before}
 use Rattle.hoist_parts.specs.Statements.{simple_left, simple_before}
 use Rattle.hoist_parts.proofs.Kept.{held_not, simple_kept, no_simple_before}
 use Rattle.hoist_parts.proofs.NoCalls.{no_before, no_left}
-use Rattle.hoist_calls.specs.SpawnArguments.{IsPlain, ArePlain, IsSimplePlain}
-use Rattle.hoist_calls.proofs.CallCounts.{no_places}
-use Rattle.hoist_calls.proofs.KnownSpawn.{AreFine}
-use Rattle.hoist_calls.proofs.SpawnedNames.{no_call_plain}
+use Rattle.hoist_meaning.specs.SpawnArguments.{IsPlain, ArePlain, IsSimplePlain}
+use Rattle.hoist_meaning.proofs.CallCounts.{no_places}
+use Rattle.hoist_meaning.proofs.KnownSpawn.{AreFine}
+use Rattle.hoist_meaning.proofs.SpawnedNames.{no_call_plain}
 use Rattle.hoist_meaning.specs.SourceNames.{IsSimpleNamed, AreSimplesNamed, IsOptionNamed, IsStepNamed}
 use Rattle.hoist_meaning.proofs.Bindings.{Agreement}
 use Rattle.hoist_meaning.proofs.Items.{after}

@@ -1,3 +1,9 @@
+pub mod CallCounts
+pub mod StmtCounts
+pub mod Numbers
+pub mod KnownSpawn
+pub mod SpawnedNames
+pub mod SpawnedSources
 pub mod Bindings
 pub mod Values
 pub mod Items

@@ -25,7 +25,7 @@ use Rattle.hoist_parts.specs.NewNames.{new_name, used, declared, declared_as, se
 use Rattle.hoist_parts.specs.Calls.{holds_call, is_named, is_spawn}
 use Rattle.hoist_parts.specs.Expressions.{one_if, names_in, arguments_names, part_after, part_or, part_named, left_of, before}
 use Rattle.hoist_parts.proofs.Whole.{left_whole}
-use Rattle.hoist_calls.proofs.KnownSpawn.{AreFine, both_fine, one_fine}
+use Rattle.hoist_meaning.proofs.KnownSpawn.{AreFine, both_fine, one_fine}
 use Rattle.hoist_meaning.proofs.Bindings.{Agreement, New, in_tree, last_found}
 use Rattle.hoist_meaning.proofs.Items.{items_of, after, after_both, at, stop_step, declared_leads, declared_stops, set_leads, set_stops, zeroed_leads}
 use Rattle.hoist_meaning.proofs.Spots.{StandsAt, below_limit, with_part, with_names, with_argument_names, part_stands, before_stands}

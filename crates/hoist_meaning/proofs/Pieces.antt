@@ -14,7 +14,7 @@ use Rattle.grammar_places.specs.Places.{stmt_places, stmts_places}
 use Rattle.deep_mean.specs.Naming as deep
 use Rattle.deep_mean.specs.Naming.{calls_in, all_calls_in, counted}
 use Rattle.hoist_parts.specs.Statements.{as_body}
-use Rattle.hoist_calls.proofs.KnownSpawn.{AreFine}
+use Rattle.hoist_meaning.proofs.KnownSpawn.{AreFine}
 use Rattle.hoist_meaning.proofs.Bindings.{Agreement, Outside, Both, New, AreBelow}
 use Rattle.hoist_meaning.proofs.Items.{items_of, after}
 use Rattle.hoist_meaning.proofs.Premises.{KnowsSpawnAlone}

@@ -22,7 +22,7 @@ use Rattle.hoist_parts.specs.NewNames.{declared, declared_as, set_to}
 use Rattle.hoist_parts.specs.Calls.{holds_call, hold_call, holds_nested, is_named, is_spawn}
 use Rattle.hoist_parts.specs.Expressions.{names_in, part_after, part_or, part_named, left_of, arguments_left, is_true, in_block, before, arguments_before}
 use Rattle.hoist_parts.specs.Statements.{value_left, value_before}
-use Rattle.hoist_calls.proofs.KnownSpawn.{AreFine}
+use Rattle.hoist_meaning.proofs.KnownSpawn.{AreFine}
 use Rattle.hoist_meaning.specs.SourceNames.{AreSourceNames, AllSourceNames}
 use Rattle.hoist_meaning.proofs.Bindings.{Agreement, in_text, in_tree, NamesStand}
 use Rattle.hoist_meaning.proofs.Items.{after, call_parts, ReadyAlike}

@@ -26,9 +26,9 @@ use Rattle.hoist_parts.specs.Calls.{holds_nested, is_named, is_spawn}
 use Rattle.hoist_parts.specs.Expressions.{names_in, part_after, part_or, part_named, left_of, arguments_left, index_left, argument_left, before}
 use Rattle.hoist_parts.specs.Statements.{value_names, value_left, value_before, simple_left, simple_before}
 use Rattle.hoist_parts.proofs.Whole.{left_whole}
-use Rattle.hoist_calls.specs.SpawnArguments.{IsPlain}
-use Rattle.hoist_calls.proofs.KnownSpawn.{AreFine, both_fine, one_fine}
-use Rattle.hoist_calls.proofs.CallCounts.{part_places}
+use Rattle.hoist_meaning.specs.SpawnArguments.{IsPlain}
+use Rattle.hoist_meaning.proofs.KnownSpawn.{AreFine, both_fine, one_fine}
+use Rattle.hoist_meaning.proofs.CallCounts.{part_places}
 use Rattle.hoist_meaning.specs.SourceNames.{AreSourceNames}
 use Rattle.hoist_meaning.proofs.Bindings.{Agreement, in_text, in_tree, AreBelow, found_alike}
 use Rattle.hoist_meaning.proofs.Items.{after, after_both}

@@ -21,10 +21,10 @@ use Rattle.hoist_parts.specs.Calls.{holds_call, hold_call, is_named, is_spawn}
 use Rattle.hoist_parts.specs.Expressions.{names_in, arguments_names, part_after, part_named, left_of, arguments_left, call_left, index_left, argument_left, table_call_left, is_true, is_false, in_block, decided, before, arguments_before}
 use Rattle.hoist_parts.specs.Statements.{value_left, value_before, table_before, items_hoisted}
 use Rattle.hoist_parts.proofs.Whole.{AllWhole, in_order_whole}
-use Rattle.hoist_calls.specs.CallPlaces.{StandsAt}
-use Rattle.hoist_calls.specs.SpawnArguments.{IsPlain, ArePlain, AreItemsPlain}
-use Rattle.hoist_calls.proofs.CallCounts.{no_places, none_of_them}
-use Rattle.hoist_calls.proofs.Numbers.{numbers_kept}
+use Rattle.hoist_meaning.specs.CallPlaces.{StandsAt}
+use Rattle.hoist_meaning.specs.SpawnArguments.{IsPlain, ArePlain, AreItemsPlain}
+use Rattle.hoist_meaning.proofs.CallCounts.{no_places, none_of_them}
+use Rattle.hoist_meaning.proofs.Numbers.{numbers_kept}
 use Rattle.hoist_meaning.proofs.Items.{after, after_both}
 use Rattle.hoist_meaning.proofs.Premises.{after_part, in_branch, after_branch, after_left, after_condition, SitesStand, ArgumentSitesStand}
 use Rattle.hoist_meaning.proofs.TableEnds.{three_after}

@@ -27,8 +27,8 @@ use Rattle.deep_mean.specs.Naming as deep
 use Rattle.deep_mean.specs.Naming.{DeepSofar}
 use Rattle.hoist_parts.specs.Statements.{item_hoisted, items_hoisted, all_hoisted}
 use Rattle.hoist_parts.proofs.Whole.{in_order_whole, all_hoisted_whole}
-use Rattle.hoist_calls.specs.CallPlaces.{StandsAt}
-use Rattle.hoist_calls.specs.SpawnArguments.{IsItemPlain, AreItemsPlain}
+use Rattle.hoist_meaning.specs.CallPlaces.{StandsAt}
+use Rattle.hoist_meaning.specs.SpawnArguments.{IsItemPlain, AreItemsPlain}
 use Rattle.hoist_meaning.specs.SourceNames.{IsItemNamed, AreItemsNamed}
 use Rattle.hoist_meaning.proofs.Bindings.{Outside}
 use Rattle.hoist_meaning.proofs.Items.{after}

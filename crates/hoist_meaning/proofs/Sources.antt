@@ -21,7 +21,7 @@ use Rattle.deep_mean.specs.Naming as deep
 use Rattle.deep_mean.specs.Naming.{deep_start, deep_program}
 use Rattle.hoist_parts.specs.Statements.{items_hoisted}
 use Rattle.hoist_parts.proofs.Whole.{items_hoisted_whole}
-use Rattle.hoist_calls.proofs.SpawnedSources.{scoped_plain}
+use Rattle.hoist_meaning.proofs.SpawnedSources.{scoped_plain}
 use Rattle.hoist_meaning.specs.SameRuns.{RunsTheSame}
 use Rattle.hoist_meaning.specs.SourceNames.{AreItemsNamed}
 use Rattle.hoist_meaning.proofs.SiteNumbers.{Occurs, same_numbers}

@@ -27,9 +27,9 @@ use Rattle.hoist_parts.specs.Expressions.{names_in, left_of, before, is_false, i
 use Rattle.hoist_parts.specs.Statements.{value_before, value_left, stmt_names, as_body, hoisted, all_hoisted, while_calling}
 use Rattle.hoist_parts.proofs.Whole.{AllWhole, not_held, left_whole}
 use Rattle.hoist_parts.proofs.NoCalls.{no_before, no_left}
-use Rattle.hoist_calls.specs.SpawnArguments.{IsStmtPlain}
-use Rattle.hoist_calls.proofs.CallCounts.{no_places}
-use Rattle.hoist_calls.proofs.KnownSpawn.{AreFine, both_fine, one_fine}
+use Rattle.hoist_meaning.specs.SpawnArguments.{IsStmtPlain}
+use Rattle.hoist_meaning.proofs.CallCounts.{no_places}
+use Rattle.hoist_meaning.proofs.KnownSpawn.{AreFine, both_fine, one_fine}
 use Rattle.hoist_meaning.specs.SourceNames.{IsStmtNamed}
 use Rattle.hoist_meaning.proofs.Bindings.{Agreement}
 use Rattle.hoist_meaning.proofs.Items.{after, after_both}

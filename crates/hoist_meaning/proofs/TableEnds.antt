@@ -21,7 +21,7 @@ use Rattle.hoist_parts.specs.Calls.{holds_call, is_named}
 use Rattle.hoist_parts.specs.Expressions.{one_if, names_in, part_after, part_or, part_named, left_of, table_call_left, before}
 use Rattle.hoist_parts.specs.Statements.{table_before}
 use Rattle.hoist_parts.proofs.NoCalls.{no_left, no_before}
-use Rattle.hoist_calls.proofs.KnownSpawn.{AreFine, both_fine, one_fine}
+use Rattle.hoist_meaning.proofs.KnownSpawn.{AreFine, both_fine, one_fine}
 use Rattle.hoist_meaning.specs.SourceNames.{AreSourceNames}
 use Rattle.hoist_meaning.proofs.Bindings.{Agreement, New, in_text, in_tree, table_alike}
 use Rattle.hoist_meaning.proofs.Items.{items_of, after, after_both, items_both, items_three, ReadyAlike}

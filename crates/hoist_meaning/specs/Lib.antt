@@ -1,2 +1,4 @@
+pub mod CallPlaces
+pub mod SpawnArguments
 pub mod SourceNames
 pub mod SameRuns

@@ -11,7 +11,7 @@ use Rattle.hoist_parts.specs.NewNames.{used, declared, declared_as, set_to}
 use Rattle.hoist_parts.specs.Calls.{holds_call, hold_call, is_named, is_spawn}
 use Rattle.hoist_parts.specs.Expressions.{names_in, arguments_names, part_after, part_or, part_named, left_of, arguments_left, call_left, table_call_left, is_true, is_false, in_block, decided, before, arguments_before}
 use Rattle.hoist_parts.specs.Statements.{as_body}
-use Rattle.hoist_calls.specs.SpawnArguments.{IsPlain, ArePlain}
+use Rattle.hoist_meaning.specs.SpawnArguments.{IsPlain, ArePlain}
 use Rattle.hoist_parts.proofs.NoCalls.{or_left, or_right}
 use Rattle.hoist_parts.proofs.Whole.{not_held, left_whole, arguments_whole}
 

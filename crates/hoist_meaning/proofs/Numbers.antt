@@ -8,9 +8,9 @@ use Rattle.grammar_places.specs.Ranks.{lesser, no_greater, ranks, site_numbers}
 use Rattle.grammar_places.specs.Rising.{RiseWithin}
 use Rattle.grammar_places.proofs.RankLaws.{ranks_length, rank_is}
 use Rattle.hoist_parts.specs.Statements.{items_hoisted}
-use Rattle.hoist_calls.specs.CallPlaces.{times, StandsAt}
-use Rattle.hoist_calls.specs.SpawnArguments.{AreItemsPlain}
-use Rattle.hoist_calls.proofs.StmtCounts.{items_count}
+use Rattle.hoist_meaning.specs.CallPlaces.{times, StandsAt}
+use Rattle.hoist_meaning.specs.SpawnArguments.{AreItemsPlain}
+use Rattle.hoist_meaning.proofs.StmtCounts.{items_count}
 
 -- ---- counts that add up over lists
 

@@ -9,8 +9,8 @@ use Rattle.hoist_parts.specs.Calls.{holds_call, holds_nested, is_named, is_spawn
 use Rattle.hoist_parts.specs.Expressions.{names_in, part_after, part_or, left_of, arguments_left, call_left, table_call_left, is_false, in_block, before}
 use Rattle.hoist_parts.specs.Statements.{value_left, value_before, simple_left, simple_before, as_body, returned_left, returned_before, while_calling, stmt_names, hoisted, all_hoisted, item_hoisted, items_hoisted}
 use Rattle.hoist_parts.proofs.Whole.{left_whole, arguments_whole}
-use Rattle.hoist_calls.specs.SpawnArguments.{IsPlain, IsSimplePlain, IsOptionPlain, IsStmtPlain, AreStmtsPlain, IsItemPlain, AreItemsPlain}
-use Rattle.hoist_calls.proofs.CallCounts.{no_places, none_of_them, part_places, stmts_count, both_count, part_count, before_count, arguments_count, body_count}
+use Rattle.hoist_meaning.specs.SpawnArguments.{IsPlain, IsSimplePlain, IsOptionPlain, IsStmtPlain, AreStmtsPlain, IsItemPlain, AreItemsPlain}
+use Rattle.hoist_meaning.proofs.CallCounts.{no_places, none_of_them, part_places, stmts_count, both_count, part_count, before_count, arguments_count, body_count}
 
 -- ---- places of what is left
 

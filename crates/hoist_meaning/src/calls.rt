@@ -4,8 +4,8 @@ ghost use Rattle.grammar_places.specs.Nested.{is_call};
 ghost use Rattle.grammar_places.specs.Places.{items_places};
 ghost use Rattle.grammar_places.specs.Ranks.{site_numbers};
 ghost use Rattle.grammar_places.specs.Rising.{RiseWithin};
-ghost use Rattle.hoist_calls.specs.CallPlaces.{StandsAt, times};
-ghost use Rattle.hoist_calls.specs.SpawnArguments.{AreItemsPlain};
+ghost use Rattle.hoist_meaning.specs.CallPlaces.{StandsAt, times};
+ghost use Rattle.hoist_meaning.specs.SpawnArguments.{AreItemsPlain};
 ghost use Rattle.hoist_parts.specs.Statements.{items_hoisted};
 ghost use Rattle.scope_rules.specs.Items.{faults_of};
 

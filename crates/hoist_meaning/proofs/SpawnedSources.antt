@@ -18,9 +18,9 @@ use Rattle.hoist_parts.specs.Calls.{holds_call, holds_nested, is_named, is_spawn
 use Rattle.hoist_parts.specs.Expressions.{names_in, part_after, part_or, part_named, left_of, is_false, in_block, before}
 use Rattle.hoist_parts.specs.Statements.{value_left, value_before, simple_left, simple_before, as_body, returned_left, returned_before, while_calling, stmt_names, hoisted, all_hoisted, item_hoisted, items_hoisted}
 use Rattle.hoist_parts.proofs.Whole.{not_held}
-use Rattle.hoist_calls.specs.SpawnArguments.{IsPlain, IsSimplePlain, IsOptionPlain, IsStmtPlain, AreStmtsPlain, IsItemPlain, AreItemsPlain}
-use Rattle.hoist_calls.proofs.KnownSpawn.{KnowsSpawn, bound_knows, simples_know, step_knows, stmt_knows, stmts_know, params_know, AreFine, after_all, both_fine, one_fine, SomewhereFine}
-use Rattle.hoist_calls.proofs.SpawnedNames.{first_plain, no_call_plain, part_fine, plain, arguments_plain}
+use Rattle.hoist_meaning.specs.SpawnArguments.{IsPlain, IsSimplePlain, IsOptionPlain, IsStmtPlain, AreStmtsPlain, IsItemPlain, AreItemsPlain}
+use Rattle.hoist_meaning.proofs.KnownSpawn.{KnowsSpawn, bound_knows, simples_know, step_knows, stmt_knows, stmts_know, params_know, AreFine, after_all, both_fine, one_fine, SomewhereFine}
+use Rattle.hoist_meaning.proofs.SpawnedNames.{first_plain, no_call_plain, part_fine, plain, arguments_plain}
 
 value_plain : (gives loop : Bool) (s t : Spot) (k : ℕ) (v : RawExprTree) → KnowsSpawn s.names → KnowsSpawn t.names → AreFine gives loop s (value_before k v) → right_faults t.names (value_left k v) ≡ [] → IsPlain v
 value_plain gives loop s t k (RawCall n es) known there h f = arguments_plain gives loop s k (is_spawn n) es known h (first_plain (is_spawn n) true t.names n k es refl there f)

@@ -20,8 +20,8 @@ use Rattle.hoist_parts.specs.Calls.{holds_call, hold_call, is_named, is_spawn}
 use Rattle.hoist_parts.specs.Expressions.{names_in, arguments_names, part_after, part_named, spawned_left, left_of, arguments_left, call_left, table_call_left, is_true, is_false, in_block, decided, before, arguments_before}
 use Rattle.hoist_parts.proofs.NoCalls.{or_left, or_right}
 use Rattle.hoist_parts.proofs.Whole.{not_held}
-use Rattle.hoist_calls.specs.SpawnArguments.{IsPlain, ArePlain}
-use Rattle.hoist_calls.proofs.KnownSpawn.{KnowsSpawn, stmt_knows, stmts_know, AreFine, after_all, both_fine, one_fine, SomewhereFine}
+use Rattle.hoist_meaning.specs.SpawnArguments.{IsPlain, ArePlain}
+use Rattle.hoist_meaning.proofs.KnownSpawn.{KnowsSpawn, stmt_knows, stmts_know, AreFine, after_all, both_fine, one_fine, SomewhereFine}
 
 -- ---- the first argument of a call
 

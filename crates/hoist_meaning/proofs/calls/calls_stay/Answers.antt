@@ -1,5 +1,5 @@
-use Rattle.hoist_calls.proofs.Numbers.{each_stays, many_stay}
-use Rattle.hoist_calls.proofs.laws.calls_stay.Goals as goal
+use Rattle.hoist_meaning.proofs.Numbers.{each_stays, many_stay}
+use Rattle.hoist_meaning.proofs.calls.calls_stay.Goals as goal
 
 pub returns-clause-each : goal.returns-clause-each
 returns-clause-each c = each_stays

@@ -1,2 +1,0 @@
-pub mod CallPlaces
-pub mod SpawnArguments
