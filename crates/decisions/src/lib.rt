@@ -20,6 +20,7 @@
 // - `budgets`: a program has a function on a cycle of calls, the least of which is named, or a least budget. Reaching marks what calls lead to, a
 //   function more in each round; Heights raises the functions one after another to what their operations ask.
 #![tactic(auto)]
+
 mod budgets;
 mod files;
 mod laid_out;

@@ -1,5 +1,17 @@
-// TODO
+// The lawful reading of a log: which lines may stand in the log of a program, under a policy and a trace, by the source alone.
+//
+// Definitions: where a reading has come to (State), which line is allowed there and what it leads to (Choice for what
+// comes and which thread runs, Segments for a segment's lines, Ends for the edges and the stop), and what is said of a whole log
+// (Reading): that it is lawful, the first line that isn't allowed, or the first that needs more steps of the source than may be
+// taken. What the running thread comes to next is the source's own run (Happenings), step by step, without a bound on depth and
+// without a machine: of costs and free chunks only bounds are asked. An audit of a log cites these; the rules of choice points
+// are those of `choice_rules`, which the log of a run has too.
+//
+// Laws: what is said of a log excludes what else might be said (`laws`), and of every log something is said, in the sense that it can't
+// be that nothing is (`said`; proofs/Some.antt, line by line). Which of them it is no law finds: an audit does. The commands cite it,
+// where a read of the trace fails or memory is wanting in the midst of an audit.
 #![tactic(auto)]
+
 mod laws;
 mod said;
 

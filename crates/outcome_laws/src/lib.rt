@@ -18,6 +18,7 @@
 //   under three names. The one other answer is want of memory. specs/Given.antt has what is given, specs/Looked.antt the lines of
 //   the trace (`traces`), specs/Written.antt what is written.
 #![tactic(auto)]
+
 mod due;
 mod read_again;
 mod told;
