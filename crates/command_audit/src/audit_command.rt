@@ -13,8 +13,8 @@ ghost use Rattle.command_audit.specs.Audits.{Audits, AuditsProgram, IsJudged, Le
 use crate::judgements::Judgement;
 use c_tree::Program;
 use cap_io::{Shelf, Sink, Source};
-use command_options::monitor_of;
 use command_files::{load, read_source};
+use command_options::monitor_of;
 use command_outcomes::{Document, Ended, Fault, Stop, print};
 use command_words::{Audit, Policy, Rule};
 use resource_monitor::{Measure, past_knee};

@@ -22,9 +22,9 @@
 #![tactic(auto)]
 
 mod budgets;
+mod checked_pairs;
 mod files;
 mod laid_out;
-mod checked_pairs;
 mod placements;
 mod read_sources;
 mod texts;
@@ -32,9 +32,9 @@ mod token_trees;
 mod word_lists;
 
 pub use budgets::least_budget_or_cycle;
+pub use checked_pairs::pair_is_valid_or_has_a_first_failure;
 pub use files::{certificate_is_read_or_refused, image_is_read_or_refused};
 pub use laid_out::layout_is_there;
-pub use checked_pairs::pair_is_valid_or_has_a_first_failure;
 pub use placements::placement_is_there;
 pub use read_sources::{globals_start_with_words, source_is_read_or_refused};
 pub use texts::texts_are_decided;
