@@ -11,8 +11,8 @@ ghost use Rattle.resource_monitor.specs.declared.curves.Curve.TheVariants.{Knee}
 
 use crate::again::{Told, make_again};
 use crate::run::let_go;
-use cap_io::Shelf;
 use accepted_pairs::Accepted;
+use cap_io::Shelf;
 use choice_reasons::Choosing;
 use codegen_link::Options;
 use command_options::monitor_of;
