@@ -7,11 +7,11 @@ use crate::stop::put_stop;
 use crate::subject::{Subject, subject_of};
 use crate::wanted::Wanted;
 use cap_io::{CleanSink, CleanSource, Shelf, Sink, Source, put_all};
-use choice_reasons::Holders;
 use report_text::{
     Decided, Places, ReportError, last_line, put_blocking, put_line, put_report, put_times,
     times_of,
 };
+use run_history::Holders;
 use schedule_log::read_entry;
 use std::alloc::{AllocError, Global};
 use thread_core::World;

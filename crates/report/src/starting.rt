@@ -13,12 +13,12 @@ use crate::again::{Told, make_again};
 use crate::run::let_go;
 use accepted_pairs::Accepted;
 use cap_io::Shelf;
-use choice_reasons::Choosing;
 use codegen_link::Options;
 use command_options::monitor_of;
 use command_words::{Command, Policy, Rule, read_words};
 use pair_commands::{accept_files, accept_source};
 use resource_monitor::{Measure, past_knee};
+use run_history::Choosing;
 use std::alloc::{AllocError, Global};
 use thread_core::{World, WorldPolicy};
 

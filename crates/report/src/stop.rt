@@ -6,10 +6,9 @@
 use crate::code::{function_at, operation_at, site_of};
 use crate::stacks::{below, return_of};
 use cap_word::{Stop, ThreadId, TrapKind};
-use choice_reasons::Holders;
 use flat_code::Op;
-use report_text::Places;
-use run_pictures::{Piece, put_all};
+use report_text::{Piece, Places, put_all};
+use run_history::Holders;
 use schedule_log::{Entry, StopLine};
 use stack_certificate::FunctionFact;
 use std::alloc::{AllocError, Global};

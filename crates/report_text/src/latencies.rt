@@ -1,7 +1,7 @@
 use crate::lines::RequestsLine;
+use crate::put_form;
 use report_figures::spread_of;
 use run_numbers::Numbers;
-use run_pictures::put_form;
 use std::alloc::{AllocError, Global};
 
 /// How long a request took: from when it arrived to an answer, and the thread that took it.

@@ -1,8 +1,8 @@
 use crate::places::Places;
+use crate::put_form;
 use crate::report::is_one;
 use crate::takes::Takes;
 use run_history::{History, Standing, Wait};
-use run_pictures::put_form;
 use std::alloc::AllocError;
 
 /// The most threads that are listed.

@@ -1,9 +1,9 @@
 use crate::places::Places;
 use crate::report::ReportError;
+use crate::{GraphEdge, Rows, put_drawing, put_graph, put_timeline};
 use cap_text::Lines;
 use cap_word::SiteKey;
 use run_history::{Happening, History, Standing, Wait};
-use run_pictures::{GraphEdge, Rows, put_drawing, put_graph, put_timeline};
 use schedule_log::{Entry, read_entry};
 use std::alloc::{AllocError, Global};
 use std::collections::{BTreeMap, BTreeSet};

@@ -1,12 +1,12 @@
 ghost use Rattle.std.specs.Prelude.{◌≤◌, length, IfOk};
 
 use crate::elements::{Element, elements_of};
+use crate::put_form;
 use c_lex::{LexError, Mark, Token, TokenKind, lex};
 use c_parse::{ParseError, parse_nested};
 use c_tree::{RawItem, RawProgram};
 use call_places::places_of_calls;
 use report_figures::{Position, position_of};
-use run_pictures::put_form;
 use std::alloc::{AllocError, Global};
 
 /// Why a source has no places.

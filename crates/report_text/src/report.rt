@@ -2,13 +2,12 @@ use crate::latencies::put_requests;
 use crate::left::put_left;
 use crate::lines::ChunksLine;
 use crate::places::{Places, put_bytes};
+use crate::put_form;
 use crate::reading::{ReadError, Reading, Watch, WatchError, numbers_of};
 use crate::takes::Takes;
 use crate::waits::put_waits;
 use cap_word::SiteKey;
-use choice_reasons::{Choices, Marks, Spells};
-use run_history::Happening;
-use run_pictures::put_form;
+use run_history::{Choices, Happening, Marks, Spells};
 use schedule_log::{Entry, Item};
 use std::alloc::{AllocError, Global};
 

@@ -20,7 +20,7 @@ impl Holders {
     ghost use Rattle.std.specs.Prelude.{◌≡◌, ◌≢◌, ◌+ℤ◌, ◌-ℤ◌, ℕ, None, pos, OnOk};
     ghost use Rattle.std.specs.BTreeMap.{get};
     ghost use Rattle.std.specs.Ordering.{nat_cmp};
-    ghost use Rattle.choice_reasons.specs.Holds.{held_in};
+    ghost use Rattle.run_history.specs.Holds.{held_in};
 
     /// Before the first segment nobody holds anything. It takes no memory.
     pub fn new(alloc: Global) -> Holders

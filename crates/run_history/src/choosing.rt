@@ -29,7 +29,7 @@ pub struct Choosing<C: Measure> {
 impl<C: Measure> Model for Choosing<C> {
     ghost use Rattle.std.specs.Prelude.{◌≡◌, ◌≤◌};
     ghost use Rattle.blocking_graph.specs.Edges.{count_of};
-    ghost use Rattle.choice_reasons.specs.Courses.{Course};
+    ghost use Rattle.run_history.specs.Courses.{Course};
 
     ghost Value = { Course };
 
@@ -44,7 +44,7 @@ impl<C: Measure> Choosing<C> {
     ghost use Rattle.blocking_graph.specs.Graph.{IsSegment};
     ghost use Rattle.resource_monitor.specs.Monitor.{NoneAbove};
     ghost use Rattle.scheduler.specs.State.{IsJoined};
-    ghost use Rattle.choice_reasons.specs.Courses.{start_of, Decides};
+    ghost use Rattle.run_history.specs.Courses.{start_of, Decides};
 
     /// Before the first choice of a run whose resources begin so, with these caps. It takes no memory.
     pub fn new(alloc: Global, monitor: Monitor<C>, caps: [u32; 8]) -> Choosing<C>

@@ -9,10 +9,10 @@ use Rattle.scheduler.specs.LawfulChoice.{is_eligible, IsLawfulChoice}
 use Rattle.scheduler.specs.Scores.{score}
 use Rattle.scheduler.specs.State.{SchedulerState, started, queue_of, last_of, IsNoted}
 use Rattle.scheduler.specs.declared.choices.Choice.{Choice}
-use Rattle.choice_reasons.specs.Counts.{with_reason}
-use Rattle.choice_reasons.specs.Reasons.{IsReason}
-use Rattle.choice_reasons.specs.declared.reasons.Choices.{Choices}
-use Rattle.choice_reasons.specs.declared.reasons.Reason.{Reason}
+use Rattle.run_history.specs.Counts.{with_reason}
+use Rattle.run_history.specs.Reasons.{IsReason}
+use Rattle.run_history.specs.declared.reasons.Choices.{Choices}
+use Rattle.run_history.specs.declared.reasons.Reason.{Reason}
 
 -- the threads that wait, the blocking graph, the resources, and the counts of what decided the choices so far
 pub record Course : Type 0 where

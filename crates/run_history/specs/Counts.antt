@@ -1,8 +1,8 @@
 -- Counts of choices by what decided them.
 use Rattle.std.specs.Prelude.{◌+◌}
-use Rattle.choice_reasons.specs.declared.reasons.Choices.{Choices}
-use Rattle.choice_reasons.specs.declared.reasons.Reason.{Reason}
-use Rattle.choice_reasons.specs.declared.reasons.Reason.TheVariants.{Gate, Score, Turn}
+use Rattle.run_history.specs.declared.reasons.Choices.{Choices}
+use Rattle.run_history.specs.declared.reasons.Reason.{Reason}
+use Rattle.run_history.specs.declared.reasons.Reason.TheVariants.{Gate, Score, Turn}
 
 -- one choice more
 abbrev pub with_reason : Reason → Choices → Choices

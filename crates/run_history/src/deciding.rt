@@ -1,6 +1,6 @@
 ghost use Rattle.std.specs.Prelude.{◌≡◌};
 ghost use Rattle.scheduler.specs.State.{last_of, queue_of};
-ghost use Rattle.choice_reasons.specs.Reasons.{IsReason, is_of, reason_by};
+ghost use Rattle.run_history.specs.Reasons.{IsReason, is_of, reason_by};
 
 use crate::reasons::Reason;
 use crate::ungated::Ungated;

@@ -5,8 +5,8 @@ use Rattle.resource_monitor.specs.Pressure.{pressure}
 use Rattle.resource_monitor.specs.declared.curves.Curve.TheVariants.{Knee}
 use Rattle.run_history.specs.declared.happenings.Happening.{Happening}
 use Rattle.run_history.specs.declared.happenings.Happening.TheVariants.{Came, Lost, Started, Waited, Put, Ran, Nothing}
-use Rattle.choice_reasons.specs.declared.spells.Marks.{Marks}
-use Rattle.choice_reasons.specs.declared.spells.Spells.{Spells}
+use Rattle.run_history.specs.declared.spells.Marks.{Marks}
+use Rattle.run_history.specs.declared.spells.Spells.{Spells}
 
 -- before the first segment the gate is open
 abbrev pub always_open : Spells

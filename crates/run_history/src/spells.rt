@@ -1,7 +1,7 @@
 ghost use Rattle.std.specs.Prelude.{◌≡◌, ◌≤◌};
-ghost use Rattle.choice_reasons.specs.Spells.{open_with, pressure_with};
+ghost use Rattle.run_history.specs.Spells.{open_with, pressure_with};
 
-use run_history::Happening;
+use crate::Happening;
 
 /// When the gate closes and opens.
 #[derive(Clone, Copy)]
@@ -29,7 +29,7 @@ pub struct Spells {
 
 impl Spells {
     ghost use Rattle.std.specs.Prelude.{◌≡◌, ◌≤◌, IfSome, Some, None, true, false};
-    ghost use Rattle.choice_reasons.specs.Spells.{always_open, is_open, turned, with_happening};
+    ghost use Rattle.run_history.specs.Spells.{always_open, is_open, turned, with_happening};
 
     /// Before the first segment: the gate is open.
     pub fn new() -> Spells

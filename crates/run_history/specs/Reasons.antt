@@ -6,8 +6,8 @@ use Rattle.resource_monitor.specs.Monitor.{MonitorState}
 use Rattle.scheduler.specs.LawfulChoice.{is_eligible, IsLawfulChoice}
 use Rattle.scheduler.specs.Scores.{score}
 use Rattle.scheduler.specs.declared.choices.Choice.{Choice}
-use Rattle.choice_reasons.specs.declared.reasons.Reason.{Reason}
-use Rattle.choice_reasons.specs.declared.reasons.Reason.TheVariants.{Gate, Score, Turn}
+use Rattle.run_history.specs.declared.reasons.Reason.{Reason}
+use Rattle.run_history.specs.declared.reasons.Reason.TheVariants.{Gate, Score, Turn}
 
 -- the choice is that of this thread
 abbrev pub is_of : ℕ → Option Choice → Bool

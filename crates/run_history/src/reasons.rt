@@ -1,5 +1,5 @@
 ghost use Rattle.std.specs.Prelude.{◌≡◌, IfSome};
-ghost use Rattle.choice_reasons.specs.Counts.{with_reason};
+ghost use Rattle.run_history.specs.Counts.{with_reason};
 
 /// What decided a choice.
 #[derive(Clone, Copy, PartialEq, Eq)]

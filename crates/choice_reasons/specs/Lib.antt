@@ -1,5 +1,0 @@
-pub mod Counts
-pub mod Courses
-pub mod Holds
-pub mod Reasons
-pub mod Spells
