@@ -1,11 +1,12 @@
 // A run of an accepted program on the trace, under a policy.
-ghost use Rattle.std.specs.Prelude.{◌≡◌, ◌≤◌, Some, OnOk};
+ghost use Rattle.std.specs.Prelude.{◌≡◌, ◌≤◌, Some, IfSome, OnOk};
 ghost use Rattle.capriccio_commands.specs.Closings.{IsClosed};
 ghost use Rattle.capriccio_commands.specs.FitLogs.{TakesFit};
 ghost use Rattle.command_options.specs.Options.{IsRunPolicy, IsNewMonitor};
 ghost use Rattle.capriccio_commands.specs.MadeWorlds.{IsMade, setup_in, world_policy_of};
 ghost use Rattle.pair_commands.specs.Runs.{RunsOn, pool_bytes, rule_of, setup_of};
 ghost use Rattle.accepted_pairs.specs.Accepting.{accepted_tree};
+ghost use Rattle.thread_core.specs.Making.{IsStart};
 ghost use Rattle.choice_rules.specs.Policy.{by_graph, by_stride};
 ghost use Rattle.command_outcomes.specs.declared.stops.Stop.TheVariants.{Failed};
 ghost use Rattle.command_outcomes.specs.Steps.{RunEnds};
@@ -42,13 +43,31 @@ pub(crate) fn run_accepted<S: Source, K: Sink>(
     ensures fits { OnOk result (TakesFit (K.taken out.old) (K.taken out.new)) }
 {
     accepted.is_valid();
+    match made_world(alloc, accepted, policy) {
+        Some(world) => run_world(alloc, world, policy, trace, out),
+        None => Err(Stop::Failed(Fault::Memory)),
+    }
+}
+
+/// The world of an accepted program as a run by these options starts in it. None where there is no memory; the program is gone then.
+pub fn made_world(alloc: Global, accepted: Accepted, policy: Policy) -> Option<World>
+    requires range { IsRunPolicy policy }
+    requires pool { pool_bytes policy accepted.certificate ≤ 67108864 }
+    ensures { IfSome result (λ world. IsStart accepted (world_policy_of policy) policy.fuel world) }
+{
     match World::make(alloc, accepted, world_policy(policy), policy.fuel) {
-        Ok(world) => run_world(alloc, world, policy, trace, out),
+        Ok(world) => Some(world),
         Err(WorldError::Memory { accepted }) => {
             drop(accepted);
-            Err(Stop::Failed(Fault::Memory))
+            None
         }
     }
+}
+
+/// Lets the world of a run go. How a world falls is proved with the runs, and by this call not once more where one is let go that was kept
+/// beyond them.
+pub fn let_go(world: World) {
+    drop(world)
 }
 
 /// Runs a world that was just made, with the policy's knee in the pressures of all resources.

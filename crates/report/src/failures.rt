@@ -1,5 +1,5 @@
 use cap_io::{Sink, put_all};
-use report_text::{PlacesError, ReportError};
+use report_text::{PlacesError, ReportError, Text};
 use std::alloc::AllocError;
 
 /// Why there is no report, or not all of it.
@@ -55,10 +55,10 @@ pub fn tell<E: Sink>(err: &mut E, failure: Failure) -> u8 {
     }
 }
 
-/// What is answered where a text was put, or couldn't be.
-pub fn of_text(put: Result<(), AllocError>) -> Result<(), Failure> {
-    match put {
-        Ok(()) => Ok(()),
+/// What was written, where all of it is there.
+pub fn whole_of(text: &Text) -> Result<&str, Failure> {
+    match text.whole() {
+        Ok(written) => Ok(written),
         Err(AllocError) => Err(Failure::Memory),
     }
 }

@@ -1,15 +1,15 @@
 use crate::again::Told;
-use crate::failures::{Failure, of_places, of_report, of_text};
+use crate::failures::{Failure, of_places, of_report, whole_of};
 use crate::inputs::{load, read_whole, store};
-use crate::run::{let_go, make_run};
+use crate::run::make_run;
 use crate::starting::make_once_more;
 use crate::stop::put_stop;
 use crate::subject::{Subject, subject_of};
 use crate::wanted::Wanted;
 use cap_io::{CleanSink, CleanSource, Shelf, Sink, Source, put_all};
+use capriccio_commands::let_go;
 use report_text::{
-    Decided, Places, ReportError, last_line, put_blocking, put_line, put_report, put_times,
-    times_of,
+    Decided, Places, ReportError, Text, last_line, put_blocking, put_report, put_times, times_of,
 };
 use run_history::Holders;
 use schedule_log::read_entry;
@@ -163,8 +163,10 @@ fn show_run<F: Shelf, K: Sink, E: Sink>(
     );
     drop(source);
     let shown = show_made(alloc, wanted, times, log.bytes(), &last, shelf, out);
-    let_go(last);
     drop(log);
+    if let Some(world) = last {
+        let_go(world);
+    }
     match shown {
         Ok(()) => Ok(status),
         Err(failure) => Err(failure),
@@ -320,9 +322,9 @@ fn places_in(alloc: Global, name: &str, source: Vec<u8>) -> Result<Places, Failu
 
 /// Writes the report.
 fn put_text<K: Sink>(alloc: Global, places: &Places, run: Run, out: &mut K) -> Result<(), Failure> {
-    let mut text = String::new(alloc);
+    let mut text = Text::new(alloc);
     let shown = match write_text(alloc, &mut text, places, run) {
-        Ok(()) => put(out, text.as_str().as_bytes()),
+        Ok(()) => put_whole(out, &text),
         Err(failure) => Err(failure),
     };
     drop(text);
@@ -330,7 +332,7 @@ fn put_text<K: Sink>(alloc: Global, places: &Places, run: Run, out: &mut K) -> R
 }
 
 /// Appends the report.
-fn write_text(alloc: Global, text: &mut String, places: &Places, run: Run) -> Result<(), Failure> {
+fn write_text(alloc: Global, text: &mut Text, places: &Places, run: Run) -> Result<(), Failure> {
     let decided = run.seen.decided();
     match put_report(
         alloc,
@@ -341,7 +343,7 @@ fn write_text(alloc: Global, text: &mut String, places: &Places, run: Run) -> Re
         run.subject.options,
         decided,
     ) {
-        Ok(left) => of_text(write_end(alloc, text, places, run, left)),
+        Ok(left) => write_end(alloc, text, places, run, left),
         Err(error) => Err(of_report(error)),
     }
 }
@@ -349,18 +351,31 @@ fn write_text(alloc: Global, text: &mut String, places: &Places, run: Run) -> Re
 /// Appends where the run stopped, of whose threads that ran so many are left, and the last line of its log.
 fn write_end(
     alloc: Global,
-    text: &mut String,
+    text: &mut Text,
     places: &Places,
     run: Run,
     left: u64,
-) -> Result<(), AllocError> {
+) -> Result<(), Failure> {
     let line = last_line(run.log);
     if let Some(world) = run.seen.world {
         if let Ok(last) = read_entry(line) {
-            put_stop(alloc, text, places, world, left, &last, run.seen.holders())?;
+            let holders = run.seen.holders();
+            let Ok(()) = put_stop(alloc, text, places, world, left, &last, holders) else {
+                return Err(Failure::Memory);
+            };
         }
     }
-    put_line(text, line)
+    text.bytes(line);
+    text.words("\n");
+    Ok(())
+}
+
+/// Writes a text, where all of it is there.
+fn put_whole<K: Sink>(out: &mut K, text: &Text) -> Result<(), Failure> {
+    match whole_of(text) {
+        Ok(written) => put(out, written.as_bytes()),
+        Err(failure) => Err(failure),
+    }
 }
 
 /// Stores the timeline, where it is asked for.
@@ -373,9 +388,9 @@ fn store_timeline<F: Shelf>(
 ) -> Result<(), Failure> {
     match &wanted.timeline {
         Some(name) => {
-            let mut text = String::new(alloc);
+            let mut text = Text::new(alloc);
             let put = put_times(alloc, &mut text, places, log);
-            let stored = store_put(alloc, shelf, name.as_str(), put, text.as_str());
+            let stored = store_put(alloc, shelf, name.as_str(), put, &text);
             drop(text);
             stored
         }
@@ -389,10 +404,13 @@ fn store_put<F: Shelf>(
     shelf: &mut F,
     name: &str,
     put: Result<(), ReportError>,
-    text: &str,
+    text: &Text,
 ) -> Result<(), Failure> {
     match put {
-        Ok(()) => store(alloc, shelf, name, text),
+        Ok(()) => match whole_of(text) {
+            Ok(picture) => store(alloc, shelf, name, picture),
+            Err(failure) => Err(failure),
+        },
         Err(error) => Err(of_report(error)),
     }
 }
@@ -407,10 +425,10 @@ fn store_graph<F: Shelf>(
 ) -> Result<(), Failure> {
     match &wanted.graph {
         Some(name) => {
-            let mut text = String::new(alloc);
+            let mut text = Text::new(alloc);
             let is_dot = name.as_str().ends_with(".dot");
             let put = put_blocking(alloc, &mut text, places, log, is_dot);
-            let stored = store_put(alloc, shelf, name.as_str(), put, text.as_str());
+            let stored = store_put(alloc, shelf, name.as_str(), put, &text);
             drop(text);
             stored
         }

@@ -19,8 +19,3 @@ pub(crate) fn make_run<F: Shelf, S: Source, K: Sink, E: Sink>(
 ) -> u8 {
     capriccio(alloc, words, shelf, trace, log, err, last)
 }
-
-/// Lets the world of a run go. How a world falls is then proved here alone, and not once more in each function that is done with one.
-pub(crate) fn let_go(world: Option<World>) {
-    drop(world)
-}

@@ -1,6 +1,5 @@
 // The run once more from its start, and what stands beside it.
 ghost use Rattle.std.specs.Prelude.{ℕ, List, ◌≡◌, ◌+◌, ◌*◌, ◌≤◌};
-ghost use Rattle.capriccio_commands.specs.MadeWorlds.{world_policy_of};
 ghost use Rattle.codegen_link.specs.Plans.{AreInRange};
 ghost use Rattle.command_options.specs.Options.{IsRunPolicy};
 ghost use Rattle.command_words.specs.WordList.{IsWordList, request_of};
@@ -10,9 +9,9 @@ ghost use Rattle.resource_monitor.specs.Pressure.{AnswersCurve, IsReading, curve
 ghost use Rattle.resource_monitor.specs.declared.curves.Curve.TheVariants.{Knee};
 
 use crate::again::{Told, make_again};
-use crate::run::let_go;
 use accepted_pairs::Accepted;
 use cap_io::Shelf;
+use capriccio_commands::{let_go, made_world};
 use codegen_link::Options;
 use command_options::monitor_of;
 use command_words::{Command, Policy, Rule, read_words};
@@ -20,7 +19,7 @@ use pair_commands::{accept_files, accept_source};
 use resource_monitor::{Measure, past_knee};
 use run_history::Choosing;
 use std::alloc::{AllocError, Global};
-use thread_core::{World, WorldPolicy};
+use thread_core::World;
 
 /// Makes the run of these words once more, beside its log. None where the words are those of no run, a file isn't what it was, or the
 /// log is of another run; and where there is no memory.
@@ -115,26 +114,9 @@ fn start_accepted(alloc: Global, accepted: Accepted, policy: Policy, log: &[u8])
     requires range { IsRunPolicy policy }
     requires pool { pool_bytes policy accepted.certificate ≤ 67108864 }
 {
-    match World::make(alloc, accepted, world_policy(policy), policy.fuel) {
-        Ok(world) => measure(alloc, world, policy, log),
-        Err(error) => {
-            drop(error);
-            None
-        }
-    }
-}
-
-/// What a world is given of a policy.
-fn world_policy(policy: Policy) -> WorldPolicy
-    ensures { result ≡ world_policy_of policy }
-{
-    let caps = policy.caps;
-    WorldPolicy {
-        chunks: policy.chunks,
-        extra: policy.extra,
-        extra_bytes: policy.extra_bytes,
-        backlog: policy.backlog,
-        caps,
+    match made_world(alloc, accepted, policy) {
+        Some(world) => measure(alloc, world, policy, log),
+        None => None,
     }
 }
 
@@ -149,7 +131,7 @@ fn measure(alloc: Global, mut world: World, policy: Policy, log: &[u8]) -> Optio
         ensures { result ≡ curve_value (Knee knee) used cap }
     { past_knee(knee, used, cap) };
     let told = make_measured(alloc, &mut world, policy, log, call);
-    let_go(Some(world));
+    let_go(world);
     told
 }
 

@@ -7,7 +7,7 @@ use crate::code::{function_at, operation_at, site_of};
 use crate::stacks::{below, return_of};
 use cap_word::{Stop, ThreadId, TrapKind};
 use flat_code::Op;
-use report_text::{Piece, Places, put_all};
+use report_text::{Places, Text};
 use run_history::Holders;
 use schedule_log::{Entry, StopLine};
 use stack_certificate::FunctionFact;
@@ -31,15 +31,18 @@ const END_STUB: u32 = 0x1000;
 /// the log cuts, if it does.
 pub fn put_stop(
     alloc: Global,
-    text: &mut String,
+    text: &mut Text,
     places: &Places,
     world: &World,
     left: u64,
     last: &Entry,
     holders: &[Holders],
 ) -> Result<(), AllocError> {
-    put_never(text, u64::from(world.live()).saturating_sub(left))?;
-    put_uses(text, world, holders)?;
+    let never = u64::from(world.live()).saturating_sub(left);
+    if never > 0 {
+        text.form("left: $ threads that never ran\n", &[never]);
+    }
+    put_uses(text, world, holders);
     match last {
         Entry::Stop(StopLine::Cut { thread, stop, .. }) => {
             put_cut(alloc, text, places, world, *thread, *stop)
@@ -48,172 +51,85 @@ pub fn put_stop(
     }
 }
 
-/// Appends how many threads never ran, where there are any.
-fn put_never(text: &mut String, never: u64) -> Result<(), AllocError> {
-    if never == 0 {
-        return Ok(());
-    }
-    put_all(
-        text,
-        &[
-            Piece::Text("left: "),
-            Piece::Number(never),
-            Piece::Text(" threads that never ran\n"),
-        ],
-    )
-}
-
 /// Appends a line for each resource that has a cap and is in use, with who holds it where that is known.
-fn put_uses(text: &mut String, world: &World, holders: &[Holders]) -> Result<(), AllocError> {
+fn put_uses(text: &mut Text, world: &World, holders: &[Holders]) {
     for resource in 1..8u32 {
         let used = world.used(resource);
         if used > 0 {
-            put_use(text, resource, used, world.cap(resource))?;
-            put_held(text, holders.get(resource as usize - 1))?;
+            let cap = world.cap(resource);
+            text.form(
+                "resource $: $ of $ in use",
+                &[u64::from(resource), u64::from(used), u64::from(cap)],
+            );
+            if let Some(held) = holders.get(resource as usize - 1) {
+                put_holders(text, held);
+            }
+            text.words("\n");
         }
     }
-    Ok(())
-}
-
-/// Appends how much of a resource is in use.
-fn put_use(text: &mut String, resource: u32, used: u32, cap: u32) -> Result<(), AllocError> {
-    put_all(
-        text,
-        &[
-            Piece::Text("resource "),
-            Piece::Number(u64::from(resource)),
-            Piece::Text(": "),
-            Piece::Number(u64::from(used)),
-            Piece::Text(" of "),
-            Piece::Number(u64::from(cap)),
-            Piece::Text(" in use"),
-        ],
-    )
-}
-
-/// Appends who holds units of a resource, where that is known, and the end of the line.
-fn put_held(text: &mut String, holders: Option<&Holders>) -> Result<(), AllocError> {
-    if let Some(held) = holders {
-        put_holders(text, held)?;
-    }
-    text.push_str("\n")
 }
 
 /// Appends who holds units of a resource, the first 20 threads of them. What a thread gave back beyond what it took was another's.
-fn put_holders(text: &mut String, holders: &Holders) -> Result<(), AllocError> {
+fn put_holders(text: &mut Text, holders: &Holders) {
     let mut shown: u64 = 0;
     for (thread, units) in &holders.held {
         if *units != 0 {
             if shown < LISTED {
-                put_holder(text, shown == 0, u64::from(*thread), *units)?;
+                text.words(if shown == 0 { ": " } else { ", " });
+                text.words(if *units < 0 { "-" } else { "" });
+                text.form("$ by thread $", &[units.unsigned_abs(), u64::from(*thread)]);
             }
             shown = shown.saturating_add(1);
         }
     }
-    put_others(text, shown.saturating_sub(LISTED))
-}
-
-/// Appends a thread that holds units of a resource.
-fn put_holder(
-    text: &mut String,
-    is_first: bool,
-    thread: u64,
-    units: i64,
-) -> Result<(), AllocError> {
-    put_all(
-        text,
-        &[
-            Piece::Text(if is_first { ": " } else { ", " }),
-            Piece::Text(if units < 0 { "-" } else { "" }),
-            Piece::Number(units.unsigned_abs()),
-            Piece::Text(" by thread "),
-            Piece::Number(thread),
-        ],
-    )
-}
-
-/// Appends how many more threads hold units, where there are any.
-fn put_others(text: &mut String, more: u64) -> Result<(), AllocError> {
-    if more == 0 {
-        return Ok(());
+    if shown > LISTED {
+        text.form(", the others by $ more threads", &[shown - LISTED]);
     }
-    put_all(
-        text,
-        &[
-            Piece::Text(", the others by "),
-            Piece::Number(more),
-            Piece::Text(" more threads"),
-        ],
-    )
 }
 
 /// Appends where the segment of a thread was cut.
 fn put_cut(
     alloc: Global,
-    text: &mut String,
+    text: &mut Text,
     places: &Places,
     world: &World,
     thread: u32,
     stop: Stop,
 ) -> Result<(), AllocError> {
-    put_all(
-        text,
-        &[
-            Piece::Text("stopped: thread "),
-            Piece::Number(u64::from(thread)),
-        ],
-    )?;
+    text.form("stopped: thread $", &[u64::from(thread)]);
     match standing_of(world, thread) {
         Some(standing) => put_standing(alloc, text, places, world, stop, standing),
-        None => text.push_str("\n"),
+        None => {
+            text.words("\n");
+            Ok(())
+        }
     }
 }
 
-/// Appends where a thread that was cut stands.
+/// Appends in which function, why and at which place a thread was cut that stands so, and the calls above.
 fn put_standing(
     alloc: Global,
-    text: &mut String,
+    text: &mut Text,
     places: &Places,
     world: &World,
     stop: Stop,
     standing: Standing,
 ) -> Result<(), AllocError> {
-    match function_at(world.accepted(), standing.pc) {
-        Some((function, fact)) => {
-            let op = operation_at(world.accepted(), function, fact, standing.pc);
-            put_inside(alloc, text, places, function, stop, standing, op)?;
-            if is_in_its_frame(stop, op) {
-                put_calls(text, places, world, standing.sp, fact)
-            } else {
-                Ok(())
-            }
-        }
-        None => text.push_str("\n"),
+    let Some((function, fact)) = function_at(world.accepted(), standing.pc) else {
+        text.words("\n");
+        return Ok(());
+    };
+    let op = operation_at(world.accepted(), function, fact, standing.pc);
+    text.words(" in ");
+    places.put_function(text, function);
+    put_reason(text, stop, standing);
+    let bound = index_bound(stop, standing);
+    put_where(alloc, text, places, function, bound, op)?;
+    text.words("\n");
+    if is_in_its_frame(stop, op) {
+        put_calls(text, places, world, standing.sp, fact);
     }
-}
-
-/// Appends in which function and why the run stopped, the place, and the end of the line.
-fn put_inside(
-    alloc: Global,
-    text: &mut String,
-    places: &Places,
-    function: u32,
-    stop: Stop,
-    standing: Standing,
-    op: Option<&Op>,
-) -> Result<(), AllocError> {
-    text.push_str(" in ")?;
-    places.put_function(text, function)?;
-    put_reason(text, stop, standing)?;
-    put_where(
-        alloc,
-        text,
-        places,
-        function,
-        index_bound(stop, standing),
-        op,
-    )?;
-    text.push_str("\n")
+    Ok(())
 }
 
 /// Where a thread stands, by its number: none where it doesn't live.
@@ -227,33 +143,29 @@ fn standing_of(world: &World, number: u32) -> Option<Standing> {
 }
 
 /// Appends why the run stopped.
-fn put_reason(text: &mut String, stop: Stop, standing: Standing) -> Result<(), AllocError> {
+fn put_reason(text: &mut Text, stop: Stop, standing: Standing) {
     match stop {
         Stop::Trap(TrapKind::Index) => put_index(text, standing, " words"),
         Stop::Trap(TrapKind::Table) => put_index(text, standing, " members"),
         Stop::Trap(TrapKind::Resource) => {
-            text.push_str(": a resource that isn't there, or an amount out of range")
+            text.words(": a resource that isn't there, or an amount out of range")
         }
-        Stop::Trap(TrapKind::Channel) => text.push_str(": a channel outside 0 to 63"),
-        Stop::NoChunk => text.push_str(": no free chunk is large enough"),
-        Stop::Fuel => text.push_str(": as many instructions are done as --fuel says"),
-        Stop::Threads => text.push_str(": 65,535 threads live"),
+        Stop::Trap(TrapKind::Channel) => text.words(": a channel outside 0 to 63"),
+        Stop::NoChunk => text.words(": no free chunk is large enough"),
+        Stop::Fuel => text.words(": as many instructions are done as --fuel says"),
+        Stop::Threads => text.words(": 65,535 threads live"),
     }
 }
 
 /// Appends an index and its bound, in words or members.
-fn put_index(text: &mut String, standing: Standing, unit: &str) -> Result<(), AllocError> {
+fn put_index(text: &mut Text, standing: Standing, unit: &str) {
     let index = standing.t0.cast_signed();
-    put_all(
-        text,
-        &[
-            Piece::Text(if index < 0 { ": index -" } else { ": index " }),
-            Piece::Number(u64::from(index.unsigned_abs())),
-            Piece::Text(" of "),
-            Piece::Number(u64::from(standing.t1)),
-            Piece::Text(unit),
-        ],
-    )
+    text.words(if index < 0 { ": index -" } else { ": index " });
+    text.form(
+        "$ of $",
+        &[u64::from(index.unsigned_abs()), u64::from(standing.t1)],
+    );
+    text.words(unit)
 }
 
 /// The number of words of the array, where the run stopped at an index past it.
@@ -268,7 +180,7 @@ fn index_bound(stop: Stop, standing: Standing) -> Option<u32> {
 /// number of words.
 fn put_where(
     alloc: Global,
-    text: &mut String,
+    text: &mut Text,
     places: &Places,
     function: u32,
     bound: Option<u32>,
@@ -283,17 +195,12 @@ fn put_where(
         }
         Some(Op::LoadLocal { .. }) => put_local(alloc, text, places, function, bound, false),
         Some(Op::StoreLocal { .. }) => put_local(alloc, text, places, function, bound, true),
-        Some(other) => put_call(text, places, site_of(other)),
-        None => Ok(()),
-    }
-}
-
-/// Appends the place of a call, where there is one.
-fn put_call(text: &mut String, places: &Places, site: Option<u32>) -> Result<(), AllocError> {
-    match site {
-        Some(site) => {
-            text.push_str(", at ")?;
-            places.put_site_text(text, site)
+        Some(other) => {
+            if let Some(site) = site_of(other) {
+                text.words(", at ");
+                places.put_site_text(text, site);
+            }
+            Ok(())
         }
         None => Ok(()),
     }
@@ -302,7 +209,7 @@ fn put_call(text: &mut String, places: &Places, site: Option<u32>) -> Result<(),
 /// Appends the places at which a function has such elements of local arrays of so many words.
 fn put_local(
     alloc: Global,
-    text: &mut String,
+    text: &mut Text,
     places: &Places,
     function: u32,
     words: Option<u32>,
@@ -330,29 +237,26 @@ fn is_in_its_frame(stop: Stop, op: Option<&Op>) -> bool {
 }
 
 /// Appends a line for each call above a frame, by its lowest address and its function, the innermost first.
-fn put_calls(
-    text: &mut String,
-    places: &Places,
-    world: &World,
-    sp: u32,
-    innermost: &FunctionFact,
-) -> Result<(), AllocError> {
+fn put_calls(text: &mut Text, places: &Places, world: &World, sp: u32, innermost: &FunctionFact) {
     let mut low = sp;
     let mut fact = innermost;
     for _ in 0..MOST_CALLS {
         let Some(call) = call_above(world, low, fact) else {
-            return Ok(());
+            return;
         };
-        put_caller(text, places, call.site)?;
+        if let Some(site) = call.site {
+            text.words("  called at ");
+            places.put_site(text, site);
+            text.words("\n");
+        }
         let Some(next) = below(world, low, fact) else {
-            return Ok(());
+            return;
         };
         low = next;
         fact = call.caller;
     }
-    match return_of(world, low, fact) {
-        Some(returns) if returns > END_STUB => text.push_str("  and by more calls above\n"),
-        _ => Ok(()),
+    if return_of(world, low, fact).unwrap_or(0) > END_STUB {
+        text.words("  and by more calls above\n")
     }
 }
 
@@ -376,14 +280,4 @@ fn call_above<'a>(world: &'a World, low: u32, fact: &FunctionFact) -> Option<Cal
         site: site_of(op),
         caller,
     })
-}
-
-/// Appends a line for the call of a site.
-fn put_caller(text: &mut String, places: &Places, site: Option<u32>) -> Result<(), AllocError> {
-    let Some(site) = site else {
-        return Ok(());
-    };
-    text.push_str("  called at ")?;
-    places.put_site(text, site)?;
-    text.push_str("\n")
 }

@@ -6,11 +6,11 @@ use Rattle.run_history.specs.declared.happenings.Happening.TheVariants.{Came, Lo
 use Rattle.run_history.specs.Happenings.{answered_at, clocks_in, most_held, arrivals_from, requests_dropped, drops_request}
 use Rattle.std.specs.Prelude.{count_by, cond}
 use Rattle.std.proofs.lemmas.List.Sums.{sum_by-append}
-use Rattle.run_numbers.specs.declared.answers.Answers.{Answers}
-use Rattle.run_numbers.specs.declared.numbers.WaitLength.{WaitLength}
-use Rattle.run_numbers.specs.Answers.{with_answer, answers_from}
-use Rattle.run_numbers.specs.declared.numbers.Numbers.{Numbers}
-use Rattle.run_numbers.specs.Numbers.{is_event, take_of, takes, wait_lengths, IsNumbersOf, IsOneMore}
+use Rattle.run_history.specs.declared.answers.Answers.{Answers}
+use Rattle.run_history.specs.declared.numbers.WaitLength.{WaitLength}
+use Rattle.run_history.specs.Answers.{with_answer, answers_from}
+use Rattle.run_history.specs.declared.numbers.Numbers.{Numbers}
+use Rattle.run_history.specs.Numbers.{is_event, take_of, takes, wait_lengths, IsNumbersOf, IsOneMore}
 
 -- lists that grow at their end
 pub takes-append : (told more : List Happening) → takes (told ++ more) ≡ takes told ++ takes more

@@ -11,8 +11,8 @@ use Rattle.schedule_log.proofs.LogLines.{log_lines}
 use Rattle.run_history.specs.declared.happenings.Happening.{Happening}
 use Rattle.run_history.specs.Known.{Known, nothing_known, with_entry, happening}
 use Rattle.run_history.specs.Happenings.{happenings, happenings_from}
-use Rattle.run_numbers.specs.declared.numbers.Numbers.{Numbers}
-use Rattle.run_numbers.specs.Numbers.{IsNumbersOf}
+use Rattle.run_history.specs.declared.numbers.Numbers.{Numbers}
+use Rattle.run_history.specs.Numbers.{IsNumbersOf}
 
 -- the lines that are left are those of entries that tell, after what was told, what the whole log tells
 abbrev pub IsReading : List Bool → ℕ → List ℕ → List (List ℕ) → Known → Numbers → Type 0

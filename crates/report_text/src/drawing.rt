@@ -1,7 +1,6 @@
 use crate::graph::{GraphEdge, put_label};
-use crate::head::put_head;
-use crate::pieces::{Piece, put_all, put_form};
-use std::alloc::AllocError;
+use crate::head::HEAD;
+use crate::text::Text;
 
 /// The height from one node to the next.
 const STEP: u64 = 70;
@@ -24,17 +23,14 @@ const WIDTH: u64 = 1420;
 
 /// Appends the blocking graph as SVG: the nodes one below another with their names, and an arrow for each edge with its label.
 /// Arrows down stand right of the boxes, and arrows up and back to the same node left.
-pub fn put_drawing(
-    text: &mut String,
-    names: &[String],
-    edges: &[GraphEdge],
-) -> Result<(), AllocError> {
+pub(crate) fn put_drawing(text: &mut Text, names: &[String], edges: &[GraphEdge]) {
     let bottom = top_of(names.len() as u64);
-    put_head(text, WIDTH, bottom.saturating_add(20))?;
-    put_arrows(text, edges)?;
-    put_boxes(text, names)?;
-    put_labels(text, edges)?;
-    put_form(text, MEANING, &[LEFT, bottom])
+    let height = bottom.saturating_add(20);
+    text.form(HEAD, &[WIDTH, height, WIDTH, height]);
+    put_arrows(text, edges);
+    put_boxes(text, names);
+    put_labels(text, edges);
+    text.form(MEANING, &[LEFT, bottom])
 }
 
 /// The tip of the arrows.
@@ -46,53 +42,28 @@ const MEANING: &str =
     "<text x=\"$\" y=\"$\">n x c: n segments went so, with c instructions on average; then the average change of what they hold, where there is one</text>\n</svg>\n";
 
 /// Appends the arrows, and before them their tip.
-fn put_arrows(text: &mut String, edges: &[GraphEdge]) -> Result<(), AllocError> {
-    text.push_str(TIP)?;
+fn put_arrows(text: &mut Text, edges: &[GraphEdge]) {
+    text.words(TIP);
     for edge in edges {
-        put_arrow(text, edge)?;
+        put_arrow(text, arrow_of(edge));
     }
-    Ok(())
-}
-
-/// Appends the boxes of the nodes.
-fn put_boxes(text: &mut String, names: &[String]) -> Result<(), AllocError> {
-    let mut node: u64 = 0;
-    for name in names {
-        put_box(text, node, name.as_str())?;
-        node = node.saturating_add(1);
-    }
-    Ok(())
-}
-
-/// Appends the labels of the arrows.
-fn put_labels(text: &mut String, edges: &[GraphEdge]) -> Result<(), AllocError> {
-    for edge in edges {
-        put_arrow_label(text, edge)?;
-    }
-    Ok(())
 }
 
 /// The frame of a node's box, and the number in it.
 const FRAME: &str =
     "<rect x=\"$\" y=\"$\" width=\"$\" height=\"$\" fill=\"#eef3fa\" stroke=\"#000000\"/>\n<text x=\"$\" y=\"$\">$: ";
 
-/// Appends the box of a node.
-fn put_box(text: &mut String, node: u64, name: &str) -> Result<(), AllocError> {
-    let y = top_of(node);
-    put_form(
-        text,
-        FRAME,
-        &[
-            LEFT,
-            y,
-            RIGHT - LEFT,
-            BOX,
-            LEFT + 8,
-            y.saturating_add(19),
-            node,
-        ],
-    )?;
-    put_all(text, &[Piece::Escaped(name), Piece::Text("</text>\n")])
+/// Appends the boxes of the nodes.
+fn put_boxes(text: &mut Text, names: &[String]) {
+    let mut node: u64 = 0;
+    for name in names {
+        let y = top_of(node);
+        let base = y.saturating_add(19);
+        text.form(FRAME, &[LEFT, y, RIGHT - LEFT, BOX, LEFT + 8, base, node]);
+        text.escaped(name.as_str());
+        text.words("</text>\n");
+        node = node.saturating_add(1);
+    }
 }
 
 /// The upper side of a node's box.
@@ -125,28 +96,15 @@ const ARROW: &str =
     "<path d=\"M$,$ C$,$ $,$ $,$\" fill=\"none\" stroke=\"#555555\" marker-end=\"url(#tip)\"/>\n";
 
 /// Appends an arrow.
-fn put_arrow(text: &mut String, edge: &GraphEdge) -> Result<(), AllocError> {
-    let arrow = arrow_of(edge);
+fn put_arrow(text: &mut Text, arrow: Arrow) {
     let bow = arrow.bow.min(FARTHEST);
     let (side, far) = if arrow.goes_down {
         (RIGHT, RIGHT + bow)
     } else {
         (LEFT, LEFT - bow)
     };
-    put_form(
-        text,
-        ARROW,
-        &[
-            side,
-            arrow.start,
-            far,
-            arrow.start,
-            far,
-            arrow.end,
-            side,
-            arrow.end,
-        ],
-    )
+    let Arrow { start, end, .. } = arrow;
+    text.form(ARROW, &[side, start, far, start, far, end, side, end])
 }
 
 /// The head of a label on a white ground that begins at a place, and of one that ends there.
@@ -156,18 +114,20 @@ const BEGINS: &str =
 const ENDS: &str =
     "<text x=\"$\" y=\"$\" text-anchor=\"end\" paint-order=\"stroke\" stroke=\"#ffffff\" stroke-width=\"4\">";
 
-/// Appends the label of an arrow.
-fn put_arrow_label(text: &mut String, edge: &GraphEdge) -> Result<(), AllocError> {
-    let arrow = arrow_of(edge);
-    let bow = arrow.bow.min(FARTHEST) * 3 / 4 + 4;
-    let y = label_y(arrow, edge);
-    if arrow.goes_down {
-        put_form(text, BEGINS, &[RIGHT + bow, y])?;
-    } else {
-        put_form(text, ENDS, &[LEFT - bow, y])?;
+/// Appends the labels of the arrows.
+fn put_labels(text: &mut Text, edges: &[GraphEdge]) {
+    for edge in edges {
+        let arrow = arrow_of(edge);
+        let bow = arrow.bow.min(FARTHEST) * 3 / 4 + 4;
+        let y = label_y(arrow, edge);
+        if arrow.goes_down {
+            text.form(BEGINS, &[RIGHT + bow, y]);
+        } else {
+            text.form(ENDS, &[LEFT - bow, y]);
+        }
+        put_label(text, edge);
+        text.words("</text>\n");
     }
-    put_label(text, edge)?;
-    text.push_str("</text>\n")
 }
 
 /// The height of the label of an edge's arrow. Arrows of several lengths that have the same middle have their labels at several

@@ -1,7 +1,7 @@
 use crate::lines::RequestsLine;
-use crate::put_form;
+use crate::text::Text;
 use report_figures::spread_of;
-use run_numbers::Numbers;
+use run_history::Numbers;
 use std::alloc::{AllocError, Global};
 
 /// How long a request took: from when it arrived to an answer, and the thread that took it.
@@ -16,7 +16,7 @@ struct Latency {
 /// request's time in the trace to its first answer and to its last one.
 pub(crate) fn put_requests(
     alloc: Global,
-    text: &mut String,
+    text: &mut Text,
     numbers: &Numbers,
     times: &[u64],
 ) -> Result<(), AllocError> {
@@ -26,7 +26,8 @@ pub(crate) fn put_requests(
         taken: numbers.takes.len() as u64,
         answered: answered_in(numbers, times),
     };
-    write!(text, "{line}\n")?;
+    text.line(&line);
+    text.words("\n");
     put_latencies(alloc, text, FIRST, numbers, times, false)?;
     put_latencies(alloc, text, LAST, numbers, times, true)
 }
@@ -105,30 +106,23 @@ const LAST: &str =
 /// Appends the line on latencies of that form, in ticks; nothing where there are none.
 fn put_latencies(
     alloc: Global,
-    text: &mut String,
+    text: &mut Text,
     form: &str,
     numbers: &Numbers,
     times: &[u64],
     to_last: bool,
 ) -> Result<(), AllocError> {
     let mut ticks = Vec::new(alloc);
-    match add_latencies(&mut ticks, numbers, times, to_last) {
-        Ok(Some(slowest)) => put_spread(text, form, ticks.as_mut_slice(), slowest),
-        Ok(None) => Ok(()),
-        Err(error) => Err(error),
+    if let Some(slowest) = add_latencies(&mut ticks, numbers, times, to_last)? {
+        put_spread(text, form, ticks.as_mut_slice(), slowest);
     }
+    Ok(())
 }
 
 /// Appends the same, by what each took and the one that took longest.
-fn put_spread(
-    text: &mut String,
-    form: &str,
-    ticks: &mut [u64],
-    slowest: Latency,
-) -> Result<(), AllocError> {
-    match spread_of(ticks) {
-        Some(spread) => put_form(
-            text,
+fn put_spread(text: &mut Text, form: &str, ticks: &mut [u64], slowest: Latency) {
+    if let Some(spread) = spread_of(ticks) {
+        text.form(
             form,
             &[
                 spread.least,
@@ -137,9 +131,8 @@ fn put_spread(
                 spread.ninety_ninth,
                 spread.greatest,
                 slowest.arrived,
-                slowest.thread as u64,
+                u64::from(slowest.thread),
             ],
-        ),
-        None => Ok(()),
+        )
     }
 }

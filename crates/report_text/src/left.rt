@@ -1,9 +1,8 @@
 use crate::places::Places;
-use crate::put_form;
 use crate::report::is_one;
 use crate::takes::Takes;
+use crate::text::Text;
 use run_history::{History, Standing, Wait};
-use std::alloc::AllocError;
 
 /// The most threads that are listed.
 const LISTED: u64 = 20;
@@ -11,27 +10,27 @@ const LISTED: u64 = 20;
 /// Appends a line for each thread that is left after the last entry, up to 20 of them, and how many more there are. All threads
 /// that have run have numbers below that one. The answer is how many are left.
 pub(crate) fn put_left(
-    text: &mut String,
+    text: &mut Text,
     places: &Places,
     history: &History,
     takes: &Takes,
     accepts: &[bool],
     threads: u32,
-) -> Result<u64, AllocError> {
+) -> u64 {
     let mut left: u64 = 0;
     for thread in 0..threads {
         if let Some(standing) = standing_left(history, thread) {
             if left < LISTED {
-                put_standing(text, places, thread, standing)?;
-                put_take(text, places, last_take(takes, accepts, thread, standing))?;
+                put_standing(text, places, thread, standing);
+                put_take(text, places, last_take(takes, accepts, thread, standing));
             }
             left = left.saturating_add(1);
         }
     }
     if left > LISTED {
-        put_form(text, "left: $ more threads\n", &[left - LISTED])?;
+        text.form("left: $ more threads\n", &[left - LISTED]);
     }
-    Ok(left)
+    left
 }
 
 /// Where a thread stands that has run and hasn't ended.
@@ -46,22 +45,16 @@ fn standing_left(history: &History, thread: u32) -> Option<Standing> {
 }
 
 /// Appends where a thread stands that is left.
-fn put_standing(
-    text: &mut String,
-    places: &Places,
-    thread: u32,
-    standing: Standing,
-) -> Result<(), AllocError> {
+fn put_standing(text: &mut Text, places: &Places, thread: u32, standing: Standing) {
     match standing {
         Standing::Waits { site, since, .. } => {
-            put_form(text, "left: thread $ waits at ", &[thread as u64])?;
-            places.put_site_text(text, site)?;
-            put_form(text, " since $", &[since])
+            text.form("left: thread $ waits at ", &[u64::from(thread)]);
+            places.put_site_text(text, site);
+            text.form(" since $", &[since])
         }
-        _ => put_form(
-            text,
+        _ => text.form(
             "left: thread $, whose segment was cut",
-            &[thread as u64],
+            &[u64::from(thread)],
         ),
     }
 }
@@ -76,13 +69,13 @@ fn last_take(takes: &Takes, accepts: &[bool], thread: u32, standing: Standing) -
 }
 
 /// Appends the `take` that a thread went past last, where there was one, and the end of its line.
-fn put_take(text: &mut String, places: &Places, last: Option<Wait>) -> Result<(), AllocError> {
+fn put_take(text: &mut Text, places: &Places, last: Option<Wait>) {
     match last {
         Some(wait) => {
-            text.push_str(", went past ")?;
-            places.put_site_text(text, wait.site)?;
-            put_form(text, " at $\n", &[wait.until])
+            text.words(", went past ");
+            places.put_site_text(text, wait.site);
+            text.form(" at $\n", &[wait.until])
         }
-        None => text.push_str("\n"),
+        None => text.words("\n"),
     }
 }

@@ -1,6 +1,10 @@
+use crate::drawing::put_drawing;
+use crate::graph::{GraphEdge, put_graph};
 use crate::places::Places;
 use crate::report::ReportError;
-use crate::{GraphEdge, Rows, put_drawing, put_graph, put_timeline};
+use crate::rows::Rows;
+use crate::text::Text;
+use crate::timeline::put_timeline;
 use cap_text::Lines;
 use cap_word::SiteKey;
 use run_history::{Happening, History, Standing, Wait};
@@ -47,7 +51,7 @@ impl Telling for Rows {
 /// Appends the timeline of the run with this log, as SVG. The log is read twice, and none of its entries is kept.
 pub fn put_times(
     alloc: Global,
-    text: &mut String,
+    text: &mut Text,
     places: &Places,
     log: &[u8],
 ) -> Result<(), ReportError> {
@@ -60,7 +64,7 @@ pub fn put_times(
 /// Appends the same, where it is known of each site whether its call is `accept`.
 fn put_told(
     alloc: Global,
-    text: &mut String,
+    text: &mut Text,
     places: &Places,
     log: &[u8],
     accepts: &[bool],
@@ -79,7 +83,7 @@ fn put_told(
 /// Appends the same, with that survey.
 fn put_surveyed(
     alloc: Global,
-    text: &mut String,
+    text: &mut Text,
     places: &Places,
     log: &[u8],
     accepts: &[bool],
@@ -159,7 +163,7 @@ fn wait_left(history: &History, thread: u32, end: u64) -> Option<Wait> {
 /// Appends the timeline with these rows.
 fn put_rows(
     alloc: Global,
-    text: &mut String,
+    text: &mut Text,
     places: &Places,
     survey: &Survey,
     rows: &Rows,
@@ -167,7 +171,10 @@ fn put_rows(
     let mut sites = Vec::new(alloc);
     let mut names = Vec::new(alloc);
     match add_sites(alloc, places, survey, &mut sites, &mut names) {
-        Ok(()) => put_timeline(text, rows, sites.as_slice(), names.as_slice()),
+        Ok(()) => {
+            put_timeline(text, rows, sites.as_slice(), names.as_slice());
+            Ok(())
+        }
         Err(error) => Err(error),
     }
 }
@@ -201,7 +208,7 @@ fn add_name(names: &mut Vec<String>, made: Result<String, AllocError>) -> Result
 /// Appends the blocking graph of the run with this log, as SVG or as DOT.
 pub fn put_blocking(
     alloc: Global,
-    text: &mut String,
+    text: &mut Text,
     places: &Places,
     log: &[u8],
     is_dot: bool,
@@ -263,7 +270,7 @@ fn note(
 /// Appends the blocking graph with these nodes and edges.
 fn put_nodes(
     alloc: Global,
-    text: &mut String,
+    text: &mut Text,
     places: &Places,
     nodes: &BTreeMap<u32, SiteKey>,
     edges: &[GraphEdge],
@@ -271,8 +278,14 @@ fn put_nodes(
 ) -> Result<(), AllocError> {
     let mut names = Vec::new(alloc);
     match add_nodes(alloc, places, nodes, &mut names) {
-        Ok(()) if is_dot => put_graph(text, names.as_slice(), edges),
-        Ok(()) => put_drawing(text, names.as_slice(), edges),
+        Ok(()) => {
+            if is_dot {
+                put_graph(text, names.as_slice(), edges);
+            } else {
+                put_drawing(text, names.as_slice(), edges);
+            }
+            Ok(())
+        }
         Err(error) => Err(error),
     }
 }
@@ -295,23 +308,15 @@ fn add_nodes(
 
 /// The place of the innermost of the sites of a key, and the lines and columns of the others.
 fn name_of(alloc: Global, places: &Places, sites: &[u32]) -> Result<String, AllocError> {
-    let mut name = String::new(alloc);
-    match put_key(&mut name, places, sites) {
-        Ok(()) => Ok(name),
-        Err(error) => Err(error),
-    }
-}
-
-/// Appends the same.
-fn put_key(name: &mut String, places: &Places, sites: &[u32]) -> Result<(), AllocError> {
+    let mut name = Text::new(alloc);
     let mut is_innermost = true;
     for site in sites {
         if is_innermost {
-            places.put_site(name, *site)
+            places.put_site(&mut name, *site);
         } else {
-            places.put_line_below(name, *site)
-        }?;
+            places.put_line_below(&mut name, *site);
+        }
         is_innermost = false;
     }
-    Ok(())
+    name.into_whole()
 }

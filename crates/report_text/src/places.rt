@@ -1,7 +1,7 @@
 ghost use Rattle.std.specs.Prelude.{◌≤◌, length, IfOk};
 
 use crate::elements::{Element, elements_of};
-use crate::put_form;
+use crate::text::Text;
 use c_lex::{LexError, Mark, Token, TokenKind, lex};
 use c_parse::{ParseError, parse_nested};
 use c_tree::{RawItem, RawProgram};
@@ -73,50 +73,45 @@ impl Places {
     }
 
     /// Appends where a site stands, what is called there and in which function: `server.c:12:5 accept in worker`.
-    pub fn put_site(&self, text: &mut String, site: u32) -> Result<(), AllocError> {
+    pub fn put_site(&self, text: &mut Text, site: u32) {
         match self.call(site) {
             Some(at) => {
-                self.put_place(text, at)?;
-                put_bytes(text, self.name_at(at))?;
+                self.put_named(text, at);
                 self.put_inside(text, at)
             }
-            None => put_number(text, site),
+            None => text.form("site $", &[u64::from(site)]),
         }
     }
 
     /// Appends the same with the whole text of the call: `server.c:12:5 take(1, n) in worker`. Of a long one the beginning stands
     /// there.
-    pub fn put_site_text(&self, text: &mut String, site: u32) -> Result<(), AllocError> {
+    pub fn put_site_text(&self, text: &mut Text, site: u32) {
         match self.call(site) {
             Some(at) => {
-                self.put_place(text, at)?;
-                put_call_text(text, self.source.as_slice(), self.tokens.as_slice(), at)?;
+                self.put_place(text, at);
+                put_call_text(text, self.source.as_slice(), self.tokens.as_slice(), at);
                 self.put_inside(text, at)
             }
-            None => put_number(text, site),
+            None => text.form("site $", &[u64::from(site)]),
         }
     }
 
     /// Appends the line and the column of a site whose call led to the one before: ` < 12:5`.
-    pub(crate) fn put_line_below(&self, text: &mut String, site: u32) -> Result<(), AllocError> {
+    pub(crate) fn put_line_below(&self, text: &mut Text, site: u32) {
         match self.call(site) {
             Some(at) => {
-                let position = self.position(at);
-                put_form(
-                    text,
-                    " < $:$",
-                    &[position.line as u64, position.column as u64],
-                )
+                let Position { line, column } = self.position(at);
+                text.form(" < $:$", &[line as u64, column as u64])
             }
-            None => put_form(text, " < site $", &[site as u64]),
+            None => text.form(" < site $", &[u64::from(site)]),
         }
     }
 
     /// Appends the name of the function of that number, in the order of their definitions.
-    pub fn put_function(&self, text: &mut String, function: u32) -> Result<(), AllocError> {
+    pub fn put_function(&self, text: &mut Text, function: u32) {
         match self.names.functions.as_slice().get(function as usize) {
-            Some(at) => put_bytes(text, self.name_at(*at)),
-            None => put_form(text, "function $", &[function as u64]),
+            Some(at) => text.bytes(self.name_at(*at)),
+            None => text.form("function $", &[u64::from(function)]),
         }
     }
 
@@ -125,7 +120,7 @@ impl Places {
     pub fn put_global_elements(
         &self,
         alloc: Global,
-        text: &mut String,
+        text: &mut Text,
         function: u32,
         array: u32,
         assigns: bool,
@@ -137,7 +132,7 @@ impl Places {
     pub fn put_local_elements(
         &self,
         alloc: Global,
-        text: &mut String,
+        text: &mut Text,
         function: u32,
         words: u32,
         assigns: bool,
@@ -149,7 +144,7 @@ impl Places {
     fn put_elements(
         &self,
         alloc: Global,
-        text: &mut String,
+        text: &mut Text,
         function: u32,
         array: Array,
         assigns: bool,
@@ -165,16 +160,16 @@ impl Places {
                 && self.is_of(array, element.at, elements.as_slice())
             {
                 if shown < SHOWN {
-                    self.put_element(text, element.at, shown == 0)?;
+                    text.words(if shown == 0 { ", at " } else { " or " });
+                    self.put_named(text, element.at);
                 }
                 shown = shown.saturating_add(1);
             }
         }
         if shown > SHOWN {
-            put_form(text, " or at $ more places", &[shown - SHOWN])
-        } else {
-            Ok(())
+            text.form(" or at $ more places", &[shown - SHOWN]);
         }
+        Ok(())
     }
 
     /// Whether the name at that place is that of an array, in a function with these elements and declarations.
@@ -198,11 +193,10 @@ impl Places {
         false
     }
 
-    /// Appends the place of an element.
-    fn put_element(&self, text: &mut String, at: u32, is_first: bool) -> Result<(), AllocError> {
-        text.push_str(if is_first { ", at " } else { " or " })?;
-        self.put_place(text, at)?;
-        put_bytes(text, self.name_at(at))
+    /// Appends a place, and the name there: `server.c:12:5 accept`.
+    fn put_named(&self, text: &mut Text, at: u32) {
+        self.put_place(text, at);
+        text.bytes(self.name_at(at))
     }
 
     /// The place of the name of the call of a site.
@@ -219,25 +213,18 @@ impl Places {
     }
 
     /// Appends in which function a place stands.
-    fn put_inside(&self, text: &mut String, at: u32) -> Result<(), AllocError> {
-        match function_at(self.names.functions.as_slice(), at) {
-            Some(function) => {
-                text.push_str(" in ")?;
-                put_bytes(text, self.name_at(function))
-            }
-            None => Ok(()),
+    fn put_inside(&self, text: &mut Text, at: u32) {
+        if let Some(function) = function_at(self.names.functions.as_slice(), at) {
+            text.words(" in ");
+            text.bytes(self.name_at(function))
         }
     }
 
     /// Appends a place, and a blank: `server.c:12:5 `.
-    fn put_place(&self, text: &mut String, at: u32) -> Result<(), AllocError> {
-        let position = self.position(at);
-        text.push_str(self.file.as_str())?;
-        put_form(
-            text,
-            ":$:$ ",
-            &[position.line as u64, position.column as u64],
-        )
+    fn put_place(&self, text: &mut Text, at: u32) {
+        let Position { line, column } = self.position(at);
+        text.words(self.file.as_str());
+        text.form(":$:$ ", &[line as u64, column as u64])
     }
 
     /// The line and the column of a place.
@@ -340,18 +327,8 @@ fn push(places: &mut Vec<u32>, at: u32) -> Result<(), AllocError> {
     Ok(())
 }
 
-/// Appends a site by its number, where it has no place.
-fn put_number(text: &mut String, site: u32) -> Result<(), AllocError> {
-    put_form(text, "site $", &[site as u64])
-}
-
 /// Appends the text of the call whose name stands at that place, with one blank for each white space in it.
-fn put_call_text(
-    text: &mut String,
-    source: &[u8],
-    tokens: &[Token],
-    at: u32,
-) -> Result<(), AllocError> {
+fn put_call_text(text: &mut Text, source: &[u8], tokens: &[Token], at: u32) {
     let rest = rest_of(source, at);
     let length = end_of_call(tokens, at).saturating_sub(at) as usize;
     let shown = length.min(CALL_BYTES).min(rest.len());
@@ -359,15 +336,13 @@ fn put_call_text(
     for byte in &rest[..shown] {
         let is_blank = *byte <= b' ';
         if !is_blank {
-            text.push(char::from(*byte))
+            text.bytes(&[*byte]);
         } else if !was_blank {
-            text.push_str(" ")
-        } else {
-            Ok(())
-        }?;
+            text.words(" ");
+        }
         was_blank = is_blank;
     }
-    text.push_str(if shown < length { " .." } else { "" })
+    text.words(if shown < length { " .." } else { "" })
 }
 
 /// The place behind the parenthesis that closes the call whose name stands at that place.
@@ -410,12 +385,4 @@ fn rest_of(source: &[u8], at: u32) -> &[u8] {
 /// Whether names have this byte.
 fn is_of_name(byte: u8) -> bool {
     byte.is_ascii_alphanumeric() || byte == b'_'
-}
-
-/// Appends bytes as characters.
-pub(crate) fn put_bytes(text: &mut String, bytes: &[u8]) -> Result<(), AllocError> {
-    for byte in bytes {
-        text.push(char::from(*byte))?;
-    }
-    Ok(())
 }

@@ -6,11 +6,10 @@ ghost use Rattle.schedule_log.specs.EntryText.{log_text};
 ghost use Rattle.schedule_log.specs.declared.entries.Entry.{Entry};
 ghost use Rattle.run_history.specs.Happenings.{happenings};
 ghost use Rattle.run_history.specs.Known.{with_entry, happening};
-ghost use Rattle.run_numbers.specs.Numbers.{IsNumbersOf, IsOneMore};
+ghost use Rattle.run_history.specs.Numbers.{IsNumbersOf, IsOneMore};
 
 use cap_text::Lines;
-use run_history::{Happening, History, HistoryError};
-use run_numbers::{Numbers, NumbersError};
+use run_history::{Happening, History, HistoryError, Numbers, NumbersError};
 use schedule_log::{Entry, LogError, read_entry};
 use std::alloc::Global;
 

@@ -1,10 +1,10 @@
 use crate::latencies::put_requests;
 use crate::left::put_left;
 use crate::lines::ChunksLine;
-use crate::places::{Places, put_bytes};
-use crate::put_form;
+use crate::places::Places;
 use crate::reading::{ReadError, Reading, Watch, WatchError, numbers_of};
 use crate::takes::Takes;
+use crate::text::Text;
 use crate::waits::put_waits;
 use cap_word::SiteKey;
 use run_history::{Choices, Happening, Marks, Spells};
@@ -171,29 +171,23 @@ pub(crate) fn is_one(sites: &[bool], site: u32) -> bool {
 /// threads that ran are left.
 pub fn put_report(
     alloc: Global,
-    text: &mut String,
+    text: &mut Text,
     places: &Places,
     times: &[u64],
     log: &[u8],
     options: Options,
     decided: Option<Decided>,
 ) -> Result<u64, ReportError> {
-    match (
-        places.sites_of(alloc, b"accept"),
-        places.sites_of(alloc, b"take"),
-    ) {
-        (Ok(accepts), Ok(at_take)) => {
-            let course = Course::new(alloc, accepts.as_slice(), at_take.as_slice(), options);
-            put_course(alloc, text, places, times, log, course, decided)
-        }
-        _ => Err(ReportError::Memory),
-    }
+    let accepts = places.sites_of(alloc, b"accept")?;
+    let at_take = places.sites_of(alloc, b"take")?;
+    let course = Course::new(alloc, accepts.as_slice(), at_take.as_slice(), options);
+    put_course(alloc, text, places, times, log, course, decided)
 }
 
 /// Appends the report on the run with this log, by what is read off it beside its numbers.
 fn put_course(
     alloc: Global,
-    text: &mut String,
+    text: &mut Text,
     places: &Places,
     times: &[u64],
     log: &[u8],
@@ -219,7 +213,7 @@ fn put_course(
 /// Appends the report on what was read. The answer is how many of the threads that ran are left.
 fn put_reading(
     alloc: Global,
-    text: &mut String,
+    text: &mut Text,
     places: &Places,
     times: &[u64],
     reading: &Reading,
@@ -229,48 +223,35 @@ fn put_reading(
     let numbers = &reading.numbers;
     put_requests(alloc, text, numbers, times)?;
     put_waits(alloc, text, places, numbers.waits.as_slice())?;
-    put_choices(text, numbers.most_held, course, decided)?;
-    put_left(
+    put_choices(text, numbers.most_held, course, decided);
+    Ok(put_left(
         text,
         places,
         &reading.history,
         &course.takes,
         course.accepts,
         course.threads,
-    )
+    ))
 }
 
 /// Appends the lines on chunks, choices and the gate.
-fn put_choices(
-    text: &mut String,
-    most_held: u32,
-    course: &Course,
-    decided: Option<Decided>,
-) -> Result<(), AllocError> {
-    let line = ChunksLine {
+fn put_choices(text: &mut Text, most_held: u32, course: &Course, decided: Option<Decided>) {
+    text.line(&ChunksLine {
         most_held,
         chunks: course.options.marks.chunks,
-    };
-    write!(text, "{line}")?;
-    put_reasons(text, course.choices, decided)?;
+    });
+    put_reasons(text, course.choices, decided);
     if !course.options.has_caps {
-        return put_gate(text, course.spells, course.ended, Some(course.held_back));
-    }
-    match decided {
-        Some(known) => put_gate(text, known.spells, known.ended, None),
-        None => Ok(()),
+        put_gate(text, course.spells, course.ended, Some(course.held_back))
+    } else if let Some(known) = decided {
+        put_gate(text, known.spells, known.ended, None)
     }
 }
 
 /// Appends how many choices there were, and what decided them, where that is known.
-fn put_reasons(
-    text: &mut String,
-    choices: u64,
-    decided: Option<Decided>,
-) -> Result<(), AllocError> {
+fn put_reasons(text: &mut Text, choices: u64, decided: Option<Decided>) {
     match decided {
-        Some(known) => put_form(
-            text,
+        Some(known) => text.form(
             "\nchoices: $, by score $, by the gate $, by turn $\n",
             &[
                 choices,
@@ -279,28 +260,22 @@ fn put_reasons(
                 known.choices.by_turn,
             ],
         ),
-        None => put_form(text, "\nchoices: $\n", &[choices]),
+        None => text.form("\nchoices: $\n", &[choices]),
     }
 }
 
 /// Appends the line on the gate, in a run whose last segment ended then. At how many choices it held a request back isn't always known.
-fn put_gate(
-    text: &mut String,
-    spells: Spells,
-    ended: u64,
-    held_back: Option<u64>,
-) -> Result<(), AllocError> {
+fn put_gate(text: &mut Text, spells: Spells, ended: u64, held_back: Option<u64>) {
     let since = spells.since.unwrap_or(ended);
     let ticks = spells.ticks.saturating_add(ended.saturating_sub(since));
-    put_form(
-        text,
+    text.form(
         "gate: closed $ times, for $ ticks in all",
         &[spells.times, ticks],
-    )?;
+    );
     if let Some(choices) = held_back {
-        put_form(text, ", held a request back at $ choices", &[choices])?;
+        text.form(", held a request back at $ choices", &[choices]);
     }
-    text.push_str(if spells.is_open() {
+    text.words(if spells.is_open() {
         "\n"
     } else {
         ", closed at the end\n"
@@ -319,10 +294,4 @@ pub fn last_line(log: &[u8]) -> &[u8] {
         }
     }
     whole
-}
-
-/// Appends a line of a log.
-pub fn put_line(text: &mut String, line: &[u8]) -> Result<(), AllocError> {
-    put_bytes(text, line)?;
-    text.push_str("\n")
 }

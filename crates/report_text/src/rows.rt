@@ -5,7 +5,7 @@ use std::collections::BTreeMap;
 
 /// What a thread does at a mark.
 #[derive(Clone, Copy, PartialEq, Eq)]
-pub enum Doing {
+pub(crate) enum Doing {
     Runs,
     /// It waits at the call of that site.
     Waits { site: u32 },
@@ -13,15 +13,15 @@ pub enum Doing {
 
 /// A part of a row: from one place to another, both within it.
 #[derive(Clone, Copy)]
-pub struct Mark {
-    pub from: u32,
-    pub to: u32,
-    pub doing: Doing,
+pub(crate) struct Mark {
+    pub(crate) from: u32,
+    pub(crate) to: u32,
+    pub(crate) doing: Doing,
 }
 
 /// The rows of a timeline, by the numbers of the threads.
 #[derive(Drop)]
-pub struct Rows {
+pub(crate) struct Rows {
     alloc: Global,
     end: u64,
     wide: u32,
@@ -31,7 +31,7 @@ pub struct Rows {
 impl Rows {
     /// The rows of a run that ended at that clock, before its first entry, with places of so many columns, one at least. It takes
     /// no memory.
-    pub fn new(alloc: Global, end: u64, wide: u32) -> Rows {
+    pub(crate) fn new(alloc: Global, end: u64, wide: u32) -> Rows {
         Rows {
             alloc,
             end,
@@ -41,17 +41,17 @@ impl Rows {
     }
 
     /// The clock at which the run ended.
-    pub fn end(&self) -> u64 {
+    pub(crate) fn end(&self) -> u64 {
         self.end
     }
 
     /// How many columns a place has.
-    pub fn wide(&self) -> u32 {
+    pub(crate) fn wide(&self) -> u32 {
         self.wide
     }
 
     /// What one entry more tells.
-    pub fn add(&mut self, told: Happening) -> Result<(), AllocError> {
+    pub(crate) fn add(&mut self, told: Happening) -> Result<(), AllocError> {
         match told {
             Happening::Waited(wait) => {
                 let doing = Doing::Waits { site: wait.site };
@@ -65,7 +65,7 @@ impl Rows {
     }
 
     /// The threads that have a row, in the order of their numbers, with their marks in the order of time.
-    pub fn rows(&self) -> &BTreeMap<u32, Vec<Mark>> {
+    pub(crate) fn rows(&self) -> &BTreeMap<u32, Vec<Mark>> {
         &self.rows
     }
 

@@ -1,9 +1,8 @@
 use crate::colors::{COLORS, color_of, name_of};
-use crate::head::put_head;
-use crate::pieces::{Piece, put_all, put_form};
+use crate::head::HEAD;
 use crate::rows::{Doing, Mark, Rows};
+use crate::text::Text;
 use report_figures::COLUMNS;
-use std::alloc::AllocError;
 
 /// Room left of the rows, for the threads' numbers.
 const LEFT: u64 = 80;
@@ -23,19 +22,15 @@ const PARTS: u64 = 6;
 /// places above, and lines of time with their clocks. `sites` are the sites at which threads wait, rising, and `names` their
 /// places, one for each. With more than 100 threads rows are lower, and only every fiftieth has its number; each row tells its
 /// thread where a pointer rests on it.
-pub fn put_timeline(
-    text: &mut String,
-    rows: &Rows,
-    sites: &[u32],
-    names: &[String],
-) -> Result<(), AllocError> {
+pub(crate) fn put_timeline(text: &mut Text, rows: &Rows, sites: &[u32], names: &[String]) {
     let count = rows.rows().len() as u64;
     let high = if count > 100 { LOW } else { HIGH };
     let top = (names.len() as u64).saturating_mul(16).saturating_add(40);
     let bottom = count.saturating_mul(high).saturating_add(top);
-    put_head(text, WIDTH, bottom.saturating_add(20))?;
-    put_legend(text, names)?;
-    put_clocks(text, rows.end(), top, bottom)?;
+    let height = bottom.saturating_add(20);
+    text.form(HEAD, &[WIDTH, height, WIDTH, height]);
+    put_legend(text, names);
+    put_clocks(text, rows.end(), top, bottom);
     put_rows(text, rows, sites, top, high)
 }
 
@@ -44,33 +39,24 @@ const RUNS: &str =
     "<rect x=\"4\" y=\"4\" width=\"10\" height=\"10\"/><text x=\"20\" y=\"13\">runs</text>\n";
 
 /// Appends the legend: a line for each place, and one for runs.
-fn put_legend(text: &mut String, names: &[String]) -> Result<(), AllocError> {
-    text.push_str(RUNS)?;
+fn put_legend(text: &mut Text, names: &[String]) {
+    text.words(RUNS);
     let mut place: usize = 0;
     for name in names {
-        put_place(text, place, name.as_str())?;
+        let y = (place as u64).saturating_mul(16).saturating_add(20);
+        text.form(
+            "<rect x=\"4\" y=\"$\" width=\"10\" height=\"10\" fill=\"",
+            &[y],
+        );
+        text.words(name_of(color_of(place)));
+        text.form(
+            "\"/><text x=\"20\" y=\"$\">waits at ",
+            &[y.saturating_add(9)],
+        );
+        text.escaped(name.as_str());
+        text.words("</text>\n");
         place = place.saturating_add(1);
     }
-    Ok(())
-}
-
-/// Appends the line of the legend for the place of that number.
-fn put_place(text: &mut String, place: usize, name: &str) -> Result<(), AllocError> {
-    let y = (place as u64).saturating_mul(16).saturating_add(20);
-    put_all(
-        text,
-        &[
-            Piece::Text("<rect x=\"4\" y=\""),
-            Piece::Number(y),
-            Piece::Text("\" width=\"10\" height=\"10\" fill=\""),
-            Piece::Text(name_of(color_of(place))),
-            Piece::Text("\"/><text x=\"20\" y=\""),
-            Piece::Number(y.saturating_add(9)),
-            Piece::Text("\">waits at "),
-            Piece::Escaped(name),
-            Piece::Text("</text>\n"),
-        ],
-    )
 }
 
 /// What the numbers above the lines of time are.
@@ -81,16 +67,15 @@ const LINE: &str =
     "<path d=\"M$ $V$\" stroke=\"#cccccc\"/><text x=\"$\" y=\"$\" text-anchor=\"middle\">$</text>\n";
 
 /// Appends lines of time over rows between these heights, each with its clock above.
-fn put_clocks(text: &mut String, end: u64, top: u64, bottom: u64) -> Result<(), AllocError> {
+fn put_clocks(text: &mut Text, end: u64, top: u64, bottom: u64) {
     let above = top.saturating_sub(4);
     let below = bottom.saturating_add(6);
-    put_form(text, CLOCK, &[above])?;
+    text.form(CLOCK, &[above]);
     for part in 0..PARTS + 1 {
         let x = LEFT + part * (COLUMNS as u64 / PARTS);
         let clock = (end as u128 * part as u128 / PARTS as u128) as u64;
-        put_form(text, LINE, &[x, top, below, x, above, clock])?;
+        text.form(LINE, &[x, top, below, x, above, clock]);
     }
-    Ok(())
 }
 
 /// The head of the rows, whose lines are so thick.
@@ -103,100 +88,59 @@ const NUMBERED_ROW: &str =
     "<text x=\"4\" y=\"$\" fill=\"#000000\">$</text>\n<g transform=\"translate($ $) scale($ 1)\"><title>thread $</title>";
 
 /// Appends the rows, of that height, from that place on down, and the picture's end.
-fn put_rows(
-    text: &mut String,
-    rows: &Rows,
-    sites: &[u32],
-    top: u64,
-    high: u64,
-) -> Result<(), AllocError> {
-    put_form(text, ROWS, &[high.saturating_sub(1)])?;
+fn put_rows(text: &mut Text, rows: &Rows, sites: &[u32], top: u64, high: u64) {
+    text.form(ROWS, &[high.saturating_sub(1)]);
     let wide = rows.wide() as u64;
     let mut shown: u64 = 0;
     for (number, marks) in rows.rows() {
         let y = shown.saturating_mul(high).saturating_add(top);
-        put_row_head(text, *number as u64, shown, y, high, wide)?;
-        put_row(text, marks.as_slice(), sites)?;
+        put_row_head(text, *number as u64, shown, y, high, wide);
+        put_row(text, marks.as_slice(), sites);
         shown = shown.saturating_add(1);
     }
-    text.push_str("</g>\n</svg>\n")
+    text.words("</g>\n</svg>\n")
 }
 
 /// Appends the head of the row of that number, and left of it the number of its thread where that is shown.
-fn put_row_head(
-    text: &mut String,
-    thread: u64,
-    row: u64,
-    y: u64,
-    high: u64,
-    wide: u64,
-) -> Result<(), AllocError> {
+fn put_row_head(text: &mut Text, thread: u64, row: u64, y: u64, high: u64, wide: u64) {
     let middle = y.saturating_add(high / 2);
-    if high == HIGH {
-        let base = y.saturating_add(11);
-        put_form(
-            text,
-            NUMBERED_ROW,
-            &[base, thread, LEFT, middle, wide, thread],
-        )
-    } else if row % 50 == 0 {
-        let base = y.saturating_add(6);
-        put_form(
-            text,
-            NUMBERED_ROW,
-            &[base, thread, LEFT, middle, wide, thread],
-        )
+    if high == HIGH || row % 50 == 0 {
+        let base = y.saturating_add(if high == HIGH { 11 } else { 6 });
+        text.form(NUMBERED_ROW, &[base, thread, LEFT, middle, wide, thread])
     } else {
-        put_form(text, ROW, &[LEFT, middle, wide, thread])
+        text.form(ROW, &[LEFT, middle, wide, thread])
     }
 }
 
 /// Appends the marks of a row, for each colour a path of its pieces, and the row's end.
-fn put_row(text: &mut String, marks: &[Mark], sites: &[u32]) -> Result<(), AllocError> {
+fn put_row(text: &mut Text, marks: &[Mark], sites: &[u32]) {
     for color in 0..COLORS {
-        put_path(text, marks, sites, color)?;
+        put_path(text, marks, sites, color);
     }
-    text.push_str("</g>\n")
+    text.words("</g>\n")
 }
 
 /// A piece of a path for a mark: where it begins, and how wide it is.
 const PIECE: &str = "M$ 0h$";
 
 /// Appends the path of the marks of a row that have that colour; nothing where there are none.
-fn put_path(
-    text: &mut String,
-    marks: &[Mark],
-    sites: &[u32],
-    color: usize,
-) -> Result<(), AllocError> {
+fn put_path(text: &mut Text, marks: &[Mark], sites: &[u32], color: usize) {
     let mut is_begun = false;
     for mark in marks {
         if color_in(mark.doing, sites) == color {
             if !is_begun {
-                put_path_head(text, name_of(color))?;
+                text.words("<path stroke=\"");
+                text.words(name_of(color));
+                text.words("\" d=\"");
                 is_begun = true;
             }
             let wide = mark.to.saturating_sub(mark.from).saturating_add(1);
-            put_form(text, PIECE, &[mark.from as u64, wide as u64])?;
+            text.form(PIECE, &[mark.from as u64, wide as u64]);
         }
     }
     if is_begun {
-        text.push_str("\"/>")
-    } else {
-        Ok(())
+        text.words("\"/>")
     }
-}
-
-/// Appends the head of a path of that colour.
-fn put_path_head(text: &mut String, color: &str) -> Result<(), AllocError> {
-    put_all(
-        text,
-        &[
-            Piece::Text("<path stroke=\""),
-            Piece::Text(color),
-            Piece::Text("\" d=\""),
-        ],
-    )
 }
 
 /// The number of the colour of what a thread does.

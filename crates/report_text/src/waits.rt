@@ -1,21 +1,22 @@
 use crate::lines::WaitsPart;
 use crate::places::Places;
+use crate::text::Text;
 use report_figures::{spread_of, total_of};
-use run_numbers::WaitLength;
+use run_history::WaitLength;
 use std::alloc::{AllocError, Global};
 use std::collections::BTreeMap;
 
 /// Appends the table of waits by the place at which threads waited.
 pub(crate) fn put_waits(
     alloc: Global,
-    text: &mut String,
+    text: &mut Text,
     places: &Places,
     waits: &[WaitLength],
 ) -> Result<(), AllocError> {
-    let sites = waits_by_site(alloc, waits)?;
-    text.push_str("waits by place: count, total, median, 99th, greatest\n")?;
-    for (site, mut ticks) in sites {
-        put_site_waits(text, places, site, ticks.as_mut_slice())?;
+    let mut sites = waits_by_site(alloc, waits)?;
+    text.words("waits by place: count, total, median, 99th, greatest\n");
+    for (site, ticks) in &mut sites {
+        put_site_waits(text, places, *site, ticks.as_mut_slice());
     }
     Ok(())
 }
@@ -33,25 +34,21 @@ fn waits_by_site(
     Ok(sites)
 }
 
-/// Appends the line of a site.
-fn put_site_waits(
-    text: &mut String,
-    places: &Places,
-    site: u32,
-    ticks: &mut [u64],
-) -> Result<(), AllocError> {
+/// Appends the line of a site; nothing where no wait was there.
+fn put_site_waits(text: &mut Text, places: &Places, site: u32, ticks: &mut [u64]) {
     let total = total_of(ticks).unwrap_or(u128::MAX);
-    let Some(spread) = spread_of(ticks) else {
-        return Ok(());
-    };
-    let part = WaitsPart {
-        count: spread.count,
-        total,
-        median: spread.median,
-        ninety_ninth: spread.ninety_ninth,
-        greatest: spread.greatest,
-    };
-    text.push_str("  ")?;
-    places.put_site(text, site)?;
-    write!(text, ": {part}\n")
+    if let Some(spread) = spread_of(ticks) {
+        let part = WaitsPart {
+            count: spread.count,
+            total,
+            median: spread.median,
+            ninety_ninth: spread.ninety_ninth,
+            greatest: spread.greatest,
+        };
+        text.words("  ");
+        places.put_site(text, site);
+        text.words(": ");
+        text.line(&part);
+        text.words("\n");
+    }
 }

@@ -5,3 +5,5 @@ pub mod Courses
 pub mod Holds
 pub mod Reasons
 pub mod Spells
+pub mod Answers
+pub mod Numbers

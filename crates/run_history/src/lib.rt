@@ -16,24 +16,34 @@
 // How often the gate was closed, and for how long (`Spells`), is told by what each entry of a log tells and the marks of the gate. A
 // log tells the use of chunks alone, so this is of a run that has no other resource. The crates above use the clause of
 // `Spells::with` over `with_happening` (specs/Spells.antt), whose gate and pressure are those of `resource_monitor`.
+//
+// The numbers of a run (`Numbers`), gathered from what its entries tell, one after another: which requests came, were dropped and
+// were taken, when each was answered, how long each wait was at which site, and how many chunks were held at most. They keep what
+// the spreads of latencies and waits need: a few numbers for each request and each wait. The crates above use the clauses of
+// `Numbers::new` and `Numbers::add`, over `IsNumbersOf` and `IsOneMore` (specs/Numbers.antt), whose parts are the lists and counts
+// of specs/Happenings.antt. `report_text` reads whole logs by them (`numbers_of`).
 #![tactic(auto)]
 
+mod answers;
 mod choices;
 mod choosing;
 mod deciding;
 mod happenings;
 mod history;
 mod holders;
+mod numbers;
 mod reasons;
 mod spells;
 mod threads;
 mod ungated;
 
+pub use answers::Answers;
 pub use choosing::Choosing;
 pub use deciding::reason_of;
 pub use happenings::{Happening, Segment, Wait};
 pub use history::{History, HistoryError};
 pub use holders::{Holders, HoldersError};
+pub use numbers::{Numbers, NumbersError, WaitLength};
 pub use reasons::{Choices, Reason};
 pub use spells::{Marks, Spells};
 pub use threads::{Standing, Thread};

@@ -3,19 +3,16 @@ use Rattle.accepted_pairs.specs.Accepting.{accepted_tree}
 use Rattle.accepted_pairs.specs.Acceptance.{Acceptance}
 use Rattle.pair_commands.specs.Runs.{RunsOn, setup_of}
 use Rattle.command_outcomes.specs.Steps.{RunEnds}
-use Rattle.capriccio_commands.proofs.Making.{policy-ranges, made-world}
+use Rattle.capriccio_commands.proofs.Making.{made-world}
 use Rattle.capriccio_commands.proofs.running.run_accepted.Goals as goal
-
-pub make-requires : goal.make-requires
-make-requires g c = rw c.world_policy.ensures (policy-ranges c.args.policy c.args.accepted c.requires.range c.requires.pool)
 
 pub run_world-requires-clause-made : goal.run_world-requires-clause-made
 run_world-requires-clause-made g c =
-    made-world c.args.policy c.args.accepted c.in-Ok.world c.requires.range c.requires.pool c.is_valid.ensures (rw c.world_policy.ensures at c.in-Ok.ensures.made)
+    made-world c.args.policy c.args.accepted c.in-Some.world c.requires.range c.requires.pool c.is_valid.ensures c.in-Some.ensures
 
-pub returns-in-Ok-clause-ends : goal.returns-in-Ok-clause-ends
-returns-in-Ok-clause-ends g c =
-    let made = c.in-Ok.ensures.made in
+pub returns-in-Some-clause-ends : goal.returns-in-Some-clause-ends
+returns-in-Some-clause-ends g c =
+    let made = c.in-Some.ensures in
     let S = g.S.Source in let K = g.K.Sink in
     let a = c.args in
     let P : Acceptance → Type 0 = λ x. RunEnds (RunsOn (S.left a.trace.now) (setup_of (accepted_tree x) x.image x.certificate a.policy)) (S.left a.trace.now) (S.left c.run_world.new.trace) (S.faults a.trace.now) (S.faults c.run_world.new.trace)

@@ -1,8 +1,8 @@
 ghost use Rattle.std.specs.Prelude.{◌≡◌, ℕ, ◌<◌, OnOk, length};
-ghost use Rattle.run_numbers.specs.Answers.{answers_at};
+ghost use Rattle.run_history.specs.Answers.{answers_at};
 
 use crate::answers::{Answers, one_more};
-use run_history::{Happening, Segment, Wait};
+use crate::happenings::{Happening, Segment, Wait};
 use schedule_log::Item;
 use std::alloc::{AllocError, Global};
 
@@ -49,8 +49,8 @@ impl Numbers {
     ghost use Rattle.run_history.specs.declared.happenings.Happening.{Happening};
     ghost use Rattle.run_history.specs.declared.happenings.Happening.TheVariants.{Came, Lost, Waited, Ran};
     ghost use Rattle.run_history.specs.Happenings.{clocks_in};
-    ghost use Rattle.run_numbers.specs.Answers.{answers_from, answers_at};
-    ghost use Rattle.run_numbers.specs.Numbers.{IsNumbersOf, IsOneMore, KeepsOthers};
+    ghost use Rattle.run_history.specs.Answers.{answers_from, answers_at};
+    ghost use Rattle.run_history.specs.Numbers.{IsNumbersOf, IsOneMore, KeepsOthers};
 
     /// The numbers before the first entry. It takes no memory.
     pub fn new(alloc: Global) -> Numbers

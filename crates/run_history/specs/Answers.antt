@@ -1,6 +1,6 @@
 -- The answers to a request, in the order of their clocks.
 use Rattle.std.specs.Prelude.{ℕ, ◌+◌, List, [], ◌∷◌, Option, Some, None, slice_index_or}
-use Rattle.run_numbers.specs.declared.answers.Answers.{Answers}
+use Rattle.run_history.specs.declared.answers.Answers.{Answers}
 
 -- one answer more, at that clock
 abbrev pub with_answer : Option Answers → ℕ → Answers

@@ -4,9 +4,9 @@ use Rattle.run_history.specs.declared.happenings.Wait.{Wait}
 use Rattle.run_history.specs.declared.happenings.Happening.{Happening}
 use Rattle.run_history.specs.declared.happenings.Happening.TheVariants.{Came, Lost, Waited}
 use Rattle.run_history.specs.Happenings.{requests_dropped, arrivals_from, answered_at, most_held}
-use Rattle.run_numbers.specs.declared.numbers.Numbers.{Numbers}
-use Rattle.run_numbers.specs.declared.numbers.WaitLength.{WaitLength}
-use Rattle.run_numbers.specs.Answers.{answers_from, answers_at}
+use Rattle.run_history.specs.declared.numbers.Numbers.{Numbers}
+use Rattle.run_history.specs.declared.numbers.WaitLength.{WaitLength}
+use Rattle.run_history.specs.Answers.{answers_from, answers_at}
 
 -- an event of the trace came or was dropped
 abbrev pub is_event : Happening → Bool

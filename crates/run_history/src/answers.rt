@@ -1,5 +1,5 @@
 ghost use Rattle.std.specs.Prelude.{◌≡◌, ◌+◌, ◌^◌, ◌≤◌, IfSome, IfNone};
-ghost use Rattle.run_numbers.specs.Answers.{with_answer};
+ghost use Rattle.run_history.specs.Answers.{with_answer};
 
 /// When the answers to a request were there. The log tells no clock of an `out`, so it is the end of the segment that put it.
 #[derive(Clone, Copy)]
