@@ -1,5 +1,5 @@
 // A run of an accepted program on the trace, under a policy.
-ghost use Rattle.std.specs.Prelude.{◌≡◌, ◌≤◌, Some, IfSome, OnOk};
+ghost use Rattle.std.specs.Prelude.{◌≡◌, ◌≤◌, Some, IfOk, OnOk};
 ghost use Rattle.capriccio_commands.specs.Closings.{IsClosed};
 ghost use Rattle.capriccio_commands.specs.FitLogs.{TakesFit};
 ghost use Rattle.command_options.specs.Options.{IsRunPolicy, IsNewMonitor};
@@ -44,22 +44,22 @@ pub(crate) fn run_accepted<S: Source, K: Sink>(
 {
     accepted.is_valid();
     match made_world(alloc, accepted, policy) {
-        Some(world) => run_world(alloc, world, policy, trace, out),
-        None => Err(Stop::Failed(Fault::Memory)),
+        Ok(world) => run_world(alloc, world, policy, trace, out),
+        Err(AllocError) => Err(Stop::Failed(Fault::Memory)),
     }
 }
 
-/// The world of an accepted program as a run by these options starts in it. None where there is no memory; the program is gone then.
-pub fn made_world(alloc: Global, accepted: Accepted, policy: Policy) -> Option<World>
+/// The world of an accepted program as a run by these options starts in it. The one refusal is want of memory; the program is gone then.
+pub fn made_world(alloc: Global, accepted: Accepted, policy: Policy) -> Result<World, AllocError>
     requires range { IsRunPolicy policy }
     requires pool { pool_bytes policy accepted.certificate ≤ 67108864 }
-    ensures { IfSome result (λ world. IsStart accepted (world_policy_of policy) policy.fuel world) }
+    ensures { IfOk result (λ world. IsStart accepted (world_policy_of policy) policy.fuel world) }
 {
     match World::make(alloc, accepted, world_policy(policy), policy.fuel) {
-        Ok(world) => Some(world),
+        Ok(world) => Ok(world),
         Err(WorldError::Memory { accepted }) => {
             drop(accepted);
-            None
+            Err(AllocError)
         }
     }
 }

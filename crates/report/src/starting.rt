@@ -115,8 +115,8 @@ fn start_accepted(alloc: Global, accepted: Accepted, policy: Policy, log: &[u8])
     requires pool { pool_bytes policy accepted.certificate ≤ 67108864 }
 {
     match made_world(alloc, accepted, policy) {
-        Some(world) => measure(alloc, world, policy, log),
-        None => None,
+        Ok(world) => measure(alloc, world, policy, log),
+        Err(AllocError) => None,
     }
 }
 

@@ -48,7 +48,8 @@ impl Telling for Rows {
     }
 }
 
-/// Appends the timeline of the run with this log, as SVG. The log is read twice, and none of its entries is kept.
+/// Appends the timeline of the run with this log, as SVG. The log is read twice, and none of its entries is kept. Whether there was
+/// memory for all that was appended, the text says.
 pub fn put_times(
     alloc: Global,
     text: &mut Text,
@@ -205,7 +206,7 @@ fn add_name(names: &mut Vec<String>, made: Result<String, AllocError>) -> Result
     }
 }
 
-/// Appends the blocking graph of the run with this log, as SVG or as DOT.
+/// Appends the blocking graph of the run with this log, as SVG or as DOT. Whether there was memory for all of it, the text says.
 pub fn put_blocking(
     alloc: Global,
     text: &mut Text,

@@ -168,7 +168,7 @@ pub(crate) fn is_one(sites: &[bool], site: u32) -> bool {
 
 /// Appends the report on the run of a source with this log and these options, up to what is left at its end. `times` are the times of
 /// the trace's events, in order, and `decided` is what the run tells where it was made once more. The answer is how many of the
-/// threads that ran are left.
+/// threads that ran are left. Whether there was memory for all that was appended, the text says.
 pub fn put_report(
     alloc: Global,
     text: &mut Text,

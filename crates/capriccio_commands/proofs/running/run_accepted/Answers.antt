@@ -8,11 +8,11 @@ use Rattle.capriccio_commands.proofs.running.run_accepted.Goals as goal
 
 pub run_world-requires-clause-made : goal.run_world-requires-clause-made
 run_world-requires-clause-made g c =
-    made-world c.args.policy c.args.accepted c.in-Some.world c.requires.range c.requires.pool c.is_valid.ensures c.in-Some.ensures
+    made-world c.args.policy c.args.accepted c.in-Ok.world c.requires.range c.requires.pool c.is_valid.ensures c.in-Ok.ensures
 
-pub returns-in-Some-clause-ends : goal.returns-in-Some-clause-ends
-returns-in-Some-clause-ends g c =
-    let made = c.in-Some.ensures in
+pub returns-in-Ok-clause-ends : goal.returns-in-Ok-clause-ends
+returns-in-Ok-clause-ends g c =
+    let made = c.in-Ok.ensures in
     let S = g.S.Source in let K = g.K.Sink in
     let a = c.args in
     let P : Acceptance → Type 0 = λ x. RunEnds (RunsOn (S.left a.trace.now) (setup_of (accepted_tree x) x.image x.certificate a.policy)) (S.left a.trace.now) (S.left c.run_world.new.trace) (S.faults a.trace.now) (S.faults c.run_world.new.trace)
