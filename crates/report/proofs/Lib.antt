@@ -1,2 +1,5 @@
 mod Eight
 mod Starts
+mod EmptyPlaces
+pub mod Gathered
+pub mod Readings

@@ -2,18 +2,37 @@
 //
 // What comes and which thread runs is taken from the log; the segments are made by the world. Where the choice made here isn't the
 // log's, or the world can't do what a line says, there is no answer: the log is of another run.
-ghost use Rattle.std.specs.Prelude.{◌≡◌, ◌<◌, IfOk};
+//
+// Beside the world stands a `Choosing`: the scheduler's queues, the graph and the resources. It makes the choices and counts what
+// decided each (specs/Courses.antt): the gate, the scores, or whose turn it was (`Reason`). The reason is told by two choices more,
+// which are made and not noted: one at which no thread counts as one at `accept`, so that the gate keeps none back, and one over a
+// graph without edges, at which every score is 0 (specs/Reasons.antt). For each resource stand its `Holders`: what a thread holds is
+// what its segments changed its use by.
+pub mod choosing;
+pub mod deciding;
+pub mod holders;
+pub mod outside;
+pub mod reasons;
+pub mod segments;
+pub mod starting;
+pub mod ungated;
+pub mod uses;
+
+ghost use Rattle.std.specs.Prelude.{◌≡◌, ◌<◌, IfSome};
 ghost use Rattle.resource_monitor.specs.Monitor.{NoneAbove};
 ghost use Rattle.report.specs.Between.{GoesOn, IsBetween};
 
-use crate::outside::{come, reach};
-use crate::segments::run_segment;
-use crate::uses::{changes, uses_of};
+use crate::again::choosing::Choosing;
+use crate::again::holders::Holders;
+use crate::again::outside::{come, reach};
+use crate::again::reasons::Choices;
+use crate::again::segments::run_segment;
+use crate::again::uses::{changes, uses_of};
+use crate::history::spells::Spells;
 use blocking_graph::SegmentRecord;
 use cap_text::Lines;
 use cap_word::ThreadId;
 use resource_monitor::Measure;
-use run_history::{Choices, Choosing, Holders, HoldersError, Spells};
 use schedule_log::{Entry, read_entry};
 use std::alloc::{AllocError, Global};
 use std::collections::BTreeMap;
@@ -27,28 +46,24 @@ const END: u32 = 1;
 /// A cost that no segment has.
 const TOO_DEAR: u64 = 1 << 40;
 
-/// Why a run isn't made again.
-#[derive(Clone, Copy)]
-pub enum AgainError {
-    /// The log is of another run: a line is no entry's, another thread would be chosen, or the world can't do what a line says.
-    Apart,
-    /// There is no memory.
-    Memory,
-}
-
 /// What a run that was made again tells.
 #[derive(Drop)]
 pub struct Told {
-    /// Whether threads are chosen by the blocking graph. Where they are chosen by strides, choices and spells tell nothing.
-    pub by_graph: bool,
+    /// What decided its choices, where threads are chosen by the blocking graph. Where they are chosen by strides, nothing is told of it.
+    pub decided: Option<Decided>,
+    /// What each thread holds of the resources 1 to 7, in their order.
+    pub holders: Vec<Holders>,
+}
+
+/// What decided the choices of a run by the blocking graph.
+#[derive(Clone, Copy)]
+pub struct Decided {
     /// What decided the choices.
     pub choices: Choices,
     /// When the gate was closed, up to the last choice.
     pub spells: Spells,
     /// The clock at which the last segment ended.
     pub ended: u64,
-    /// What each thread holds of the resources 1 to 7, in their order.
-    pub holders: Vec<Holders>,
 }
 
 /// A segment that ran: its thread, the node it began at, and the uses before and after it.
@@ -74,77 +89,50 @@ struct Again<C: Measure> {
 }
 
 /// Makes the run of a world that was just made once more, by its log. What stands beside it has noted nothing so far, and `by_graph`
-/// says whether threads are chosen by the blocking graph.
+/// says whether threads are chosen by the blocking graph. None where the log is of another run: a line is no entry's, another thread
+/// would be chosen, or the world can't do what a line says; and where there is no memory.
 pub fn make_again<C: Measure + Drop>(
     alloc: Global,
     world: &mut World,
     choosing: Choosing<C>,
     by_graph: bool,
     log: &[u8],
-) -> Result<Told, AgainError>
+) -> Option<Told>
     requires { IsBetween world.old }
 {
-    let mut again = Again::new(alloc, world.main_thread(), choosing, by_graph)?;
-    match again.read(alloc, world, log) {
-        Ok(()) => Ok(again.told()),
-        Err(error) => {
-            drop(again);
-            Err(error)
+    let mut again = Again {
+        choosing,
+        by_graph,
+        spells: Spells::new(),
+        holders: Vec::new(alloc),
+        threads: BTreeMap::new(alloc),
+        ran: None,
+        ended: 0,
+    };
+    let made = again.make(alloc, world, log);
+    let told = again.told();
+    match made {
+        Some(()) => Some(told),
+        None => {
+            drop(told);
+            None
         }
-    }
-}
-
-/// Appends one more.
-fn push<T: Drop>(all: &mut Vec<T>, one: T) -> Result<(), AgainError> {
-    match all.push(one) {
-        Ok(()) => Ok(()),
-        Err(_) => Err(AgainError::Memory),
-    }
-}
-
-/// Takes what a segment that ran took of that resource, and gave back, into who holds it.
-fn add_held(holders: &mut Holders, ran: &Ran, resource: usize) -> Result<(), AgainError> {
-    let before = ran.before.get(resource).copied().unwrap_or(0);
-    let after = ran.after.get(resource).copied().unwrap_or(0);
-    match holders.add(ran.thread.number, before, after) {
-        Ok(()) => Ok(()),
-        Err(HoldersError::Count) => Err(AgainError::Apart),
-        Err(HoldersError::Memory) => Err(AgainError::Memory),
     }
 }
 
 impl<C: Measure + Drop> Again<C> {
-    /// Before the first line: thread 0 waits at node 0.
-    fn new(
-        alloc: Global,
-        main: ThreadId,
-        choosing: Choosing<C>,
-        by_graph: bool,
-    ) -> Result<Again<C>, AgainError> {
-        let mut again = Again {
-            choosing,
-            by_graph,
-            spells: Spells::new(),
-            holders: Vec::new(alloc),
-            threads: BTreeMap::new(alloc),
-            ran: None,
-            ended: 0,
-        };
-        match again.begin(alloc, main) {
-            Ok(()) => Ok(again),
-            Err(error) => {
-                drop(again);
-                Err(error)
+    /// Makes the run from its start, where nobody holds anything and the first thread waits at node 0.
+    fn make(&mut self, alloc: Global, world: &mut World, log: &[u8]) -> Option<()>
+        requires { IsBetween world.old }
+    {
+        for _ in 1..8u32 {
+            match self.holders.push(Holders::new(alloc)) {
+                Ok(()) => (),
+                Err(_) => return None,
             }
         }
-    }
-
-    /// Nobody holds anything, and the first thread waits.
-    fn begin(&mut self, alloc: Global, main: ThreadId) -> Result<(), AgainError> {
-        for _ in 1..8u32 {
-            push(&mut self.holders, Holders::new(alloc))?;
-        }
-        self.start(main)
+        self.start(world.main_thread())?;
+        self.read(alloc, world, log)
     }
 
     /// What was told.
@@ -158,57 +146,58 @@ impl<C: Measure + Drop> Again<C> {
             ended,
             ..
         } = self;
-        let choices = choosing.choices();
+        let decided = Decided {
+            choices: choosing.choices(),
+            spells,
+            ended,
+        };
         drop(choosing);
         drop(threads);
         Told {
-            by_graph,
-            choices,
-            spells,
-            ended,
+            decided: if by_graph { Some(decided) } else { None },
             holders,
         }
     }
 
     /// Makes the run by all lines of its log.
-    fn read(&mut self, alloc: Global, world: &mut World, log: &[u8]) -> Result<(), AgainError>
+    fn read(&mut self, alloc: Global, world: &mut World, log: &[u8]) -> Option<()>
         requires { IsBetween world.old }
     {
         for line in Lines::new(log) {
             let Ok(entry) = read_entry(line) else {
-                return Err(AgainError::Apart);
+                return None;
             };
             if !self.take(alloc, world, &entry)? {
-                return Ok(());
+                return Some(());
             }
         }
-        Ok(())
+        Some(())
     }
 
     /// Does what one line more says. False where the run has stopped.
-    fn take(&mut self, alloc: Global, world: &mut World, entry: &Entry) -> Result<bool, AgainError>
+    fn take(&mut self, alloc: Global, world: &mut World, entry: &Entry) -> Option<bool>
         requires { IsBetween world.old }
-        ensures { IfOk result (λ goes. GoesOn goes world.new) }
+        ensures { IfSome result (λ goes. GoesOn goes world.new) }
     {
         match entry {
-            Entry::Event { clock, item } => Ok(come(world, *clock, item)),
-            Entry::Dropped { clock, item } => Ok(come(world, *clock, item)),
+            Entry::Event { clock, item } => Some(come(world, *clock, item)),
+            Entry::Dropped { clock, item } => Some(come(world, *clock, item)),
             Entry::Run {
                 clock,
                 thread,
                 node,
             } => self.run(alloc, world, *clock, *thread, *node),
-            Entry::Out { .. } => Ok(true),
+            Entry::Out { .. } => Some(true),
             Entry::Block { node, cost, .. } => {
                 self.block(*node, *cost)?;
-                Ok(true)
+                Some(true)
             }
             Entry::End { cost, .. } => {
                 self.record(END, *cost)?;
-                Ok(true)
+                Some(true)
             }
-            Entry::Edge { .. } => Ok(true),
-            Entry::Stop(_) => Ok(false),
+            Entry::Edge { .. } => Some(true),
+            Entry::Stop(_) => Some(false),
         }
     }
 
@@ -220,28 +209,23 @@ impl<C: Measure + Drop> Again<C> {
         clock: u64,
         thread: u32,
         node: u32,
-    ) -> Result<bool, AgainError>
+    ) -> Option<bool>
         requires { IsBetween world.old }
-        ensures { IfOk result (λ goes. GoesOn goes world.new) }
+        ensures { IfSome result (λ goes. GoesOn goes world.new) }
     {
         if !reach(world, clock) {
-            return Err(AgainError::Apart);
+            return None;
         }
         let caps = self.choosing.caps();
         let before = uses_of(world, &caps);
         self.choose(world, before, thread, node)?;
-        let Some(id) = self.threads.get(&thread).copied() else {
-            return Err(AgainError::Apart);
-        };
+        let id = self.threads.get(&thread).copied()?;
         let mut started = Vec::new(alloc);
         let goes = run_segment(world, id, &mut started);
         let joined = self.start_all(started.as_slice());
         drop(started);
         joined?;
-        let goes = match goes {
-            Ok(goes) => goes,
-            Err(AllocError) => return Err(AgainError::Memory),
-        };
+        let goes = goes?;
         self.ended = world.clock();
         let after = uses_of(world, &caps);
         let ran = Ran {
@@ -252,72 +236,56 @@ impl<C: Measure + Drop> Again<C> {
         };
         self.hold(&ran)?;
         self.ran = Some(ran);
-        Ok(goes)
+        Some(goes)
     }
 
     /// The choice at these uses, which is to be that of this thread at this node, and where the gate stands then.
-    fn choose(
-        &mut self,
-        world: &World,
-        uses: [u32; 8],
-        thread: u32,
-        node: u32,
-    ) -> Result<(), AgainError>
+    fn choose(&mut self, world: &World, uses: [u32; 8], thread: u32, node: u32) -> Option<()>
         requires { NoneAbove uses self.old.choosing.monitor.caps }
     {
         if self.by_graph {
-            let Some(choice) = self.choosing.choose(uses, world) else {
-                return Err(AgainError::Apart);
-            };
+            let choice = self.choosing.choose(uses, world)?;
             if choice.thread.number != thread || choice.node != node {
-                return Err(AgainError::Apart);
+                return None;
             }
-            let Some(spells) = self.spells.turn(self.choosing.is_open(), self.ended) else {
-                return Err(AgainError::Apart);
-            };
-            self.spells = spells;
+            self.spells = self.spells.turn(self.choosing.is_open(), self.ended)?;
         }
-        Ok(())
+        Some(())
     }
 
     /// Threads were started: they wait at node 0.
-    fn start_all(&mut self, started: &[ThreadId]) -> Result<(), AgainError> {
+    fn start_all(&mut self, started: &[ThreadId]) -> Option<()> {
         for thread in started {
             self.start(*thread)?;
         }
-        Ok(())
+        Some(())
     }
 
     /// A thread was started.
-    fn start(&mut self, thread: ThreadId) -> Result<(), AgainError> {
+    fn start(&mut self, thread: ThreadId) -> Option<()> {
         match self.choosing.wait(START, thread) {
             Ok(()) => match self.threads.insert(thread.number, thread) {
-                Ok(_) => Ok(()),
-                Err(_) => Err(AgainError::Memory),
+                Ok(_) => Some(()),
+                Err(_) => None,
             },
-            Err(AllocError) => Err(AgainError::Memory),
+            Err(AllocError) => None,
         }
     }
 
     /// The thread of the last segment has blocked at a node.
-    fn block(&mut self, node: u32, cost: u64) -> Result<(), AgainError> {
+    fn block(&mut self, node: u32, cost: u64) -> Option<()> {
         self.record(node, cost)?;
-        match self.ran {
-            Some(ran) => match self.choosing.wait(node, ran.thread) {
-                Ok(()) => Ok(()),
-                Err(AllocError) => Err(AgainError::Memory),
-            },
-            None => Err(AgainError::Apart),
+        match self.choosing.wait(node, self.ran?.thread) {
+            Ok(()) => Some(()),
+            Err(AllocError) => None,
         }
     }
 
     /// The last segment led to a node at that cost.
-    fn record(&mut self, to: u32, cost: u64) -> Result<(), AgainError> {
-        let Some(ran) = self.ran else {
-            return Err(AgainError::Apart);
-        };
+    fn record(&mut self, to: u32, cost: u64) -> Option<()> {
+        let ran = self.ran?;
         if cost >= TOO_DEAR {
-            return Err(AgainError::Apart);
+            return None;
         }
         let change = changes(&ran.before, &ran.after);
         let segment = SegmentRecord {
@@ -327,19 +295,24 @@ impl<C: Measure + Drop> Again<C> {
             change,
         };
         if self.choosing.note(segment) {
-            Ok(())
+            Some(())
         } else {
-            Err(AgainError::Memory)
+            None
         }
     }
 
     /// What the thread of a segment holds now.
-    fn hold(&mut self, ran: &Ran) -> Result<(), AgainError> {
+    fn hold(&mut self, ran: &Ran) -> Option<()> {
         let mut resource: usize = 1;
         for holders in self.holders.as_mut_slice() {
-            add_held(holders, ran, resource)?;
+            let before = ran.before.get(resource).copied().unwrap_or(0);
+            let after = ran.after.get(resource).copied().unwrap_or(0);
+            match holders.add(ran.thread.number, before, after) {
+                Ok(()) => (),
+                Err(_) => return None,
+            }
             resource = resource.saturating_add(1);
         }
-        Ok(())
+        Some(())
     }
 }

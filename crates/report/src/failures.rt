@@ -1,5 +1,4 @@
 use cap_io::{Sink, put_all};
-use report_text::{PlacesError, ReportError, Text};
 use std::alloc::AllocError;
 
 /// Why there is no report, or not all of it.
@@ -17,6 +16,12 @@ pub enum Failure {
     Write,
     /// There was no memory.
     Memory,
+}
+
+impl From<AllocError> for Failure {
+    fn from(_error: AllocError) -> Failure {
+        Failure::Memory
+    }
 }
 
 impl Failure {
@@ -52,29 +57,5 @@ pub fn tell<E: Sink>(err: &mut E, failure: Failure) -> u8 {
     match put_all(err, failure.line()) {
         Ok(()) => failure.status(),
         Err(_) => failure.status(),
-    }
-}
-
-/// What was written, where all of it is there.
-pub fn whole_of(text: &Text) -> Result<&str, Failure> {
-    match text.whole() {
-        Ok(written) => Ok(written),
-        Err(AllocError) => Err(Failure::Memory),
-    }
-}
-
-/// Why a source has no places, as a failure.
-pub fn of_places(error: PlacesError) -> Failure {
-    match error {
-        PlacesError::Source => Failure::Source,
-        PlacesError::Memory => Failure::Memory,
-    }
-}
-
-/// Why there is no report, as a failure.
-pub fn of_report(error: ReportError) -> Failure {
-    match error {
-        ReportError::Log => Failure::Log,
-        ReportError::Memory => Failure::Memory,
     }
 }

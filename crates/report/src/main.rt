@@ -4,21 +4,26 @@
 // standard output, pictures in files, and the status of the run. The run is that of `capriccio`, which `make_run` calls
 // over a log in memory; with `--log` a stored log is read in place of a run. docs/REPORT.md says what the report tells. `show` of
 // outcome.rt is the whole program over the objects that it is handed; `main` makes the real ones.
+//
+// What each entry of a log tells, and the numbers of a whole log, are in `history`; the run that is made once more in `again`; the
+// report's text in `report`; its pictures in `pictures`. `places` says where the calls of a source stand. What is shown is written
+// into a `Text`, which keeps whether there was memory for all of it, so that what writes it has nothing to answer; numbers stand in
+// it as a form with a mark for each, which is proved faster than a format. Of most of the text and the pictures no clause speaks.
 #![tactic(auto)]
 
 mod again;
-mod code;
 mod failures;
+mod history;
 mod inputs;
 mod outcome;
-mod outside;
+mod pictures;
+mod places;
+mod push;
+mod report;
 mod run;
-mod segments;
-mod stacks;
-mod starting;
-mod stop;
 mod subject;
-mod uses;
+mod text;
+mod trace;
 mod wanted;
 
 use crate::failures::{Failure, tell};

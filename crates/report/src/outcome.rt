@@ -1,17 +1,19 @@
-use crate::again::Told;
-use crate::failures::{Failure, of_places, of_report, whole_of};
-use crate::inputs::{load, read_whole, store};
+use crate::again::holders::Holders;
+use crate::again::starting::make_once_more;
+use crate::again::{Decided, Told};
+use crate::failures::Failure;
+use crate::inputs::{load, store};
+use crate::pictures::{put_blocking, put_times};
+use crate::places::Places;
+use crate::report::stop::put_stop;
+use crate::report::{Found, last_line, put_report};
 use crate::run::make_run;
-use crate::starting::make_once_more;
-use crate::stop::put_stop;
 use crate::subject::{Subject, subject_of};
+use crate::text::Text;
+use crate::trace::Trace;
 use crate::wanted::Wanted;
 use cap_io::{CleanSink, CleanSource, Shelf, Sink, Source, put_all};
 use capriccio_commands::let_go;
-use report_text::{
-    Decided, Places, ReportError, Text, last_line, put_blocking, put_report, put_times, times_of,
-};
-use run_history::Holders;
 use schedule_log::read_entry;
 use std::alloc::{AllocError, Global};
 use thread_core::World;
@@ -30,7 +32,10 @@ pub fn show<F: Shelf, S: Source, K: Sink, E: Sink>(
 ) -> Result<u8, Failure> {
     match Wanted::read(alloc, words) {
         Ok(wanted) => {
-            let shown = show_wanted(alloc, &wanted, shelf, input, out, err);
+            let shown = match Trace::read(alloc, input) {
+                Ok(trace) => show_trace(alloc, &wanted, trace, shelf, out, err),
+                Err(failure) => Err(failure),
+            };
             drop(wanted);
             shown
         }
@@ -38,60 +43,25 @@ pub fn show<F: Shelf, S: Source, K: Sink, E: Sink>(
     }
 }
 
-/// Shows what is asked for, with the trace that a source gives.
-fn show_wanted<F: Shelf, S: Source, K: Sink, E: Sink>(
-    alloc: Global,
-    wanted: &Wanted,
-    shelf: &mut F,
-    input: &mut S,
-    out: &mut K,
-    err: &mut E,
-) -> Result<u8, Failure> {
-    match read_whole(alloc, input) {
-        Ok(trace) => show_trace(alloc, wanted, trace, shelf, out, err),
-        Err(failure) => Err(failure),
-    }
-}
-
 /// Shows what is asked for, with that trace.
 fn show_trace<F: Shelf, K: Sink, E: Sink>(
     alloc: Global,
     wanted: &Wanted,
-    trace: Vec<u8>,
+    trace: Trace,
     shelf: &mut F,
     out: &mut K,
     err: &mut E,
 ) -> Result<u8, Failure> {
-    match times_of(alloc, trace.as_slice()) {
-        Ok(times) => {
-            let shown = show_timed(alloc, wanted, trace, times.as_slice(), shelf, out, err);
-            drop(times);
-            shown
-        }
-        Err(AllocError) => {
-            drop(trace);
-            Err(Failure::Memory)
-        }
-    }
-}
-
-/// Shows what is asked for, with that trace and the times of its events.
-fn show_timed<F: Shelf, K: Sink, E: Sink>(
-    alloc: Global,
-    wanted: &Wanted,
-    trace: Vec<u8>,
-    times: &[u64],
-    shelf: &mut F,
-    out: &mut K,
-    err: &mut E,
-) -> Result<u8, Failure> {
-    match &wanted.log {
+    let Trace { bytes, times } = trace;
+    let shown = match &wanted.log {
         Some(name) => {
-            drop(trace);
-            show_stored(alloc, wanted, name.as_str(), times, shelf, out)
+            drop(bytes);
+            show_stored(alloc, wanted, name.as_str(), times.as_slice(), shelf, out)
         }
-        None => show_run(alloc, wanted, trace, times, shelf, out, err),
-    }
+        None => show_run(alloc, wanted, bytes, times.as_slice(), shelf, out, err),
+    };
+    drop(times);
+    shown
 }
 
 /// Shows the run of a stored log.
@@ -129,10 +99,8 @@ fn show_kept<'a, F: Shelf, K: Sink>(
         subject,
         times,
         log,
-        seen: Seen {
-            world: None,
-            told: None,
-        },
+        world: None,
+        told: None,
     };
     show_log(alloc, wanted, run, shelf, out)?;
     Ok(0)
@@ -185,16 +153,17 @@ fn show_made<'a, F: Shelf, K: Sink>(
 ) -> Result<(), Failure> {
     match (subject_of(alloc, &wanted.words)?, last) {
         (Some(subject), Some(world)) => {
-            let told = tell_again(alloc, wanted, log, shelf);
-            let seen = Seen {
-                world: Some(world),
-                told: told.as_ref(),
+            let told = if wanted.why {
+                make_once_more(alloc, &wanted.words, shelf, log)
+            } else {
+                None
             };
             let run = Run {
                 subject,
                 times,
                 log,
-                seen,
+                world: Some(world),
+                told: told.as_ref(),
             };
             let shown = show_log(alloc, wanted, run, shelf, out);
             drop(told);
@@ -204,56 +173,15 @@ fn show_made<'a, F: Shelf, K: Sink>(
     }
 }
 
-/// A run that is shown: what its words say, the times of its trace, its log, and what is seen beside it.
+/// A run that is shown: what its words say, the times of its trace, its log, and what is seen of it beside its log: the world at its
+/// stop, and what it told when it was made once more.
 #[derive(Clone, Copy)]
 struct Run<'a> {
     subject: Subject<'a>,
     times: &'a [u64],
     log: &'a [u8],
-    seen: Seen<'a>,
-}
-
-/// What is seen of a run beside its log: the world at its stop, and what it told when it was made once more.
-#[derive(Clone, Copy)]
-struct Seen<'a> {
     world: Option<&'a World>,
     told: Option<&'a Told>,
-}
-
-impl<'a> Seen<'a> {
-    /// What decided the choices, where that is known.
-    fn decided(self) -> Option<Decided> {
-        match self.told {
-            Some(told) => {
-                if told.by_graph {
-                    Some(Decided {
-                        choices: told.choices,
-                        spells: told.spells,
-                        ended: told.ended,
-                    })
-                } else {
-                    None
-                }
-            }
-            None => None,
-        }
-    }
-
-    /// Who holds the resources 1 to 7, where that is known.
-    fn holders(self) -> &'a [Holders] {
-        match self.told {
-            Some(told) => told.holders.as_slice(),
-            None => &[],
-        }
-    }
-}
-
-/// Makes the run once more beside its log, where that is asked for.
-fn tell_again<F: Shelf>(alloc: Global, wanted: &Wanted, log: &[u8], shelf: &mut F) -> Option<Told> {
-    if !wanted.why {
-        return None;
-    }
-    make_once_more(alloc, &wanted.words, shelf, log)
 }
 
 /// Shows a run by its log and, where they are there, the world at its stop and what it told when it was made once more.
@@ -264,12 +192,16 @@ fn show_log<F: Shelf, K: Sink>(
     shelf: &mut F,
     out: &mut K,
 ) -> Result<(), Failure> {
-    match places_of(alloc, run.subject, shelf) {
-        Ok(places) => {
-            let shown = show_placed(alloc, wanted, &places, run, shelf, out);
-            drop(places);
-            shown
-        }
+    let name = run.subject.source;
+    match load(alloc, shelf, name, MOST_BYTES) {
+        Ok(source) => match Places::read(alloc, name, source) {
+            Ok(places) => {
+                let shown = show_placed(alloc, wanted, &places, run, shelf, out);
+                drop(places);
+                shown
+            }
+            Err(failure) => Err(failure),
+        },
         Err(failure) => Err(failure),
     }
 }
@@ -283,8 +215,8 @@ fn show_placed<F: Shelf, K: Sink>(
     shelf: &mut F,
     out: &mut K,
 ) -> Result<(), Failure> {
-    put_text(alloc, places, run, out)?;
-    store_timeline(alloc, wanted, places, run.log, shelf)?;
+    let found = put_text(alloc, places, run, out)?;
+    store_timeline(alloc, wanted, places, run.log, found, shelf)?;
     store_graph(alloc, wanted, places, run.log, shelf)
 }
 
@@ -296,86 +228,50 @@ fn put<K: Sink>(out: &mut K, bytes: &[u8]) -> Result<(), Failure> {
     }
 }
 
-/// The places of the source of a run.
-fn places_of<F: Shelf>(alloc: Global, subject: Subject, shelf: &mut F) -> Result<Places, Failure> {
-    match load(alloc, shelf, subject.source, MOST_BYTES) {
-        Ok(source) => places_in(alloc, subject.source, source),
-        Err(failure) => Err(failure),
-    }
-}
-
-/// The places of a source, in the file of that name.
-fn places_in(alloc: Global, name: &str, source: Vec<u8>) -> Result<Places, Failure> {
-    let mut file = String::new(alloc);
-    match file.push_str(name) {
-        Ok(()) => match Places::read(alloc, file, source) {
-            Ok(places) => Ok(places),
-            Err(error) => Err(of_places(error)),
-        },
-        Err(AllocError) => {
-            drop(file);
-            drop(source);
-            Err(Failure::Memory)
-        }
+/// Writes a text, where there was memory for all of it.
+fn put_whole<K: Sink>(out: &mut K, text: &Text) -> Result<(), Failure> {
+    match text.whole() {
+        Ok(written) => put(out, written.as_bytes()),
+        Err(AllocError) => Err(Failure::Memory),
     }
 }
 
 /// Writes the report.
-fn put_text<K: Sink>(alloc: Global, places: &Places, run: Run, out: &mut K) -> Result<(), Failure> {
+fn put_text<K: Sink>(
+    alloc: Global,
+    places: &Places,
+    run: Run,
+    out: &mut K,
+) -> Result<Found, Failure> {
     let mut text = Text::new(alloc);
     let shown = match write_text(alloc, &mut text, places, run) {
-        Ok(()) => put_whole(out, &text),
+        Ok(found) => match put_whole(out, &text) {
+            Ok(()) => Ok(found),
+            Err(failure) => Err(failure),
+        },
         Err(failure) => Err(failure),
     };
     drop(text);
     shown
 }
 
-/// Appends the report.
-fn write_text(alloc: Global, text: &mut Text, places: &Places, run: Run) -> Result<(), Failure> {
-    let decided = run.seen.decided();
-    match put_report(
-        alloc,
-        text,
-        places,
-        run.times,
-        run.log,
-        run.subject.options,
-        decided,
-    ) {
-        Ok(left) => write_end(alloc, text, places, run, left),
-        Err(error) => Err(of_report(error)),
-    }
-}
-
-/// Appends where the run stopped, of whose threads that ran so many are left, and the last line of its log.
-fn write_end(
-    alloc: Global,
-    text: &mut Text,
-    places: &Places,
-    run: Run,
-    left: u64,
-) -> Result<(), Failure> {
+/// Appends the report: what the log tells, where the run stopped, and the last line of its log.
+fn write_text(alloc: Global, text: &mut Text, places: &Places, run: Run) -> Result<Found, Failure> {
+    let (decided, holders): (Option<Decided>, &[Holders]) = match run.told {
+        Some(told) => (told.decided, told.holders.as_slice()),
+        None => (None, &[]),
+    };
+    let options = run.subject.options;
+    let found = put_report(alloc, text, places, run.times, run.log, options, decided)?;
     let line = last_line(run.log);
-    if let Some(world) = run.seen.world {
+    if let Some(world) = run.world {
         if let Ok(last) = read_entry(line) {
-            let holders = run.seen.holders();
-            let Ok(()) = put_stop(alloc, text, places, world, left, &last, holders) else {
-                return Err(Failure::Memory);
-            };
+            put_stop(alloc, text, places, world, found.left, &last, holders);
         }
     }
     text.bytes(line);
     text.words("\n");
-    Ok(())
-}
-
-/// Writes a text, where all of it is there.
-fn put_whole<K: Sink>(out: &mut K, text: &Text) -> Result<(), Failure> {
-    match whole_of(text) {
-        Ok(written) => put(out, written.as_bytes()),
-        Err(failure) => Err(failure),
-    }
+    Ok(found)
 }
 
 /// Stores the timeline, where it is asked for.
@@ -384,35 +280,36 @@ fn store_timeline<F: Shelf>(
     wanted: &Wanted,
     places: &Places,
     log: &[u8],
+    found: Found,
     shelf: &mut F,
 ) -> Result<(), Failure> {
     match &wanted.timeline {
         Some(name) => {
             let mut text = Text::new(alloc);
-            let put = put_times(alloc, &mut text, places, log);
-            let stored = store_put(alloc, shelf, name.as_str(), put, &text);
-            drop(text);
-            stored
+            let written = put_times(alloc, &mut text, places, log, found);
+            store_whole(alloc, shelf, name.as_str(), written, text)
         }
         None => Ok(()),
     }
 }
 
-/// Stores a picture that was put, where it could be.
-fn store_put<F: Shelf>(
+/// Stores a picture that was written, where it could be.
+fn store_whole<F: Shelf>(
     alloc: Global,
     shelf: &mut F,
     name: &str,
-    put: Result<(), ReportError>,
-    text: &Text,
+    written: Result<(), Failure>,
+    text: Text,
 ) -> Result<(), Failure> {
-    match put {
-        Ok(()) => match whole_of(text) {
+    let stored = match written {
+        Ok(()) => match text.whole() {
             Ok(picture) => store(alloc, shelf, name, picture),
-            Err(failure) => Err(failure),
+            Err(AllocError) => Err(Failure::Memory),
         },
-        Err(error) => Err(of_report(error)),
-    }
+        Err(failure) => Err(failure),
+    };
+    drop(text);
+    stored
 }
 
 /// Stores the blocking graph, where it is asked for: as DOT where the file's name ends so, and else as SVG.
@@ -427,10 +324,8 @@ fn store_graph<F: Shelf>(
         Some(name) => {
             let mut text = Text::new(alloc);
             let is_dot = name.as_str().ends_with(".dot");
-            let put = put_blocking(alloc, &mut text, places, log, is_dot);
-            let stored = store_put(alloc, shelf, name.as_str(), put, &text);
-            drop(text);
-            stored
+            let written = put_blocking(alloc, &mut text, places, log, is_dot);
+            store_whole(alloc, shelf, name.as_str(), written, text)
         }
         None => Ok(()),
     }

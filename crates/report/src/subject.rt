@@ -1,6 +1,7 @@
 use crate::failures::Failure;
+use crate::history::spells::Marks;
+use crate::report::Options;
 use command_words::{Command, Policy, WordsError, read_words};
-use report_text::{Marks, Options};
 use std::alloc::Global;
 
 /// The run that is to be shown: the name of its source, and what its options say.

@@ -1,3 +1,4 @@
+use crate::push::push;
 use std::alloc::{AllocError, Global};
 
 /// What is asked for: the files that the pictures go to, the file of a stored log, whether the run is made once more, and the words
@@ -46,32 +47,27 @@ impl Wanted {
     fn take_all(&mut self, words: Vec<String>) -> Result<(), AllocError> {
         let mut next = Next::Any;
         for word in words {
-            next = self.take(next, word)?;
+            next = match next {
+                Next::Any => self.begin(word)?,
+                Next::Timeline => {
+                    self.timeline = Some(word);
+                    Next::Any
+                }
+                Next::Graph => {
+                    self.graph = Some(word);
+                    Next::Any
+                }
+                Next::Log => {
+                    self.log = Some(word);
+                    Next::Any
+                }
+                Next::Word => {
+                    push(&mut self.words, word)?;
+                    Next::Word
+                }
+            };
         }
         Ok(())
-    }
-
-    /// Takes a word, and says what the next one is.
-    fn take(&mut self, next: Next, word: String) -> Result<Next, AllocError> {
-        match next {
-            Next::Any => self.begin(word),
-            Next::Timeline => {
-                self.timeline = Some(word);
-                Ok(Next::Any)
-            }
-            Next::Graph => {
-                self.graph = Some(word);
-                Ok(Next::Any)
-            }
-            Next::Log => {
-                self.log = Some(word);
-                Ok(Next::Any)
-            }
-            Next::Word => {
-                self.words.push(word)?;
-                Ok(Next::Word)
-            }
-        }
     }
 
     /// Takes a word that may be one of the report's options; the first that is none begins the words of the run.
@@ -85,7 +81,7 @@ impl Wanted {
                 Ok(Next::Any)
             }
             _ => {
-                self.words.push(word)?;
+                push(&mut self.words, word)?;
                 Ok(Next::Word)
             }
         }

@@ -1,0 +1,141 @@
+ghost use Rattle.std.specs.Prelude.{◌≡◌, ◌+◌, ◌<◌, ◌≤◌};
+
+use crate::again::deciding::reason_of;
+use crate::again::reasons::Choices;
+use blocking_graph::{Graph, SegmentRecord};
+use cap_word::{Ready, ThreadId};
+use resource_monitor::{Measure, Monitor};
+use scheduler::{Choice, Scheduler};
+use std::alloc::{AllocError, Global};
+use std::marker::Model;
+
+/// The most choices, and the most segments, of a run that is made again: below 2^40.
+const MOST: u64 = 1_000_000_000_000;
+
+/// What stands beside a run that is made again: the threads that wait at the nodes of the blocking graph, the graph, the resources,
+/// and what decided the choices so far.
+#[derive(Drop)]
+pub struct Choosing<C: Measure> {
+    alloc: Global,
+    scheduler: Scheduler,
+    graph: Graph,
+    monitor: Monitor<C>,
+    caps: [u32; 8],
+    choices: Choices,
+    noted: u64,
+    recorded: u64,
+}
+
+impl<C: Measure> Model for Choosing<C> {
+    ghost use Rattle.std.specs.Prelude.{◌≡◌, ◌≤◌};
+    ghost use Rattle.blocking_graph.specs.Edges.{count_of};
+    ghost use Rattle.report.specs.Courses.{Course};
+
+    ghost Value = { Course };
+
+    ghost view = { λ c. record { scheduler = c.scheduler; graph = c.graph; monitor = c.monitor; choices = c.choices } };
+
+    ghost invariant = { λ c. (c.scheduler.noted ≡ c.noted) × (c.noted ≤ 1000000000000) × (c.monitor.caps ≡ c.caps) × (count_of c.graph.edges ≡ c.recorded) × (c.recorded ≤ 1000000000000) };
+}
+
+impl<C: Measure> Choosing<C> {
+    ghost use Rattle.std.specs.Prelude.{◌≡◌, IfSome, OnOk, true};
+    ghost use Rattle.blocking_graph.specs.Edges.{edges_with};
+    ghost use Rattle.blocking_graph.specs.Graph.{IsSegment};
+    ghost use Rattle.resource_monitor.specs.Monitor.{NoneAbove};
+    ghost use Rattle.scheduler.specs.State.{IsJoined};
+    ghost use Rattle.report.specs.Courses.{start_of, Decides};
+
+    /// Before the first choice of a run whose resources begin so, with these caps. It takes no memory.
+    pub fn new(alloc: Global, monitor: Monitor<C>, caps: [u32; 8]) -> Choosing<C>
+        requires { monitor.caps ≡ caps }
+        ensures { result ≡ start_of monitor }
+    {
+        Choosing {
+            alloc,
+            scheduler: Scheduler::new(alloc),
+            graph: Graph::new(alloc),
+            monitor,
+            caps,
+            choices: Choices {
+                by_gate: 0,
+                by_score: 0,
+                by_turn: 0,
+            },
+            noted: 0,
+            recorded: 0,
+        }
+    }
+
+    /// What decided the choices so far.
+    pub fn choices(&self) -> Choices
+        ensures { result ≡ self.now.choices }
+    {
+        self.choices
+    }
+
+    /// The caps of the resources.
+    pub fn caps(&self) -> [u32; 8]
+        ensures { result ≡ self.now.monitor.caps }
+    {
+        self.caps
+    }
+
+    /// Whether the gate is open.
+    pub fn is_open(&self) -> bool
+        ensures { result ≡ self.now.monitor.is_open }
+    {
+        self.monitor.gate()
+    }
+
+    /// A thread waits at a node from now on.
+    pub fn wait(&mut self, node: u32, thread: ThreadId) -> Result<(), AllocError>
+        ensures ok { OnOk result (IsJoined self.old.scheduler self.new.scheduler node thread) }
+        ensures others { self.new ≡ record self.old { scheduler = self.new.scheduler } }
+    {
+        self.scheduler.enqueue(node, thread)
+    }
+
+    /// The choice at these uses of the resources: the gate moves, a thread is chosen and leaves its node, and what decided it is
+    /// counted. None where no thread may go on, and where a count would be 10^12 or more.
+    pub fn choose<R: Ready>(&mut self, uses: [u32; 8], world: &R) -> Option<Choice>
+        requires { NoneAbove uses self.old.monitor.caps }
+        ensures { IfSome result (Decides (R.is_ready world.now) (R.at_accept world.now) (R.any_elsewhere world.now) uses self.old self.new) }
+    {
+        self.monitor.observe(uses);
+        if self.noted >= MOST {
+            return None;
+        }
+        let choice = self.scheduler.choose(&self.graph, &self.monitor, world)?;
+        let reason = reason_of(
+            self.alloc,
+            &self.scheduler,
+            &self.graph,
+            &self.monitor,
+            world,
+            choice.thread.number,
+        );
+        self.choices = self.choices.with(reason)?;
+        self.scheduler.note_choice(&choice);
+        self.noted += 1;
+        Some(choice)
+    }
+
+    /// Takes in the record of a segment. False where there is no memory, or would be 10^12 of them.
+    pub fn note(&mut self, segment: SegmentRecord) -> bool
+        requires { IsSegment segment }
+        ensures noted { result ≡ true → self.new.graph.edges ≡ edges_with self.old.graph.edges segment }
+        ensures others { self.new ≡ record self.old { graph = self.new.graph } }
+    {
+        if self.recorded >= MOST {
+            return false;
+        }
+        match self.graph.note(segment) {
+            Ok(()) => {
+                self.recorded += 1;
+                true
+            }
+            Err(_) => false,
+        }
+    }
+}

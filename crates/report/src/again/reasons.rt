@@ -1,0 +1,43 @@
+ghost use Rattle.std.specs.Prelude.{◌≡◌, IfSome};
+ghost use Rattle.report.specs.Counts.{with_reason};
+
+/// What decided a choice.
+#[derive(Clone, Copy, PartialEq, Eq)]
+pub enum Reason {
+    /// The gate: if no thread counted as one at `accept`, another would have been chosen.
+    Gate,
+    /// The scores: without them another thread would have been chosen.
+    Score,
+    /// Whose turn it was.
+    Turn,
+}
+
+/// How many choices each reason decided.
+#[derive(Clone, Copy)]
+pub struct Choices {
+    pub by_gate: u64,
+    pub by_score: u64,
+    pub by_turn: u64,
+}
+
+impl Choices {
+    /// One choice more; none where a count is 2^64.
+    pub fn with(self, reason: Reason) -> Option<Choices>
+        ensures { IfSome result (λ more. more ≡ with_reason reason self) }
+    {
+        match reason {
+            Reason::Gate => {
+                let by_gate = self.by_gate.checked_add(1)?;
+                Some(Choices { by_gate, ..self })
+            }
+            Reason::Score => {
+                let by_score = self.by_score.checked_add(1)?;
+                Some(Choices { by_score, ..self })
+            }
+            Reason::Turn => {
+                let by_turn = self.by_turn.checked_add(1)?;
+                Some(Choices { by_turn, ..self })
+            }
+        }
+    }
+}

@@ -1,0 +1,160 @@
+// The run once more from its start, and what stands beside it.
+ghost use Rattle.std.specs.Prelude.{ℕ, List, ◌≡◌, ◌+◌, ◌*◌, ◌≤◌};
+ghost use Rattle.codegen_link.specs.Plans.{AreInRange};
+ghost use Rattle.command_options.specs.Options.{IsRunPolicy};
+ghost use Rattle.command_words.specs.WordList.{IsWordList, request_of};
+ghost use Rattle.pair_commands.specs.Runs.{pool_bytes};
+ghost use Rattle.report.specs.Between.{IsBetween};
+ghost use Rattle.resource_monitor.specs.Pressure.{AnswersCurve, IsReading, curve_value};
+ghost use Rattle.resource_monitor.specs.declared.curves.Curve.TheVariants.{Knee};
+
+use crate::again::choosing::Choosing;
+use crate::again::{Told, make_again};
+use accepted_pairs::Accepted;
+use cap_io::Shelf;
+use capriccio_commands::{let_go, made_world};
+use codegen_link::Options;
+use command_options::monitor_of;
+use command_words::{Command, Policy, Rule, read_words};
+use pair_commands::{accept_files, accept_source};
+use resource_monitor::{Measure, past_knee};
+use std::alloc::{AllocError, Global};
+use thread_core::World;
+
+/// Makes the run of these words once more, beside its log. None where the words are those of no run, a file isn't what it was, or the
+/// log is of another run; and where there is no memory.
+pub fn make_once_more<F: Shelf>(
+    alloc: Global,
+    words: &Vec<String>,
+    shelf: &mut F,
+    log: &[u8],
+) -> Option<Told> {
+    match read_words(alloc, words) {
+        Ok(command) => start_command(alloc, command, shelf, log),
+        Err(_) => None,
+    }
+}
+
+/// Makes the run that a command asks for once more.
+fn start_command<F: Shelf>(
+    alloc: Global,
+    command: Command,
+    shelf: &mut F,
+    log: &[u8],
+) -> Option<Told>
+    requires { (words : List (List ℕ)) × IsWordList words (request_of command) }
+{
+    match command {
+        Command::Serve {
+            source,
+            placement,
+            policy,
+        } => {
+            let sizes = Options {
+                chunk: placement.chunk,
+                max_path: placement.max_path,
+            };
+            start_source(alloc, shelf, source, sizes, policy, log)
+        }
+        Command::Run {
+            source,
+            image,
+            certificate,
+            policy,
+        } => start_files(alloc, shelf, source, image, certificate, policy, log),
+        _ => None,
+    }
+}
+
+/// Makes the run of a source once more.
+fn start_source<F: Shelf>(
+    alloc: Global,
+    shelf: &mut F,
+    source: &str,
+    sizes: Options,
+    policy: Policy,
+    log: &[u8],
+) -> Option<Told>
+    requires sizes { AreInRange sizes }
+    requires range { IsRunPolicy policy }
+    requires pool { policy.chunks * sizes.chunk + policy.extra * policy.extra_bytes ≤ 67108864 }
+{
+    match accept_source(alloc, shelf, source, sizes) {
+        Ok(accepted) => start_accepted(alloc, accepted, policy, log),
+        Err(stop) => {
+            drop(stop);
+            None
+        }
+    }
+}
+
+/// Makes the run of a source with its image and certificate once more.
+fn start_files<F: Shelf>(
+    alloc: Global,
+    shelf: &mut F,
+    source: &str,
+    image: &str,
+    certificate: &str,
+    policy: Policy,
+    log: &[u8],
+) -> Option<Told>
+    requires { IsRunPolicy policy }
+{
+    match accept_files(alloc, shelf, source, image, certificate, policy) {
+        Ok(accepted) => start_accepted(alloc, accepted, policy, log),
+        Err(stop) => {
+            drop(stop);
+            None
+        }
+    }
+}
+
+/// Makes the run of an accepted program once more.
+fn start_accepted(alloc: Global, accepted: Accepted, policy: Policy, log: &[u8]) -> Option<Told>
+    requires range { IsRunPolicy policy }
+    requires pool { pool_bytes policy accepted.certificate ≤ 67108864 }
+{
+    match made_world(alloc, accepted, policy) {
+        Ok(world) => measure(alloc, world, policy, log),
+        Err(AllocError) => None,
+    }
+}
+
+/// Makes the run of a world, with the policy's knee in the pressures of all resources.
+fn measure(alloc: Global, mut world: World, policy: Policy, log: &[u8]) -> Option<Told>
+    requires range { IsRunPolicy policy }
+    requires between { IsBetween world }
+{
+    let knee = policy.knee;
+    let call = move |used: u32, cap: u32| -> u32
+        requires { (knee ≤ 999) × IsReading used cap }
+        ensures { result ≡ curve_value (Knee knee) used cap }
+    { past_knee(knee, used, cap) };
+    let told = make_measured(alloc, &mut world, policy, log, call);
+    let_go(world);
+    told
+}
+
+/// Makes the run of a world, with this way to measure pressures.
+fn make_measured<C: Measure + Copy + Drop>(
+    alloc: Global,
+    world: &mut World,
+    policy: Policy,
+    log: &[u8],
+    call: C,
+) -> Option<Told>
+    requires curve { AnswersCurve (C.can_measure call) (C.measure_gives call) (Knee policy.knee) }
+    requires range { IsRunPolicy policy }
+    requires between { IsBetween world.old }
+{
+    let mut caps = policy.caps;
+    caps[0] = policy.chunks + policy.extra;
+    match monitor_of(alloc, policy, call) {
+        Ok(monitor) => {
+            let choosing = Choosing::new(alloc, monitor, caps);
+            let by_graph = matches!(policy.rule, Rule::Graph);
+            make_again(alloc, world, choosing, by_graph, log)
+        }
+        Err(AllocError) => None,
+    }
+}

@@ -1,0 +1,236 @@
+// The pictures of a run: the timeline as SVG, a row a thread, with its runs and its waits by place (`Rows`, `put_timeline`), and the
+// blocking graph as DOT (`put_graph`) and as SVG (`put_drawing`). A row keeps at most one mark for each column of the picture, those
+// of `report_figures`, so that the picture doesn't grow with the log. SVG is that of the W3C's "Scalable Vector Graphics (SVG) 1.1",
+// DOT that of Graphviz.
+pub mod colors;
+pub mod drawing;
+pub mod graph;
+pub mod head;
+pub mod rows;
+pub mod timeline;
+
+use crate::failures::Failure;
+use crate::history::happenings::{Happening, Wait};
+use crate::history::threads::Standing;
+use crate::history::{History, HistoryError};
+use crate::pictures::drawing::put_drawing;
+use crate::pictures::graph::{GraphEdge, put_graph};
+use crate::pictures::rows::Rows;
+use crate::pictures::timeline::put_timeline;
+use crate::places::Places;
+use crate::push::push;
+use crate::report::Found;
+use crate::text::Text;
+use cap_text::Lines;
+use cap_word::SiteKey;
+use schedule_log::{Entry, read_entry};
+use std::alloc::{AllocError, Global};
+use std::collections::BTreeMap;
+
+/// Appends the timeline of the run with this log, as SVG, by what the report on it found. None of its entries is kept. Whether there
+/// was memory for all that was appended, the text says.
+pub fn put_times(
+    alloc: Global,
+    text: &mut Text,
+    places: &Places,
+    log: &[u8],
+    found: Found,
+) -> Result<(), Failure> {
+    let wide = if found.started > 100 { 3 } else { 1 };
+    let mut rows = Rows::new(alloc, found.ended, wide);
+    match mark_all(alloc, log, found.threads, &mut rows) {
+        Ok(()) => {
+            put_rows(alloc, text, places, &rows);
+            Ok(())
+        }
+        Err(failure) => Err(failure),
+    }
+}
+
+/// Marks what all lines of a log tell, and then the waits that are under way when the run ends, as if they ended then. All threads
+/// that ran have numbers below that one.
+fn mark_all(alloc: Global, log: &[u8], threads: u32, rows: &mut Rows) -> Result<(), Failure> {
+    let mut history = History::new(alloc);
+    for line in Lines::new(log) {
+        let told = told_by(&mut history, line)?;
+        rows.add(told)?;
+    }
+    for thread in 0..threads {
+        if let Some(wait) = wait_left(&history, thread, rows.end) {
+            rows.add(Happening::Waited(wait))?;
+        }
+    }
+    Ok(())
+}
+
+/// What one line more of a log tells of waits and segments: requests are left out, so no call counts as `accept`.
+fn told_by(history: &mut History, line: &[u8]) -> Result<Happening, Failure> {
+    match read_entry(line) {
+        Ok(entry) => match history.tell(&entry, &[]) {
+            Ok(told) => Ok(told),
+            Err(HistoryError::Memory) => Err(Failure::Memory),
+            Err(HistoryError::Count) => Err(Failure::Log),
+        },
+        Err(_) => Err(Failure::Log),
+    }
+}
+
+/// The wait of a thread that is still under way when the run ends, at that clock.
+fn wait_left(history: &History, thread: u32, end: u64) -> Option<Wait> {
+    match history.thread(thread) {
+        Some(known) => match known.standing {
+            Standing::Waits { site, since, .. } => Some(Wait {
+                thread,
+                site,
+                since,
+                until: end,
+                request: None,
+            }),
+            _ => None,
+        },
+        None => None,
+    }
+}
+
+/// Appends the timeline with these rows.
+fn put_rows(alloc: Global, text: &mut Text, places: &Places, rows: &Rows) {
+    let mut sites = Vec::new(alloc);
+    let mut names = Vec::new(alloc);
+    match add_sites(alloc, places, rows, &mut sites, &mut names) {
+        Ok(()) => put_timeline(text, rows, sites.as_slice(), names.as_slice()),
+        Err(AllocError) => text.lack(),
+    }
+}
+
+/// Adds the sites at which threads wait, and their names.
+fn add_sites(
+    alloc: Global,
+    places: &Places,
+    rows: &Rows,
+    sites: &mut Vec<u32>,
+    names: &mut Vec<String>,
+) -> Result<(), AllocError> {
+    for site in &rows.sites {
+        push(sites, *site)?;
+        push(names, name_of(alloc, places, &[*site])?)?;
+    }
+    Ok(())
+}
+
+/// Appends the blocking graph of the run with this log, as SVG or as DOT. Whether there was memory for all of it, the text says.
+pub fn put_blocking(
+    alloc: Global,
+    text: &mut Text,
+    places: &Places,
+    log: &[u8],
+    is_dot: bool,
+) -> Result<(), Failure> {
+    let mut edges = Vec::new(alloc);
+    let mut nodes: BTreeMap<u32, SiteKey> = BTreeMap::new(alloc);
+    match note_all(&mut edges, &mut nodes, log) {
+        Ok(()) => {
+            put_nodes(alloc, text, places, &nodes, edges.as_slice(), is_dot);
+            Ok(())
+        }
+        Err(failure) => Err(failure),
+    }
+}
+
+/// Notes the nodes and the edges of a log.
+fn note_all(
+    edges: &mut Vec<GraphEdge>,
+    nodes: &mut BTreeMap<u32, SiteKey>,
+    log: &[u8],
+) -> Result<(), Failure> {
+    for line in Lines::new(log) {
+        let Ok(entry) = read_entry(line) else {
+            return Err(Failure::Log);
+        };
+        note(edges, nodes, &entry)?;
+    }
+    Ok(())
+}
+
+/// Notes the node of a `block`, by its key, and an edge.
+fn note(
+    edges: &mut Vec<GraphEdge>,
+    nodes: &mut BTreeMap<u32, SiteKey>,
+    entry: &Entry,
+) -> Result<(), AllocError> {
+    match entry {
+        Entry::Block { node, key, .. } => match nodes.insert(*node, *key) {
+            Ok(_) => Ok(()),
+            Err(_) => Err(AllocError),
+        },
+        Entry::Edge {
+            from,
+            to,
+            count,
+            cost,
+            changes,
+        } => push(
+            edges,
+            GraphEdge {
+                from: *from,
+                to: *to,
+                count: *count,
+                cost: *cost,
+                changes: *changes,
+            },
+        ),
+        _ => Ok(()),
+    }
+}
+
+/// Appends the blocking graph with these nodes and edges.
+fn put_nodes(
+    alloc: Global,
+    text: &mut Text,
+    places: &Places,
+    nodes: &BTreeMap<u32, SiteKey>,
+    edges: &[GraphEdge],
+    is_dot: bool,
+) {
+    let mut names = Vec::new(alloc);
+    match add_nodes(alloc, places, nodes, &mut names) {
+        Ok(()) => {
+            if is_dot {
+                put_graph(text, names.as_slice(), edges);
+            } else {
+                put_drawing(text, names.as_slice(), edges);
+            }
+        }
+        Err(AllocError) => text.lack(),
+    }
+}
+
+/// Adds the names of the nodes by their numbers: 0 is where threads begin, 1 where they end, and from 2 on stand the places at which
+/// they block, each with the line and column of the calls that led to it, the innermost first.
+fn add_nodes(
+    alloc: Global,
+    places: &Places,
+    nodes: &BTreeMap<u32, SiteKey>,
+    names: &mut Vec<String>,
+) -> Result<(), AllocError> {
+    push(names, String::from_str(alloc, "start")?)?;
+    push(names, String::from_str(alloc, "end")?)?;
+    for (_, key) in nodes {
+        push(names, name_of(alloc, places, key.sites())?)?;
+    }
+    Ok(())
+}
+
+/// The place of the innermost of the sites of a key, and the lines and columns of the others.
+fn name_of(alloc: Global, places: &Places, sites: &[u32]) -> Result<String, AllocError> {
+    let mut name = Text::new(alloc);
+    let mut is_innermost = true;
+    for site in sites {
+        if is_innermost {
+            places.put_site(&mut name, *site);
+        } else {
+            places.put_line_below(&mut name, *site);
+        }
+        is_innermost = false;
+    }
+    name.into_whole()
+}

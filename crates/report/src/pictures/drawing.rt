@@ -1,0 +1,140 @@
+use crate::pictures::graph::{GraphEdge, put_label};
+use crate::pictures::head::HEAD;
+use crate::text::Text;
+
+/// The height from one node to the next.
+const STEP: u64 = 70;
+
+/// The height of a node's box.
+const BOX: u64 = 30;
+
+/// The left and the right side of the boxes.
+const LEFT: u64 = 420;
+
+const RIGHT: u64 = 920;
+
+/// How far an arrow bows out for each node between its ends, and at most.
+const BOW: u64 = 45;
+
+const FARTHEST: u64 = 360;
+
+/// The width of the picture.
+const WIDTH: u64 = 1420;
+
+/// Appends the blocking graph as SVG: the nodes one below another with their names, and an arrow for each edge with its label.
+/// Arrows down stand right of the boxes, and arrows up and back to the same node left.
+pub(crate) fn put_drawing(text: &mut Text, names: &[String], edges: &[GraphEdge]) {
+    let bottom = top_of(names.len() as u64);
+    let height = bottom.saturating_add(20);
+    text.form(HEAD, &[WIDTH, height, WIDTH, height]);
+    put_arrows(text, edges);
+    put_boxes(text, names);
+    put_labels(text, edges);
+    text.form(MEANING, &[LEFT, bottom])
+}
+
+/// The tip of the arrows.
+const TIP: &str =
+    "<defs><marker id=\"tip\" markerWidth=\"8\" markerHeight=\"8\" refX=\"7\" refY=\"4\" orient=\"auto\"><path d=\"M0,0 L8,4 L0,8 z\"/></marker></defs>\n";
+
+/// What the labels mean, and the end of the picture.
+const MEANING: &str =
+    "<text x=\"$\" y=\"$\">n x c: n segments went so, with c instructions on average; then the average change of what they hold, where there is one</text>\n</svg>\n";
+
+/// Appends the arrows, and before them their tip.
+fn put_arrows(text: &mut Text, edges: &[GraphEdge]) {
+    text.words(TIP);
+    for edge in edges {
+        put_arrow(text, arrow_of(edge));
+    }
+}
+
+/// The frame of a node's box, and the number in it.
+const FRAME: &str =
+    "<rect x=\"$\" y=\"$\" width=\"$\" height=\"$\" fill=\"#eef3fa\" stroke=\"#000000\"/>\n<text x=\"$\" y=\"$\">$: ";
+
+/// Appends the boxes of the nodes.
+fn put_boxes(text: &mut Text, names: &[String]) {
+    let mut node: u64 = 0;
+    for name in names {
+        let y = top_of(node);
+        let base = y.saturating_add(19);
+        text.form(FRAME, &[LEFT, y, RIGHT - LEFT, BOX, LEFT + 8, base, node]);
+        text.escaped(name.as_str());
+        text.words("</text>\n");
+        node = node.saturating_add(1);
+    }
+}
+
+/// The upper side of a node's box.
+fn top_of(node: u64) -> u64 {
+    node.saturating_mul(STEP).saturating_add(10)
+}
+
+/// Where an arrow begins, ends and turns, and on which side.
+#[derive(Clone, Copy)]
+struct Arrow {
+    start: u64,
+    end: u64,
+    bow: u64,
+    goes_down: bool,
+}
+
+/// The arrow of an edge.
+fn arrow_of(edge: &GraphEdge) -> Arrow {
+    let between = edge.from.abs_diff(edge.to) as u64;
+    Arrow {
+        start: top_of(edge.from as u64).saturating_add(20),
+        end: top_of(edge.to as u64).saturating_add(10),
+        bow: between.saturating_mul(BOW).saturating_add(30),
+        goes_down: edge.from < edge.to,
+    }
+}
+
+/// An arrow from a side, which bows out and comes back to it with its tip.
+const ARROW: &str =
+    "<path d=\"M$,$ C$,$ $,$ $,$\" fill=\"none\" stroke=\"#555555\" marker-end=\"url(#tip)\"/>\n";
+
+/// Appends an arrow.
+fn put_arrow(text: &mut Text, arrow: Arrow) {
+    let bow = arrow.bow.min(FARTHEST);
+    let (side, far) = if arrow.goes_down {
+        (RIGHT, RIGHT + bow)
+    } else {
+        (LEFT, LEFT - bow)
+    };
+    let Arrow { start, end, .. } = arrow;
+    text.form(ARROW, &[side, start, far, start, far, end, side, end])
+}
+
+/// The head of a label on a white ground that begins at a place, and of one that ends there.
+const BEGINS: &str =
+    "<text x=\"$\" y=\"$\" text-anchor=\"start\" paint-order=\"stroke\" stroke=\"#ffffff\" stroke-width=\"4\">";
+
+const ENDS: &str =
+    "<text x=\"$\" y=\"$\" text-anchor=\"end\" paint-order=\"stroke\" stroke=\"#ffffff\" stroke-width=\"4\">";
+
+/// Appends the labels of the arrows.
+fn put_labels(text: &mut Text, edges: &[GraphEdge]) {
+    for edge in edges {
+        let arrow = arrow_of(edge);
+        let bow = arrow.bow.min(FARTHEST) * 3 / 4 + 4;
+        let y = label_y(arrow, edge);
+        if arrow.goes_down {
+            text.form(BEGINS, &[RIGHT + bow, y]);
+        } else {
+            text.form(ENDS, &[LEFT - bow, y]);
+        }
+        put_label(text, edge);
+        text.words("</text>\n");
+    }
+}
+
+/// The height of the label of an edge's arrow. Arrows of several lengths that have the same middle have their labels at several
+/// heights.
+fn label_y(arrow: Arrow, edge: &GraphEdge) -> u64 {
+    let lower = (edge.from.abs_diff(edge.to) % 4) as u64 * 12;
+    (arrow.start / 2)
+        .saturating_add(arrow.end / 2)
+        .saturating_add(lower)
+}

@@ -1,0 +1,155 @@
+use crate::pictures::colors::{COLORS, color_of, name_of};
+use crate::pictures::head::HEAD;
+use crate::pictures::rows::{Doing, Mark, Rows};
+use crate::text::Text;
+use report_figures::COLUMNS;
+
+/// Room left of the rows, for the threads' numbers.
+const LEFT: u64 = 80;
+
+/// The width of the picture.
+const WIDTH: u64 = LEFT + COLUMNS as u64 + 40;
+
+/// The height of a row, up to 100 rows and above.
+const HIGH: u64 = 16;
+
+const LOW: u64 = 3;
+
+/// How many parts the time is divided into by lines.
+const PARTS: u64 = 6;
+
+/// Appends the timeline as SVG: a row for each thread, its runs black and its waits in the colour of their place, a legend of the
+/// places above, and lines of time with their clocks. `sites` are the sites at which threads wait, rising, and `names` their
+/// places, one for each. With more than 100 threads rows are lower, and only every fiftieth has its number; each row tells its
+/// thread where a pointer rests on it.
+pub(crate) fn put_timeline(text: &mut Text, rows: &Rows, sites: &[u32], names: &[String]) {
+    let count = rows.rows.len() as u64;
+    let high = if count > 100 { LOW } else { HIGH };
+    let top = (names.len() as u64).saturating_mul(16).saturating_add(40);
+    let bottom = count.saturating_mul(high).saturating_add(top);
+    let height = bottom.saturating_add(20);
+    text.form(HEAD, &[WIDTH, height, WIDTH, height]);
+    put_legend(text, names);
+    put_clocks(text, rows.end, top, bottom);
+    put_rows(text, rows, sites, top, high)
+}
+
+/// The line of the legend for runs.
+const RUNS: &str =
+    "<rect x=\"4\" y=\"4\" width=\"10\" height=\"10\"/><text x=\"20\" y=\"13\">runs</text>\n";
+
+/// Appends the legend: a line for each place, and one for runs.
+fn put_legend(text: &mut Text, names: &[String]) {
+    text.words(RUNS);
+    let mut place: usize = 0;
+    for name in names {
+        let y = (place as u64).saturating_mul(16).saturating_add(20);
+        text.form(
+            "<rect x=\"4\" y=\"$\" width=\"10\" height=\"10\" fill=\"",
+            &[y],
+        );
+        text.words(name_of(color_of(place)));
+        text.form(
+            "\"/><text x=\"20\" y=\"$\">waits at ",
+            &[y.saturating_add(9)],
+        );
+        text.escaped(name.as_str());
+        text.words("</text>\n");
+        place = place.saturating_add(1);
+    }
+}
+
+/// What the numbers above the lines of time are.
+const CLOCK: &str = "<text x=\"4\" y=\"$\">clock</text>\n";
+
+/// A line of time from one height to another, with its clock above.
+const LINE: &str =
+    "<path d=\"M$ $V$\" stroke=\"#cccccc\"/><text x=\"$\" y=\"$\" text-anchor=\"middle\">$</text>\n";
+
+/// Appends lines of time over rows between these heights, each with its clock above.
+fn put_clocks(text: &mut Text, end: u64, top: u64, bottom: u64) {
+    let above = top.saturating_sub(4);
+    let below = bottom.saturating_add(6);
+    text.form(CLOCK, &[above]);
+    for part in 0..PARTS + 1 {
+        let x = LEFT + part * (COLUMNS as u64 / PARTS);
+        let clock = (end as u128 * part as u128 / PARTS as u128) as u64;
+        text.form(LINE, &[x, top, below, x, above, clock]);
+    }
+}
+
+/// The head of the rows, whose lines are so thick.
+const ROWS: &str = "<g fill=\"none\" stroke-width=\"$\">\n";
+
+/// The head of a thread's row, whose places have so many columns, and the same with the thread's number left of it.
+const ROW: &str = "<g transform=\"translate($ $) scale($ 1)\"><title>thread $</title>";
+
+const NUMBERED_ROW: &str =
+    "<text x=\"4\" y=\"$\" fill=\"#000000\">$</text>\n<g transform=\"translate($ $) scale($ 1)\"><title>thread $</title>";
+
+/// Appends the rows, of that height, from that place on down, and the picture's end.
+fn put_rows(text: &mut Text, rows: &Rows, sites: &[u32], top: u64, high: u64) {
+    text.form(ROWS, &[high.saturating_sub(1)]);
+    let wide = rows.wide as u64;
+    let mut shown: u64 = 0;
+    for (number, marks) in &rows.rows {
+        let y = shown.saturating_mul(high).saturating_add(top);
+        put_row_head(text, *number as u64, shown, y, high, wide);
+        put_row(text, marks.as_slice(), sites);
+        shown = shown.saturating_add(1);
+    }
+    text.words("</g>\n</svg>\n")
+}
+
+/// Appends the head of the row of that number, and left of it the number of its thread where that is shown.
+fn put_row_head(text: &mut Text, thread: u64, row: u64, y: u64, high: u64, wide: u64) {
+    let middle = y.saturating_add(high / 2);
+    if high == HIGH || row % 50 == 0 {
+        let base = y.saturating_add(if high == HIGH { 11 } else { 6 });
+        text.form(NUMBERED_ROW, &[base, thread, LEFT, middle, wide, thread])
+    } else {
+        text.form(ROW, &[LEFT, middle, wide, thread])
+    }
+}
+
+/// Appends the marks of a row, for each colour a path of its pieces, and the row's end.
+fn put_row(text: &mut Text, marks: &[Mark], sites: &[u32]) {
+    for color in 0..COLORS {
+        put_path(text, marks, sites, color);
+    }
+    text.words("</g>\n")
+}
+
+/// A piece of a path for a mark: where it begins, and how wide it is.
+const PIECE: &str = "M$ 0h$";
+
+/// Appends the path of the marks of a row that have that colour; nothing where there are none.
+fn put_path(text: &mut Text, marks: &[Mark], sites: &[u32], color: usize) {
+    let mut is_begun = false;
+    for mark in marks {
+        if color_in(mark.doing, sites) == color {
+            if !is_begun {
+                text.words("<path stroke=\"");
+                text.words(name_of(color));
+                text.words("\" d=\"");
+                is_begun = true;
+            }
+            let wide = mark.to.saturating_sub(mark.from).saturating_add(1);
+            text.form(PIECE, &[mark.from as u64, wide as u64]);
+        }
+    }
+    if is_begun {
+        text.words("\"/>")
+    }
+}
+
+/// The number of the colour of what a thread does.
+fn color_in(doing: Doing, sites: &[u32]) -> usize {
+    match doing {
+        Doing::Runs => 0,
+        Doing::Waits { site } => match sites.binary_search(&site) {
+            Ok(place) => color_of(place),
+            Err(place) => color_of(place),
+        },
+    }
+}

@@ -1,0 +1,360 @@
+// Where the calls, the functions and the elements of arrays of a source stand.
+pub mod elements;
+
+ghost use Rattle.std.specs.Prelude.{◌≤◌, length, IfOk};
+
+use crate::failures::Failure;
+use crate::places::elements::{Element, elements_of};
+use crate::push::push;
+use crate::text::Text;
+use c_lex::{LexError, Mark, Token, TokenKind, lex};
+use c_parse::{ParseError, parse_nested};
+use c_tree::{RawItem, RawProgram};
+use call_places::places_of_calls;
+use report_figures::{Position, position_of};
+use std::alloc::{AllocError, Global};
+
+/// A source, and where its calls and functions stand.
+#[derive(Drop)]
+pub struct Places<'a> {
+    /// The name of its file.
+    file: &'a str,
+    source: Vec<u8>,
+    tokens: Vec<Token>,
+    names: Names,
+}
+
+/// Where names of a source stand.
+#[derive(Drop)]
+struct Names {
+    /// The place of each call's name, by the number of its site.
+    calls: Vec<u32>,
+    /// The places of the names of the functions that are defined, by their numbers: rising.
+    functions: Vec<u32>,
+    /// The places of the names of the globals that are declared, arrays and others, by their numbers.
+    globals: Vec<u32>,
+}
+
+/// An array of a function: a global one by its number, or those of its local ones that have so many words.
+#[derive(Clone, Copy)]
+pub enum Array {
+    Global(u32),
+    Local(u32),
+}
+
+/// An element of an array, which is read or assigned to.
+#[derive(Clone, Copy)]
+pub struct Access {
+    pub array: Array,
+    pub assigns: bool,
+}
+
+impl<'a> Places<'a> {
+    /// The places of the source of these bytes, in the file of that name.
+    pub fn read(alloc: Global, file: &'a str, source: Vec<u8>) -> Result<Places<'a>, Failure> {
+        match tokens_of(alloc, source.as_slice()) {
+            Ok(tokens) => match names_in(alloc, source.as_slice(), tokens.as_slice()) {
+                Ok(names) => Ok(Places {
+                    file,
+                    source,
+                    tokens,
+                    names,
+                }),
+                Err(error) => Err(error),
+            },
+            Err(error) => Err(error),
+        }
+    }
+
+    /// For each site, whether its call has that name.
+    pub(crate) fn sites_of(&self, alloc: Global, name: &[u8]) -> Result<Vec<bool>, AllocError> {
+        let mut sites = Vec::new(alloc);
+        for at in self.names.calls.as_slice() {
+            sites.push(self.name_at(*at) == name)?;
+        }
+        Ok(sites)
+    }
+
+    /// Appends where a site stands, what is called there and in which function: `server.c:12:5 accept in worker`.
+    pub fn put_site(&self, text: &mut Text, site: u32) {
+        match self.call(site) {
+            Some(at) => {
+                self.put_named(text, at);
+                self.put_inside(text, at)
+            }
+            None => text.form("site $", &[u64::from(site)]),
+        }
+    }
+
+    /// Appends the same with the whole text of the call: `server.c:12:5 take(1, n) in worker`. Of a long one the beginning stands
+    /// there.
+    pub fn put_site_text(&self, text: &mut Text, site: u32) {
+        match self.call(site) {
+            Some(at) => {
+                self.put_place(text, at);
+                put_call_text(text, self.source.as_slice(), self.tokens.as_slice(), at);
+                self.put_inside(text, at)
+            }
+            None => text.form("site $", &[u64::from(site)]),
+        }
+    }
+
+    /// Appends the line and the column of a site whose call led to the one before: ` < 12:5`.
+    pub(crate) fn put_line_below(&self, text: &mut Text, site: u32) {
+        match self.call(site) {
+            Some(at) => {
+                let Position { line, column } = self.position(at);
+                text.form(" < $:$", &[line as u64, column as u64])
+            }
+            None => text.form(" < site $", &[u64::from(site)]),
+        }
+    }
+
+    /// Appends the name of the function of that number, in the order of their definitions.
+    pub fn put_function(&self, text: &mut Text, function: u32) {
+        match self.names.functions.as_slice().get(function as usize) {
+            Some(at) => text.bytes(self.name_at(*at)),
+            None => text.form("function $", &[u64::from(function)]),
+        }
+    }
+
+    /// Appends where a function has such elements of an array, as far as the text alone tells: up to four places, and how many more
+    /// there are. Nothing where there is none.
+    pub fn put_elements(&self, alloc: Global, text: &mut Text, function: u32, access: Access) {
+        let number = function as usize;
+        let from = self.function(number);
+        let to = self.function(number.saturating_add(1));
+        match elements_of(alloc, self.tokens.as_slice(), from, to) {
+            Ok(elements) => self.put_accesses(text, elements.as_slice(), access),
+            Err(AllocError) => text.lack(),
+        }
+    }
+
+    /// Appends where such elements of an array stand, in a function with these elements and declarations.
+    fn put_accesses(&self, text: &mut Text, elements: &[Element], access: Access) {
+        let mut shown: u64 = 0;
+        for element in elements {
+            if element.declared.is_none()
+                && element.is_assigned == access.assigns
+                && self.is_of(access.array, element.at, elements)
+            {
+                if shown < SHOWN {
+                    text.words(if shown == 0 { ", at " } else { " or " });
+                    self.put_named(text, element.at);
+                }
+                shown = shown.saturating_add(1);
+            }
+        }
+        if shown > SHOWN {
+            text.form(" or at $ more places", &[shown - SHOWN]);
+        }
+    }
+
+    /// Whether the name at that place is that of an array, in a function with these elements and declarations.
+    fn is_of(&self, array: Array, at: u32, elements: &[Element]) -> bool {
+        match array {
+            Array::Global(number) => match self.names.globals.as_slice().get(number as usize) {
+                Some(name) => self.name_at(at) == self.name_at(*name),
+                None => false,
+            },
+            Array::Local(words) => self.is_declared(at, words, elements),
+        }
+    }
+
+    /// Whether the name at that place is one that is declared as an array of so many words.
+    fn is_declared(&self, at: u32, words: u32, elements: &[Element]) -> bool {
+        for element in elements {
+            if element.declared == Some(words) && self.name_at(element.at) == self.name_at(at) {
+                return true;
+            }
+        }
+        false
+    }
+
+    /// Appends a place, and the name there: `server.c:12:5 accept`.
+    fn put_named(&self, text: &mut Text, at: u32) {
+        self.put_place(text, at);
+        text.bytes(self.name_at(at))
+    }
+
+    /// The place of the name of the call of a site.
+    fn call(&self, site: u32) -> Option<u32> {
+        self.names.calls.as_slice().get(site as usize).copied()
+    }
+
+    /// Where the function of that number begins; behind all places where there is none.
+    fn function(&self, number: usize) -> u32 {
+        match self.names.functions.as_slice().get(number) {
+            Some(at) => *at,
+            None => u32::MAX,
+        }
+    }
+
+    /// Appends in which function a place stands.
+    fn put_inside(&self, text: &mut Text, at: u32) {
+        if let Some(function) = function_at(self.names.functions.as_slice(), at) {
+            text.words(" in ");
+            text.bytes(self.name_at(function))
+        }
+    }
+
+    /// Appends a place, and a blank: `server.c:12:5 `.
+    fn put_place(&self, text: &mut Text, at: u32) {
+        let Position { line, column } = self.position(at);
+        text.words(self.file);
+        text.form(":$:$ ", &[line as u64, column as u64])
+    }
+
+    /// The line and the column of a place.
+    fn position(&self, at: u32) -> Position {
+        let source = self.source.as_slice();
+        let text = &source[..source.len().min(MOST_BYTES)];
+        position_of(text, (at as usize).min(text.len()))
+    }
+
+    /// The name that begins at a place.
+    fn name_at(&self, at: u32) -> &[u8] {
+        let rest = rest_of(self.source.as_slice(), at);
+        let mut length: usize = 0;
+        for byte in rest {
+            if !is_of_name(*byte) {
+                return &rest[..length.min(rest.len())];
+            }
+            length = length.saturating_add(1);
+        }
+        rest
+    }
+}
+
+/// The most bytes of a source.
+const MOST_BYTES: usize = 1_048_576;
+
+/// The most places that are shown for one access.
+const SHOWN: u64 = 4;
+
+/// The most bytes of a call that are shown.
+const CALL_BYTES: usize = 60;
+
+/// The tokens of a source.
+fn tokens_of(alloc: Global, source: &[u8]) -> Result<Vec<Token>, Failure>
+    ensures { IfOk result (λ tokens. length source.now ≤ 1048576) }
+{
+    if source.len() > MOST_BYTES {
+        return Err(Failure::Source);
+    }
+    match lex(alloc, source) {
+        Ok(tokens) => Ok(tokens),
+        Err(LexError::Memory) => Err(Failure::Memory),
+        Err(_) => Err(Failure::Source),
+    }
+}
+
+/// Where the names of a source with these tokens stand.
+fn names_in(alloc: Global, source: &[u8], tokens: &[Token]) -> Result<Names, Failure>
+    requires { length source.now ≤ 1048576 }
+{
+    match parse_nested(alloc, source, tokens) {
+        Ok(raw) => {
+            let names = names_of(alloc, &raw);
+            drop(raw);
+            match names {
+                Ok(names) => Ok(names),
+                Err(AllocError) => Err(Failure::Memory),
+            }
+        }
+        Err(ParseError::Memory) => Err(Failure::Memory),
+        Err(_) => Err(Failure::Source),
+    }
+}
+
+/// Where the names of a source stand that is read.
+fn names_of(alloc: Global, raw: &RawProgram) -> Result<Names, AllocError> {
+    match places_of_calls(alloc, raw) {
+        Ok(calls) => {
+            let mut names = Names {
+                calls,
+                functions: Vec::new(alloc),
+                globals: Vec::new(alloc),
+            };
+            match add_items(&mut names, raw.items()) {
+                Ok(()) => Ok(names),
+                Err(error) => Err(error),
+            }
+        }
+        Err(error) => Err(error),
+    }
+}
+
+/// Adds where the names of functions and globals stand.
+fn add_items(names: &mut Names, items: &[RawItem]) -> Result<(), AllocError> {
+    for item in items {
+        match item {
+            RawItem::Global { name, .. } => push(&mut names.globals, name.at),
+            RawItem::GlobalArray { name, .. } => push(&mut names.globals, name.at),
+            RawItem::Table(_) => Ok(()),
+            RawItem::Prototype(_) => Ok(()),
+            RawItem::Function(function) => push(&mut names.functions, function.name.at),
+        }?;
+    }
+    Ok(())
+}
+
+/// Appends the text of the call whose name stands at that place, with one blank for each white space in it.
+fn put_call_text(text: &mut Text, source: &[u8], tokens: &[Token], at: u32) {
+    let rest = rest_of(source, at);
+    let length = end_of_call(tokens, at).saturating_sub(at) as usize;
+    let shown = length.min(CALL_BYTES).min(rest.len());
+    let mut was_blank = false;
+    for byte in &rest[..shown] {
+        let is_blank = *byte <= b' ';
+        if !is_blank {
+            text.bytes(&[*byte]);
+        } else if !was_blank {
+            text.words(" ");
+        }
+        was_blank = is_blank;
+    }
+    text.words(if shown < length { " .." } else { "" })
+}
+
+/// The place behind the parenthesis that closes the call whose name stands at that place.
+fn end_of_call(tokens: &[Token], at: u32) -> u32 {
+    let mut depth: u32 = 0;
+    for token in tokens {
+        if token.at > at {
+            match token.kind {
+                TokenKind::Mark(Mark::LeftParenthesis) => depth = depth.saturating_add(1),
+                TokenKind::Mark(Mark::RightParenthesis) => {
+                    if depth <= 1 {
+                        return token.at.saturating_add(1);
+                    }
+                    depth -= 1;
+                }
+                _ => (),
+            }
+        }
+    }
+    at
+}
+
+/// The last of these places that isn't behind that place: of the function in which it stands.
+fn function_at(functions: &[u32], at: u32) -> Option<u32> {
+    let mut found = None;
+    for function in functions {
+        if *function <= at {
+            found = Some(*function);
+        }
+    }
+    found
+}
+
+/// The bytes from a place on.
+fn rest_of(source: &[u8], at: u32) -> &[u8] {
+    let from = (at as usize).min(source.len());
+    &source[from..]
+}
+
+/// Whether names have this byte.
+fn is_of_name(byte: u8) -> bool {
+    byte.is_ascii_alphanumeric() || byte == b'_'
+}

@@ -1,0 +1,9 @@
+use std::alloc::AllocError;
+
+/// Appends one more to a list.
+pub fn push<T: Drop>(all: &mut Vec<T>, one: T) -> Result<(), AllocError> {
+    match all.push(one) {
+        Ok(()) => Ok(()),
+        Err(_) => Err(AllocError),
+    }
+}

@@ -1,0 +1,274 @@
+// Where a run has stopped: the threads that never ran, the resources in use, and the segment that was cut.
+//
+// All is read off the world at the stop: pc, registers and the words of the stacks, with the certificate. docs/MACHINE.md says how
+// frames lie.
+
+use crate::again::holders::Holders;
+use crate::places::{Access, Array, Places};
+use crate::report::code::{function_at, operation_at, site_of};
+use crate::report::stacks::{below, return_of};
+use crate::text::Text;
+use cap_word::{Stop, ThreadId, TrapKind};
+use flat_code::Op;
+use schedule_log::{Entry, StopLine};
+use stack_certificate::FunctionFact;
+use std::alloc::Global;
+use thread_core::{Standing, World};
+
+/// The most threads that live.
+const MOST_THREADS: u32 = 65_535;
+
+/// The most threads that are listed.
+const LISTED: u64 = 20;
+
+/// The most calls above that are shown.
+const MOST_CALLS: u32 = 8;
+
+/// Where a thread's innermost frame returns to its start.
+const END_STUB: u32 = 0x1000;
+
+/// Appends what the world at a stop tells beyond the log: how many threads never ran, of which `left` are left that did; the
+/// resources in use, with those who hold the resources 1 to 7 where that is known; and where the segment was that the last line of
+/// the log cuts, if it does.
+pub fn put_stop(
+    alloc: Global,
+    text: &mut Text,
+    places: &Places,
+    world: &World,
+    left: u64,
+    last: &Entry,
+    holders: &[Holders],
+) {
+    let never = u64::from(world.live()).saturating_sub(left);
+    if never > 0 {
+        text.form("left: $ threads that never ran\n", &[never]);
+    }
+    put_uses(text, world, holders);
+    match last {
+        Entry::Stop(StopLine::Cut { thread, stop, .. }) => {
+            put_cut(alloc, text, places, world, *thread, *stop)
+        }
+        _ => (),
+    }
+}
+
+/// Appends a line for each resource that has a cap and is in use, with who holds it where that is known.
+fn put_uses(text: &mut Text, world: &World, holders: &[Holders]) {
+    for resource in 1..8u32 {
+        let used = world.used(resource);
+        if used > 0 {
+            let cap = world.cap(resource);
+            text.form(
+                "resource $: $ of $ in use",
+                &[u64::from(resource), u64::from(used), u64::from(cap)],
+            );
+            if let Some(held) = holders.get(resource as usize - 1) {
+                put_holders(text, held);
+            }
+            text.words("\n");
+        }
+    }
+}
+
+/// Appends who holds units of a resource, the first 20 threads of them. What a thread gave back beyond what it took was another's.
+fn put_holders(text: &mut Text, holders: &Holders) {
+    let mut shown: u64 = 0;
+    for (thread, units) in &holders.held {
+        if *units != 0 {
+            if shown < LISTED {
+                text.words(if shown == 0 { ": " } else { ", " });
+                text.words(if *units < 0 { "-" } else { "" });
+                text.form("$ by thread $", &[units.unsigned_abs(), u64::from(*thread)]);
+            }
+            shown = shown.saturating_add(1);
+        }
+    }
+    if shown > LISTED {
+        text.form(", the others by $ more threads", &[shown - LISTED]);
+    }
+}
+
+/// Appends where the segment of a thread was cut.
+fn put_cut(
+    alloc: Global,
+    text: &mut Text,
+    places: &Places,
+    world: &World,
+    thread: u32,
+    stop: Stop,
+) {
+    text.form("stopped: thread $", &[u64::from(thread)]);
+    match standing_of(world, thread) {
+        Some(standing) => put_standing(alloc, text, places, world, stop, standing),
+        None => text.words("\n"),
+    }
+}
+
+/// Appends in which function, why and at which place a thread was cut that stands so, and the calls above.
+fn put_standing(
+    alloc: Global,
+    text: &mut Text,
+    places: &Places,
+    world: &World,
+    stop: Stop,
+    standing: Standing,
+) {
+    let Some((function, fact)) = function_at(world.accepted(), standing.pc) else {
+        text.words("\n");
+        return;
+    };
+    let op = operation_at(world.accepted(), function, fact, standing.pc);
+    text.words(" in ");
+    places.put_function(text, function);
+    put_reason(text, stop, standing);
+    let bound = match stop {
+        Stop::Trap(TrapKind::Index) => Some(standing.t1),
+        _ => None,
+    };
+    put_where(alloc, text, places, function, bound, op);
+    text.words("\n");
+    if is_in_its_frame(stop, op) {
+        put_calls(text, places, world, standing.sp, fact);
+    }
+}
+
+/// Where a thread stands, by its number: none where it doesn't live.
+fn standing_of(world: &World, number: u32) -> Option<Standing> {
+    for slot in 0..MOST_THREADS {
+        if let Some(standing) = world.standing(ThreadId { slot, number }) {
+            return Some(standing);
+        }
+    }
+    None
+}
+
+/// Appends why the run stopped.
+fn put_reason(text: &mut Text, stop: Stop, standing: Standing) {
+    match stop {
+        Stop::Trap(TrapKind::Index) => put_index(text, standing, " words"),
+        Stop::Trap(TrapKind::Table) => put_index(text, standing, " members"),
+        Stop::Trap(TrapKind::Resource) => {
+            text.words(": a resource that isn't there, or an amount out of range")
+        }
+        Stop::Trap(TrapKind::Channel) => text.words(": a channel outside 0 to 63"),
+        Stop::NoChunk => text.words(": no free chunk is large enough"),
+        Stop::Fuel => text.words(": as many instructions are done as --fuel says"),
+        Stop::Threads => text.words(": 65,535 threads live"),
+    }
+}
+
+/// Appends an index and its bound, in words or members.
+fn put_index(text: &mut Text, standing: Standing, unit: &str) {
+    let index = standing.t0.cast_signed();
+    text.words(if index < 0 { ": index -" } else { ": index " });
+    text.form(
+        "$ of $",
+        &[u64::from(index.unsigned_abs()), u64::from(standing.t1)],
+    );
+    text.words(unit)
+}
+
+/// Appends the place of an operation: that of its call, or those at which the function has such an element, of a local array by its
+/// number of words.
+fn put_where(
+    alloc: Global,
+    text: &mut Text,
+    places: &Places,
+    function: u32,
+    bound: Option<u32>,
+    op: Option<&Op>,
+) {
+    let Some(op) = op else {
+        return;
+    };
+    if let Some(access) = access_of(op, bound) {
+        places.put_elements(alloc, text, function, access);
+    } else if let Some(site) = site_of(op) {
+        text.words(", at ");
+        places.put_site_text(text, site);
+    }
+}
+
+/// The element that an operation reads or assigns to, of a local array where the number of its words is known.
+fn access_of(op: &Op, bound: Option<u32>) -> Option<Access> {
+    match op {
+        Op::LoadArray { a, .. } => Some(Access {
+            array: Array::Global(*a),
+            assigns: false,
+        }),
+        Op::StoreArray { a, .. } => Some(Access {
+            array: Array::Global(*a),
+            assigns: true,
+        }),
+        Op::LoadLocal { .. } => Some(Access {
+            array: Array::Local(bound?),
+            assigns: false,
+        }),
+        Op::StoreLocal { .. } => Some(Access {
+            array: Array::Local(bound?),
+            assigns: true,
+        }),
+        _ => None,
+    }
+}
+
+/// Whether sp is surely the lowest address of the function's frame: it is at every trap, and where a chunk or a thread is wanted.
+/// Where the fuel is spent it may be in a prologue, a return, or between two chunks.
+fn is_in_its_frame(stop: Stop, op: Option<&Op>) -> bool {
+    match stop {
+        Stop::Fuel => match op {
+            None => false,
+            Some(Op::Return { .. }) => false,
+            Some(Op::Call { .. }) => false,
+            Some(Op::CallTable { .. }) => false,
+            Some(_) => true,
+        },
+        _ => true,
+    }
+}
+
+/// Appends a line for each call above a frame, by its lowest address and its function, the innermost first.
+fn put_calls(text: &mut Text, places: &Places, world: &World, sp: u32, innermost: &FunctionFact) {
+    let mut low = sp;
+    let mut fact = innermost;
+    for _ in 0..MOST_CALLS {
+        let Some(call) = call_above(world, low, fact) else {
+            return;
+        };
+        if let Some(site) = call.site {
+            text.words("  called at ");
+            places.put_site(text, site);
+            text.words("\n");
+        }
+        let Some(next) = below(world, low, fact) else {
+            return;
+        };
+        low = next;
+        fact = call.caller;
+    }
+    if return_of(world, low, fact).unwrap_or(0) > END_STUB {
+        text.words("  and by more calls above\n")
+    }
+}
+
+/// A call that a frame returns to: its site, and its function.
+#[derive(Clone, Copy)]
+struct CallAbove<'a> {
+    site: Option<u32>,
+    caller: &'a FunctionFact,
+}
+
+/// The call that a frame returns to; none where that isn't known, and of the frame that began its thread.
+fn call_above<'a>(world: &'a World, low: u32, fact: &FunctionFact) -> Option<CallAbove<'a>> {
+    let returns = return_of(world, low, fact)?;
+    if returns <= END_STUB {
+        return None;
+    }
+    let call = returns - 4;
+    let (function, caller) = function_at(world.accepted(), call)?;
+    let op = operation_at(world.accepted(), function, caller, call)?;
+    Some(CallAbove {
+        site: site_of(op),
+        caller,
+    })
+}

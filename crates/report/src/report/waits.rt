@@ -1,0 +1,52 @@
+use crate::history::numbers::WaitLength;
+use crate::places::Places;
+use crate::report::lines::WaitsPart;
+use crate::text::Text;
+use report_figures::{spread_of, total_of};
+use std::alloc::{AllocError, Global};
+use std::collections::BTreeMap;
+
+/// Appends the table of waits by the place at which threads waited.
+pub(crate) fn put_waits(alloc: Global, text: &mut Text, places: &Places, waits: &[WaitLength]) {
+    text.words("waits by place: count, total, median, 99th, greatest\n");
+    match waits_by_site(alloc, waits) {
+        Ok(mut sites) => {
+            for (site, ticks) in &mut sites {
+                put_site_waits(text, places, *site, ticks.as_mut_slice());
+            }
+        }
+        Err(AllocError) => text.lack(),
+    }
+}
+
+/// The lengths of the waits of each site.
+fn waits_by_site(
+    alloc: Global,
+    waits: &[WaitLength],
+) -> Result<BTreeMap<u32, Vec<u64>>, AllocError> {
+    let mut sites: BTreeMap<u32, Vec<u64>> = BTreeMap::new(alloc);
+    for wait in waits {
+        let ticks = sites.entry(wait.site)?.or_insert(Vec::new(alloc));
+        ticks.push(wait.ticks)?;
+    }
+    Ok(sites)
+}
+
+/// Appends the line of a site; nothing where no wait was there.
+fn put_site_waits(text: &mut Text, places: &Places, site: u32, ticks: &mut [u64]) {
+    let total = total_of(ticks).unwrap_or(u128::MAX);
+    if let Some(spread) = spread_of(ticks) {
+        let part = WaitsPart {
+            count: spread.count,
+            total,
+            median: spread.median,
+            ninety_ninth: spread.ninety_ninth,
+            greatest: spread.greatest,
+        };
+        text.words("  ");
+        places.put_site(text, site);
+        text.words(": ");
+        text.line(&part);
+        text.words("\n");
+    }
+}

@@ -1,0 +1,71 @@
+use crate::failures::Failure;
+use crate::push::push;
+use cap_io::Source;
+use cap_text::{Fields, Lines};
+use std::alloc::{AllocError, Global};
+
+/// The most bytes of a trace that is read.
+const MOST_BYTES: usize = 1_073_741_824;
+
+/// The trace of a run.
+#[derive(Drop)]
+pub struct Trace {
+    pub bytes: Vec<u8>,
+    /// The times of its events, in order, up to the first line that has none.
+    pub times: Vec<u64>,
+}
+
+impl Trace {
+    /// The trace that a source gives.
+    pub fn read<S: Source>(alloc: Global, source: &mut S) -> Result<Trace, Failure> {
+        let mut trace = Trace {
+            bytes: Vec::new(alloc),
+            times: Vec::new(alloc),
+        };
+        match trace.take_all(source) {
+            Ok(()) => Ok(trace),
+            Err(failure) => {
+                drop(trace);
+                Err(failure)
+            }
+        }
+    }
+
+    /// Takes all bytes that a source gives, and the times in them.
+    fn take_all<S: Source>(&mut self, source: &mut S) -> Result<(), Failure> {
+        let mut block = [0u8; 4096];
+        for _ in 0..u64::MAX {
+            let Ok(count) = source.read(&mut block) else {
+                return Err(Failure::Read);
+            };
+            if count == 0 {
+                return self.note_times();
+            }
+            if self.bytes.len() > MOST_BYTES {
+                return Err(Failure::Memory);
+            }
+            if self.bytes.extend_from_slice(&block[..count]).is_err() {
+                return Err(Failure::Memory);
+            }
+        }
+        self.note_times()
+    }
+
+    /// Notes the times.
+    fn note_times(&mut self) -> Result<(), Failure> {
+        for line in Lines::new(self.bytes.as_slice()) {
+            match time_of(line) {
+                Some(time) => push(&mut self.times, time)?,
+                None => return Ok(()),
+            }
+        }
+        Ok(())
+    }
+}
+
+/// The time of the event of a line: its second field.
+fn time_of(line: &[u8]) -> Option<u64> {
+    let mut fields = Fields::new(line, b' ');
+    fields.next()?;
+    fields.count()
+}

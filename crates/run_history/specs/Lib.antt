@@ -1,9 +1,0 @@
-pub mod Known
-pub mod Happenings
-pub mod Counts
-pub mod Courses
-pub mod Holds
-pub mod Reasons
-pub mod Spells
-pub mod Answers
-pub mod Numbers
