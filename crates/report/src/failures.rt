@@ -25,37 +25,28 @@ impl From<AllocError> for Failure {
 }
 
 impl Failure {
-    /// The status of the program: those of Capriccio, where they mean the same.
-    pub fn status(self) -> u8 {
+    /// The status of the program, which is that of Capriccio where that means the same, and the line that standard error takes, with
+    /// its line feed.
+    pub fn told(self) -> (u8, &'static [u8]) {
         match self {
-            Failure::Words => 2,
-            Failure::Source => 3,
-            Failure::Log => 4,
-            Failure::Read => 6,
-            Failure::Write => 7,
-            Failure::Memory => 8,
-        }
-    }
-
-    /// The line that standard error takes, with its line feed.
-    pub fn line(self) -> &'static [u8] {
-        match self {
-            Failure::Words => {
-                b"usage: report [--timeline FILE] [--graph FILE] [--log LOG] [--why] serve SRC .. | run SRC IMG CRT ..\n"
-            }
-            Failure::Source => b"report: the source is none\n",
-            Failure::Log => b"report: the log is none\n",
-            Failure::Read => b"fault: read\n",
-            Failure::Write => b"fault: write\n",
-            Failure::Memory => b"fault: memory\n",
+            Failure::Words => (
+                2,
+                b"usage: report [--timeline FILE] [--graph FILE] [--log LOG] [--why] serve SRC .. | run SRC IMG CRT ..\n",
+            ),
+            Failure::Source => (3, b"report: the source is none\n"),
+            Failure::Log => (4, b"report: the log is none\n"),
+            Failure::Read => (6, b"fault: read\n"),
+            Failure::Write => (7, b"fault: write\n"),
+            Failure::Memory => (8, b"fault: memory\n"),
         }
     }
 }
 
 /// Writes the line of a failure, and answers the status.
 pub fn tell<E: Sink>(err: &mut E, failure: Failure) -> u8 {
-    match put_all(err, failure.line()) {
-        Ok(()) => failure.status(),
-        Err(_) => failure.status(),
+    let (status, line) = failure.told();
+    match put_all(err, line) {
+        Ok(()) => status,
+        Err(_) => status,
     }
 }

@@ -227,18 +227,14 @@ impl History {
                 cost,
                 free,
                 ..
-            } => self.cut(*thread, *cost, *free),
+            } => {
+                let segment = self.segment(*thread, *cost)?;
+                Ok(Happening::Ran {
+                    segment,
+                    free: *free,
+                })
+            }
         }
-    }
-
-    /// The segment of a thread was cut.
-    fn cut(&mut self, thread: u32, cost: u64, free: u32) -> Result<Happening, HistoryError>
-        ensures known { OnOk result (self.new ≡ self.old) }
-        ensures told { IfOk result (λ told. told ≡ Ran (segment_of thread cost self.old) free) }
-        ensures count { result ≡ Err Count → 2 ^ 64 ≤ self.old.began + cost }
-    {
-        let segment = self.segment(thread, cost)?;
-        Ok(Happening::Ran { segment, free })
     }
 
     /// The segment under way, of that thread, which ends at that cost.

@@ -206,7 +206,8 @@ fn show_log<F: Shelf, K: Sink>(
     }
 }
 
-/// Shows a run by the places of its source.
+/// Shows a run by the places of its source: the report, and the pictures that are asked for. The blocking graph is stored as DOT where
+/// the file's name ends so, and else as SVG.
 fn show_placed<F: Shelf, K: Sink>(
     alloc: Global,
     wanted: &Wanted,
@@ -216,8 +217,20 @@ fn show_placed<F: Shelf, K: Sink>(
     out: &mut K,
 ) -> Result<(), Failure> {
     let found = put_text(alloc, places, run, out)?;
-    store_timeline(alloc, wanted, places, run.log, found, shelf)?;
-    store_graph(alloc, wanted, places, run.log, shelf)
+    if let Some(name) = &wanted.timeline {
+        let mut text = Text::new(alloc);
+        let written = put_times(alloc, &mut text, places, run.log, found);
+        store_whole(alloc, shelf, name.as_str(), written, text)?;
+    }
+    match &wanted.graph {
+        Some(name) => {
+            let mut text = Text::new(alloc);
+            let is_dot = name.as_str().ends_with(".dot");
+            let written = put_blocking(alloc, &mut text, places, run.log, is_dot);
+            store_whole(alloc, shelf, name.as_str(), written, text)
+        }
+        None => Ok(()),
+    }
 }
 
 /// Writes all of this.
@@ -225,14 +238,6 @@ fn put<K: Sink>(out: &mut K, bytes: &[u8]) -> Result<(), Failure> {
     match put_all(out, bytes) {
         Ok(()) => Ok(()),
         Err(_) => Err(Failure::Write),
-    }
-}
-
-/// Writes a text, where there was memory for all of it.
-fn put_whole<K: Sink>(out: &mut K, text: &Text) -> Result<(), Failure> {
-    match text.whole() {
-        Ok(written) => put(out, written.as_bytes()),
-        Err(AllocError) => Err(Failure::Memory),
     }
 }
 
@@ -245,9 +250,12 @@ fn put_text<K: Sink>(
 ) -> Result<Found, Failure> {
     let mut text = Text::new(alloc);
     let shown = match write_text(alloc, &mut text, places, run) {
-        Ok(found) => match put_whole(out, &text) {
-            Ok(()) => Ok(found),
-            Err(failure) => Err(failure),
+        Ok(found) => match text.whole() {
+            Ok(report) => match put(out, report.as_bytes()) {
+                Ok(()) => Ok(found),
+                Err(failure) => Err(failure),
+            },
+            Err(AllocError) => Err(Failure::Memory),
         },
         Err(failure) => Err(failure),
     };
@@ -274,25 +282,6 @@ fn write_text(alloc: Global, text: &mut Text, places: &Places, run: Run) -> Resu
     Ok(found)
 }
 
-/// Stores the timeline, where it is asked for.
-fn store_timeline<F: Shelf>(
-    alloc: Global,
-    wanted: &Wanted,
-    places: &Places,
-    log: &[u8],
-    found: Found,
-    shelf: &mut F,
-) -> Result<(), Failure> {
-    match &wanted.timeline {
-        Some(name) => {
-            let mut text = Text::new(alloc);
-            let written = put_times(alloc, &mut text, places, log, found);
-            store_whole(alloc, shelf, name.as_str(), written, text)
-        }
-        None => Ok(()),
-    }
-}
-
 /// Stores a picture that was written, where it could be.
 fn store_whole<F: Shelf>(
     alloc: Global,
@@ -310,23 +299,4 @@ fn store_whole<F: Shelf>(
     };
     drop(text);
     stored
-}
-
-/// Stores the blocking graph, where it is asked for: as DOT where the file's name ends so, and else as SVG.
-fn store_graph<F: Shelf>(
-    alloc: Global,
-    wanted: &Wanted,
-    places: &Places,
-    log: &[u8],
-    shelf: &mut F,
-) -> Result<(), Failure> {
-    match &wanted.graph {
-        Some(name) => {
-            let mut text = Text::new(alloc);
-            let is_dot = name.as_str().ends_with(".dot");
-            let written = put_blocking(alloc, &mut text, places, log, is_dot);
-            store_whole(alloc, shelf, name.as_str(), written, text)
-        }
-        None => Ok(()),
-    }
 }

@@ -38,13 +38,12 @@ pub fn put_times(
 ) -> Result<(), Failure> {
     let wide = if found.started > 100 { 3 } else { 1 };
     let mut rows = Rows::new(alloc, found.ended, wide);
-    match mark_all(alloc, log, found.threads, &mut rows) {
-        Ok(()) => {
-            put_rows(alloc, text, places, &rows);
-            Ok(())
-        }
-        Err(failure) => Err(failure),
-    }
+    mark_all(alloc, log, found.threads, &mut rows)?;
+    let mut sites = Vec::new(alloc);
+    let mut names = Vec::new(alloc);
+    add_sites(alloc, places, &rows, &mut sites, &mut names)?;
+    put_timeline(text, &rows, sites.as_slice(), names.as_slice());
+    Ok(())
 }
 
 /// Marks what all lines of a log tell, and then the waits that are under way when the run ends, as if they ended then. All threads
@@ -92,16 +91,6 @@ fn wait_left(history: &History, thread: u32, end: u64) -> Option<Wait> {
     }
 }
 
-/// Appends the timeline with these rows.
-fn put_rows(alloc: Global, text: &mut Text, places: &Places, rows: &Rows) {
-    let mut sites = Vec::new(alloc);
-    let mut names = Vec::new(alloc);
-    match add_sites(alloc, places, rows, &mut sites, &mut names) {
-        Ok(()) => put_timeline(text, rows, sites.as_slice(), names.as_slice()),
-        Err(AllocError) => text.lack(),
-    }
-}
-
 /// Adds the sites at which threads wait, and their names.
 fn add_sites(
     alloc: Global,
@@ -127,13 +116,15 @@ pub fn put_blocking(
 ) -> Result<(), Failure> {
     let mut edges = Vec::new(alloc);
     let mut nodes: BTreeMap<u32, SiteKey> = BTreeMap::new(alloc);
-    match note_all(&mut edges, &mut nodes, log) {
-        Ok(()) => {
-            put_nodes(alloc, text, places, &nodes, edges.as_slice(), is_dot);
-            Ok(())
-        }
-        Err(failure) => Err(failure),
+    note_all(&mut edges, &mut nodes, log)?;
+    let mut names = Vec::new(alloc);
+    add_nodes(alloc, places, &nodes, &mut names)?;
+    if is_dot {
+        put_graph(text, names.as_slice(), edges.as_slice());
+    } else {
+        put_drawing(text, names.as_slice(), edges.as_slice());
     }
+    Ok(())
 }
 
 /// Notes the nodes and the edges of a log.
@@ -179,28 +170,6 @@ fn note(
             },
         ),
         _ => Ok(()),
-    }
-}
-
-/// Appends the blocking graph with these nodes and edges.
-fn put_nodes(
-    alloc: Global,
-    text: &mut Text,
-    places: &Places,
-    nodes: &BTreeMap<u32, SiteKey>,
-    edges: &[GraphEdge],
-    is_dot: bool,
-) {
-    let mut names = Vec::new(alloc);
-    match add_nodes(alloc, places, nodes, &mut names) {
-        Ok(()) => {
-            if is_dot {
-                put_graph(text, names.as_slice(), edges);
-            } else {
-                put_drawing(text, names.as_slice(), edges);
-            }
-        }
-        Err(AllocError) => text.lack(),
     }
 }
 

@@ -1,7 +1,7 @@
 // Where the calls, the functions and the elements of arrays of a source stand.
 pub mod elements;
 
-ghost use Rattle.std.specs.Prelude.{◌≤◌, length, IfOk};
+ghost use Rattle.std.specs.Prelude.{◌≤◌, length};
 
 use crate::failures::Failure;
 use crate::places::elements::{Element, elements_of};
@@ -52,7 +52,10 @@ pub struct Access {
 impl<'a> Places<'a> {
     /// The places of the source of these bytes, in the file of that name.
     pub fn read(alloc: Global, file: &'a str, source: Vec<u8>) -> Result<Places<'a>, Failure> {
-        match tokens_of(alloc, source.as_slice()) {
+        if source.len() > MOST_BYTES {
+            return Err(Failure::Source);
+        }
+        match lex(alloc, source.as_slice()) {
             Ok(tokens) => match names_in(alloc, source.as_slice(), tokens.as_slice()) {
                 Ok(names) => Ok(Places {
                     file,
@@ -60,9 +63,10 @@ impl<'a> Places<'a> {
                     tokens,
                     names,
                 }),
-                Err(error) => Err(error),
+                Err(failure) => Err(failure),
             },
-            Err(error) => Err(error),
+            Err(LexError::Memory) => Err(Failure::Memory),
+            Err(_) => Err(Failure::Source),
         }
     }
 
@@ -217,7 +221,7 @@ impl<'a> Places<'a> {
         let rest = rest_of(self.source.as_slice(), at);
         let mut length: usize = 0;
         for byte in rest {
-            if !is_of_name(*byte) {
+            if !byte.is_ascii_alphanumeric() && *byte != b'_' {
                 return &rest[..length.min(rest.len())];
             }
             length = length.saturating_add(1);
@@ -234,20 +238,6 @@ const SHOWN: u64 = 4;
 
 /// The most bytes of a call that are shown.
 const CALL_BYTES: usize = 60;
-
-/// The tokens of a source.
-fn tokens_of(alloc: Global, source: &[u8]) -> Result<Vec<Token>, Failure>
-    ensures { IfOk result (λ tokens. length source.now ≤ 1048576) }
-{
-    if source.len() > MOST_BYTES {
-        return Err(Failure::Source);
-    }
-    match lex(alloc, source) {
-        Ok(tokens) => Ok(tokens),
-        Err(LexError::Memory) => Err(Failure::Memory),
-        Err(_) => Err(Failure::Source),
-    }
-}
 
 /// Where the names of a source with these tokens stand.
 fn names_in(alloc: Global, source: &[u8], tokens: &[Token]) -> Result<Names, Failure>
@@ -352,9 +342,4 @@ fn function_at(functions: &[u32], at: u32) -> Option<u32> {
 fn rest_of(source: &[u8], at: u32) -> &[u8] {
     let from = (at as usize).min(source.len());
     &source[from..]
-}
-
-/// Whether names have this byte.
-fn is_of_name(byte: u8) -> bool {
-    byte.is_ascii_alphanumeric() || byte == b'_'
 }

@@ -15,7 +15,7 @@ use crate::again::Decided;
 use crate::failures::Failure;
 use crate::history::HistoryError;
 use crate::history::happenings::Happening;
-use crate::history::reading::{ReadError, Reading, Watch, numbers_of};
+use crate::history::reading::{ReadError, Watch, numbers_of};
 use crate::history::spells::{Marks, Spells};
 use crate::history::takes::Takes;
 use crate::places::Places;
@@ -52,16 +52,16 @@ pub struct Found {
 
 /// What is read off a log beside its numbers, as it is read.
 #[derive(Drop)]
-struct Course<'a> {
+pub(crate) struct Course<'a> {
     /// At the number of each site, whether its call is `accept`.
-    accepts: &'a [bool],
+    pub(crate) accepts: &'a [bool],
     /// And whether it is `take`.
     at_take: &'a [bool],
     options: Options,
     /// The wait at `take` that each thread went past last, since it took its request.
-    takes: Takes,
+    pub(crate) takes: Takes,
     /// One more than the greatest number of a thread that ran, and how many threads ran.
-    threads: u32,
+    pub(crate) threads: u32,
     started: u64,
     choices: u64,
     spells: Spells,
@@ -205,7 +205,11 @@ fn put_course(
     let chunks = course.options.marks.chunks;
     match numbers_of(alloc, log, accepts, chunks, &mut course) {
         Ok(reading) => {
-            let left = put_reading(alloc, text, places, times, &reading, &course, decided);
+            let numbers = &reading.numbers;
+            put_requests(alloc, text, numbers, times);
+            put_waits(alloc, text, places, numbers.waits.as_slice());
+            put_choices(text, numbers.most_held, &course, decided);
+            let left = put_left(text, places, &reading.history, &course);
             drop(reading);
             Ok(Found {
                 left,
@@ -217,30 +221,6 @@ fn put_course(
         Err(ReadError::Memory) => Err(Failure::Memory),
         Err(_) => Err(Failure::Log),
     }
-}
-
-/// Appends the report on what was read. The answer is how many of the threads that ran are left.
-fn put_reading(
-    alloc: Global,
-    text: &mut Text,
-    places: &Places,
-    times: &[u64],
-    reading: &Reading,
-    course: &Course,
-    decided: Option<Decided>,
-) -> u64 {
-    let numbers = &reading.numbers;
-    put_requests(alloc, text, numbers, times);
-    put_waits(alloc, text, places, numbers.waits.as_slice());
-    put_choices(text, numbers.most_held, course, decided);
-    put_left(
-        text,
-        places,
-        &reading.history,
-        &course.takes,
-        course.accepts,
-        course.threads,
-    )
 }
 
 /// Appends the lines on chunks, choices and the gate.

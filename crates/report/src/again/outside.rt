@@ -23,7 +23,8 @@ pub(crate) fn reach(world: &mut World, clock: u64) -> bool
     true
 }
 
-/// An item comes at that time, as the log says. False where it can't.
+/// An item comes at that time, as the log says. False where it can't: at a clock that is past, or a message where there is no such
+/// channel.
 pub(crate) fn come(world: &mut World, clock: u64, item: &Item) -> bool
     requires { IsBetween world.old }
     ensures { IsBetween world.new }
@@ -33,35 +34,26 @@ pub(crate) fn come(world: &mut World, clock: u64, item: &Item) -> bool
     }
     match item {
         Item::Arrive { value } => {
-            arrive(world, clock, value.cast_unsigned());
+            world.deliver(Event {
+                time: clock,
+                kind: EventKind::Arrive {
+                    value: value.cast_unsigned(),
+                },
+            });
             true
         }
-        Item::Data { channel, value } => send(world, clock, *channel, value.cast_unsigned()),
+        Item::Data { channel, value } => {
+            if *channel >= CHANNELS {
+                return false;
+            }
+            world.deliver(Event {
+                time: clock,
+                kind: EventKind::Message {
+                    channel: *channel,
+                    value: value.cast_unsigned(),
+                },
+            });
+            true
+        }
     }
-}
-
-/// A request comes.
-fn arrive(world: &mut World, time: u64, value: u32)
-    requires { IsBetween world.old }
-    ensures { IsBetween world.new }
-{
-    world.deliver(Event {
-        time,
-        kind: EventKind::Arrive { value },
-    });
-}
-
-/// A message comes. False where there is no such channel.
-fn send(world: &mut World, time: u64, channel: u32, value: u32) -> bool
-    requires { IsBetween world.old }
-    ensures { IsBetween world.new }
-{
-    if channel >= CHANNELS {
-        return false;
-    }
-    world.deliver(Event {
-        time,
-        kind: EventKind::Message { channel, value },
-    });
-    true
 }

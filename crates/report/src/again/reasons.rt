@@ -2,7 +2,7 @@ ghost use Rattle.std.specs.Prelude.{◌≡◌, IfSome};
 ghost use Rattle.report.specs.Counts.{with_reason};
 
 /// What decided a choice.
-#[derive(Clone, Copy, PartialEq, Eq)]
+#[derive(Clone, Copy)]
 pub enum Reason {
     /// The gate: if no thread counted as one at `accept`, another would have been chosen.
     Gate,

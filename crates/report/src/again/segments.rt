@@ -1,7 +1,6 @@
 // A segment of a world that is made again.
 ghost use Rattle.std.specs.Prelude.{◌≡◌, None, IfSome};
 ghost use Rattle.report.specs.Between.{GoesOn, IsBetween};
-ghost use Rattle.thread_core.specs.Turns.{LeavesRun};
 
 use crate::push::push;
 use cap_word::{Ready, ThreadId};
@@ -20,23 +19,14 @@ pub(crate) fn run_segment(
     if !world.is_ready(thread) {
         return Some(false);
     }
-    let turn = world.begin(thread);
-    go_on(world, turn, started)
-}
-
-/// The segment under way, whose thread did this last, goes on to its end.
-fn go_on(world: &mut World, first: Turn, started: &mut Vec<ThreadId>) -> Option<bool>
-    requires { LeavesRun first world.old }
-    ensures { IfSome result (λ goes. GoesOn goes world.new) }
-{
-    let mut turn = first;
+    let mut turn = world.begin(thread);
     for _ in 0..u64::MAX {
         match turn {
             Turn::Out { .. } => {
                 turn = world.proceed();
             }
-            Turn::Spawned { thread } => {
-                push(started, thread).ok()?;
+            Turn::Spawned { thread: spawned } => {
+                push(started, spawned).ok()?;
                 turn = world.proceed();
             }
             Turn::Blocked { .. } => return Some(true),

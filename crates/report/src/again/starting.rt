@@ -109,30 +109,24 @@ fn start_files<F: Shelf>(
     }
 }
 
-/// Makes the run of an accepted program once more.
+/// Makes the run of an accepted program once more, with the policy's knee in the pressures of all resources.
 fn start_accepted(alloc: Global, accepted: Accepted, policy: Policy, log: &[u8]) -> Option<Told>
     requires range { IsRunPolicy policy }
     requires pool { pool_bytes policy accepted.certificate ≤ 67108864 }
 {
     match made_world(alloc, accepted, policy) {
-        Ok(world) => measure(alloc, world, policy, log),
+        Ok(mut world) => {
+            let knee = policy.knee;
+            let call = move |used: u32, cap: u32| -> u32
+                requires { (knee ≤ 999) × IsReading used cap }
+                ensures { result ≡ curve_value (Knee knee) used cap }
+            { past_knee(knee, used, cap) };
+            let told = make_measured(alloc, &mut world, policy, log, call);
+            let_go(world);
+            told
+        }
         Err(AllocError) => None,
     }
-}
-
-/// Makes the run of a world, with the policy's knee in the pressures of all resources.
-fn measure(alloc: Global, mut world: World, policy: Policy, log: &[u8]) -> Option<Told>
-    requires range { IsRunPolicy policy }
-    requires between { IsBetween world }
-{
-    let knee = policy.knee;
-    let call = move |used: u32, cap: u32| -> u32
-        requires { (knee ≤ 999) × IsReading used cap }
-        ensures { result ≡ curve_value (Knee knee) used cap }
-    { past_knee(knee, used, cap) };
-    let told = make_measured(alloc, &mut world, policy, log, call);
-    let_go(world);
-    told
 }
 
 /// Makes the run of a world, with this way to measure pressures.

@@ -77,44 +77,28 @@ impl Spells {
         match self.since {
             None => {
                 if is_open {
-                    Some(self)
-                } else {
-                    self.close(clock)
+                    return Some(self);
                 }
+                let times = self.times.checked_add(1)?;
+                Some(Spells {
+                    since: Some(clock),
+                    times,
+                    ticks: self.ticks,
+                })
             }
             Some(since) => {
-                if is_open {
-                    self.open(since, clock)
-                } else {
-                    Some(self)
+                if !is_open {
+                    return Some(self);
                 }
+                let length = clock.checked_sub(since)?;
+                let ticks = self.ticks.checked_add(length)?;
+                Some(Spells {
+                    since: None,
+                    times: self.times,
+                    ticks,
+                })
             }
         }
-    }
-
-    /// The gate closes.
-    fn close(self, clock: u64) -> Option<Spells>
-        ensures { IfSome result (λ spells. spells ≡ turned None false clock self) }
-    {
-        let times = self.times.checked_add(1)?;
-        Some(Spells {
-            since: Some(clock),
-            times,
-            ticks: self.ticks,
-        })
-    }
-
-    /// The gate, closed since that clock, opens.
-    fn open(self, since: u64, clock: u64) -> Option<Spells>
-        ensures { IfSome result (λ spells. spells ≡ turned (Some since) true clock self) }
-    {
-        let length = clock.checked_sub(since)?;
-        let ticks = self.ticks.checked_add(length)?;
-        Some(Spells {
-            since: None,
-            times: self.times,
-            ticks,
-        })
     }
 }
 

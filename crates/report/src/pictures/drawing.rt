@@ -45,7 +45,15 @@ const MEANING: &str =
 fn put_arrows(text: &mut Text, edges: &[GraphEdge]) {
     text.words(TIP);
     for edge in edges {
-        put_arrow(text, arrow_of(edge));
+        let arrow = arrow_of(edge);
+        let bow = arrow.bow.min(FARTHEST);
+        let (side, far) = if arrow.goes_down {
+            (RIGHT, RIGHT + bow)
+        } else {
+            (LEFT, LEFT - bow)
+        };
+        let Arrow { start, end, .. } = arrow;
+        text.form(ARROW, &[side, start, far, start, far, end, side, end])
     }
 }
 
@@ -95,18 +103,6 @@ fn arrow_of(edge: &GraphEdge) -> Arrow {
 const ARROW: &str =
     "<path d=\"M$,$ C$,$ $,$ $,$\" fill=\"none\" stroke=\"#555555\" marker-end=\"url(#tip)\"/>\n";
 
-/// Appends an arrow.
-fn put_arrow(text: &mut Text, arrow: Arrow) {
-    let bow = arrow.bow.min(FARTHEST);
-    let (side, far) = if arrow.goes_down {
-        (RIGHT, RIGHT + bow)
-    } else {
-        (LEFT, LEFT - bow)
-    };
-    let Arrow { start, end, .. } = arrow;
-    text.form(ARROW, &[side, start, far, start, far, end, side, end])
-}
-
 /// The head of a label on a white ground that begins at a place, and of one that ends there.
 const BEGINS: &str =
     "<text x=\"$\" y=\"$\" text-anchor=\"start\" paint-order=\"stroke\" stroke=\"#ffffff\" stroke-width=\"4\">";
@@ -114,12 +110,14 @@ const BEGINS: &str =
 const ENDS: &str =
     "<text x=\"$\" y=\"$\" text-anchor=\"end\" paint-order=\"stroke\" stroke=\"#ffffff\" stroke-width=\"4\">";
 
-/// Appends the labels of the arrows.
+/// Appends the labels of the arrows. Arrows of several lengths that have the same middle have their labels at several heights.
 fn put_labels(text: &mut Text, edges: &[GraphEdge]) {
     for edge in edges {
         let arrow = arrow_of(edge);
         let bow = arrow.bow.min(FARTHEST) * 3 / 4 + 4;
-        let y = label_y(arrow, edge);
+        let lower = (edge.from.abs_diff(edge.to) % 4) as u64 * 12;
+        let middle = (arrow.start / 2).saturating_add(arrow.end / 2);
+        let y = middle.saturating_add(lower);
         if arrow.goes_down {
             text.form(BEGINS, &[RIGHT + bow, y]);
         } else {
@@ -128,13 +126,4 @@ fn put_labels(text: &mut Text, edges: &[GraphEdge]) {
         put_label(text, edge);
         text.words("</text>\n");
     }
-}
-
-/// The height of the label of an edge's arrow. Arrows of several lengths that have the same middle have their labels at several
-/// heights.
-fn label_y(arrow: Arrow, edge: &GraphEdge) -> u64 {
-    let lower = (edge.from.abs_diff(edge.to) % 4) as u64 * 12;
-    (arrow.start / 2)
-        .saturating_add(arrow.end / 2)
-        .saturating_add(lower)
 }

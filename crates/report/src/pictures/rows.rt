@@ -67,7 +67,8 @@ impl Rows {
         column_of(clock, self.end) / self.wide.max(1)
     }
 
-    /// Marks what a thread does from one clock to another.
+    /// Marks what a thread does from one clock to another. Marks meet in at most one place: what is done there first is shown, and a
+    /// mark that has no place of its own isn't kept.
     fn mark(&mut self, thread: u32, from: u64, to: u64, doing: Doing) -> Result<(), AllocError> {
         let mark = Mark {
             from: self.place_of(from),
@@ -75,19 +76,13 @@ impl Rows {
             doing,
         };
         let row = self.rows.entry(thread)?.or_insert(Vec::new(self.alloc));
-        extend(row, mark)
-    }
-}
-
-/// Extends a row by a mark. Marks meet in at most one place: what is done there first is shown, and a mark that has no place of its
-/// own isn't kept.
-fn extend(row: &mut Vec<Mark>, mark: Mark) -> Result<(), AllocError> {
-    match row.last_mut() {
-        None => push(row, mark),
-        Some(last) => match follow(last, mark) {
-            Some(rest) => push(row, rest),
-            None => Ok(()),
-        },
+        match row.last_mut() {
+            None => push(row, mark),
+            Some(last) => match follow(last, mark) {
+                Some(rest) => push(row, rest),
+                None => Ok(()),
+            },
+        }
     }
 }
 

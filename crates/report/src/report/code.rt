@@ -32,21 +32,15 @@ pub(crate) fn operation_at<'a>(
         return None;
     }
     let word = u64::from(address.checked_sub(fact.entry)?) / 4;
-    let place = place_among(accepted.words_before(function), word)?;
-    functions[number].ops.as_slice().get(place)
-}
-
-/// The place of the last of these rising numbers that isn't above a number; none where all are.
-fn place_among(numbers: &[u64], most: u64) -> Option<usize> {
     let mut found = None;
     let mut place: usize = 0;
-    for number in numbers {
-        if *number <= most {
+    for first in accepted.words_before(function) {
+        if *first <= word {
             found = Some(place);
         }
         place = place.saturating_add(1);
     }
-    found
+    functions[number].ops.as_slice().get(found?)
 }
 
 /// The site of an operation that has one.

@@ -46,48 +46,36 @@ fn add_latencies(
     times: &[u64],
     to_last: bool,
 ) -> Result<Option<Latency>, AllocError> {
-    let mut slowest = None;
+    let mut slowest: Option<Latency> = None;
     for request in 0..numbers.answers.len() {
         if let Some(latency) = latency_of(numbers, times, request, to_last) {
-            slowest = Some(slower(slowest, latency));
+            slowest = match slowest {
+                Some(slow) if slow.ticks >= latency.ticks => Some(slow),
+                _ => Some(latency),
+            };
             ticks.push(latency.ticks)?;
         }
     }
     Ok(slowest)
 }
 
-/// The slower of two, and the earlier where they took as long.
-fn slower(before: Option<Latency>, one: Latency) -> Latency {
-    match before {
-        Some(slow) => { if slow.ticks < one.ticks { one } else { slow } }
-        None => one,
-    }
-}
-
 /// How long the request of that number took to its first answer, or to its last one; none where it has none.
 fn latency_of(numbers: &Numbers, times: &[u64], request: usize, to_last: bool) -> Option<Latency> {
+    let line = *numbers.arrivals.as_slice().get(request)?;
     match (
         numbers.answers.as_slice().get(request),
         numbers.takes.as_slice().get(request),
-        arrival_of(numbers, times, request),
+        times.get(line as usize),
     ) {
         (Some(Some(given)), Some(take), Some(arrived)) => {
             let answered = if to_last { given.last } else { given.first };
             Some(Latency {
-                ticks: answered.saturating_sub(arrived),
-                arrived,
+                ticks: answered.saturating_sub(*arrived),
+                arrived: *arrived,
                 thread: take.thread,
             })
         }
         _ => None,
-    }
-}
-
-/// When the request of that number came, by the trace.
-fn arrival_of(numbers: &Numbers, times: &[u64], request: usize) -> Option<u64> {
-    match numbers.arrivals.as_slice().get(request) {
-        Some(line) => times.get(*line as usize).copied(),
-        None => None,
     }
 }
 
@@ -109,26 +97,23 @@ fn put_latencies(
 ) {
     let mut ticks = Vec::new(alloc);
     match add_latencies(&mut ticks, numbers, times, to_last) {
-        Ok(Some(slowest)) => put_spread(text, form, ticks.as_mut_slice(), slowest),
+        Ok(Some(slowest)) => {
+            if let Some(spread) = spread_of(ticks.as_mut_slice()) {
+                text.form(
+                    form,
+                    &[
+                        spread.least,
+                        spread.median,
+                        spread.ninetieth,
+                        spread.ninety_ninth,
+                        spread.greatest,
+                        slowest.arrived,
+                        u64::from(slowest.thread),
+                    ],
+                )
+            }
+        }
         Ok(None) => (),
         Err(AllocError) => text.lack(),
-    }
-}
-
-/// Appends the same, by what each took and the one that took longest.
-fn put_spread(text: &mut Text, form: &str, ticks: &mut [u64], slowest: Latency) {
-    if let Some(spread) = spread_of(ticks) {
-        text.form(
-            form,
-            &[
-                spread.least,
-                spread.median,
-                spread.ninetieth,
-                spread.ninety_ninth,
-                spread.greatest,
-                slowest.arrived,
-                u64::from(slowest.thread),
-            ],
-        )
     }
 }

@@ -7,11 +7,12 @@ use thread_core::World;
 /// The address of the first chunk.
 const FIRST: u64 = 0x8000_0000;
 
-/// A chunk with the address that it begins at.
+/// A chunk with the address that it begins at, and that behind it.
 #[derive(Clone, Copy)]
 struct Chunk {
     number: u32,
     start: u64,
+    end: u64,
 }
 
 /// The chunk that has a byte at an address; none where none has.
@@ -20,20 +21,13 @@ fn chunk_at(world: &World, address: u64) -> Option<Chunk>
 {
     let mut start = FIRST;
     for number in 0..world.cap(0) {
-        let end = start.saturating_add(bytes_of(world, number));
+        let end = start.saturating_add(u64::from(world.chunk_words(number)) * 4);
         if start <= address && address < end {
-            return Some(Chunk { number, start });
+            return Some(Chunk { number, start, end });
         }
         start = end;
     }
     None
-}
-
-/// The bytes of a chunk.
-fn bytes_of(world: &World, chunk: u32) -> u64
-    requires { chunk < world.now.machine.areas.pool.count }
-{
-    u64::from(world.chunk_words(chunk)) * 4
 }
 
 /// A word of a chunk; none where it hasn't so many.
@@ -59,7 +53,7 @@ pub(crate) fn return_of(world: &World, low: u32, fact: &FunctionFact) -> Option<
 pub(crate) fn below(world: &World, low: u32, fact: &FunctionFact) -> Option<u32> {
     let chunk = chunk_at(world, u64::from(low))?;
     let end = u64::from(low) + u64::from(fact.frame);
-    if end < chunk.start.saturating_add(bytes_of(world, chunk.number)) {
+    if end < chunk.end {
         return u32::try_from(end).ok();
     }
     word_of(world, chunk.number, 1)

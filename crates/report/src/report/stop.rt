@@ -46,7 +46,11 @@ pub fn put_stop(
     put_uses(text, world, holders);
     match last {
         Entry::Stop(StopLine::Cut { thread, stop, .. }) => {
-            put_cut(alloc, text, places, world, *thread, *stop)
+            text.form("stopped: thread $", &[u64::from(*thread)]);
+            match standing_of(world, *thread) {
+                Some(standing) => put_standing(alloc, text, places, world, *stop, standing),
+                None => text.words("\n"),
+            }
         }
         _ => (),
     }
@@ -85,22 +89,6 @@ fn put_holders(text: &mut Text, holders: &Holders) {
     }
     if shown > LISTED {
         text.form(", the others by $ more threads", &[shown - LISTED]);
-    }
-}
-
-/// Appends where the segment of a thread was cut.
-fn put_cut(
-    alloc: Global,
-    text: &mut Text,
-    places: &Places,
-    world: &World,
-    thread: u32,
-    stop: Stop,
-) {
-    text.form("stopped: thread $", &[u64::from(thread)]);
-    match standing_of(world, thread) {
-        Some(standing) => put_standing(alloc, text, places, world, stop, standing),
-        None => text.words("\n"),
     }
 }
 
