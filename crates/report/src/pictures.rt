@@ -27,8 +27,15 @@ use schedule_log::{Entry, read_entry};
 use std::alloc::{AllocError, Global};
 use std::collections::BTreeMap;
 
-/// Appends the timeline of the run with this log, as SVG, by what the report on it found. None of its entries is kept. Whether there
-/// was memory for all that was appended, the text says.
+/// How many threads have a row in which a place is one column wide; with more, places are wider, so that the picture stays small.
+const NARROW_ROWS: u64 = 100;
+
+/// How many columns a place has then.
+const WIDE: u32 = 3;
+
+/// Appends the timeline of the run with this log, as SVG, by what the report on it found. None of its entries is kept. `Log` comes
+/// where a line is no entry's, or a clock or a count would be 2^64 or more, and `Memory` where there is none for the rows; whether
+/// there was memory for all that was appended, the text says.
 pub fn put_times(
     alloc: Global,
     text: &mut Text,
@@ -36,7 +43,7 @@ pub fn put_times(
     log: &[u8],
     found: Found,
 ) -> Result<(), Failure> {
-    let wide = if found.started > 100 { 3 } else { 1 };
+    let wide = if found.started > NARROW_ROWS { WIDE } else { 1 };
     let mut rows = Rows::new(alloc, found.ended, wide);
     mark_all(alloc, log, found.threads, &mut rows)?;
     let mut sites = Vec::new(alloc);
@@ -106,7 +113,8 @@ fn add_sites(
     Ok(())
 }
 
-/// Appends the blocking graph of the run with this log, as SVG or as DOT. Whether there was memory for all of it, the text says.
+/// Appends the blocking graph of the run with this log, as SVG or as DOT. `Log` comes where a line is no entry's, and `Memory` where
+/// there is none for the nodes and edges; whether there was memory for all that was appended, the text says.
 pub fn put_blocking(
     alloc: Global,
     text: &mut Text,

@@ -50,7 +50,8 @@ pub struct Access {
 }
 
 impl<'a> Places<'a> {
-    /// The places of the source of these bytes, in the file of that name.
+    /// The places of the source of these bytes, in the file of that name. `Source` comes where it is none, and `Memory` where there is
+    /// none for its tokens, its tree or the places.
     pub fn read(alloc: Global, file: &'a str, source: Vec<u8>) -> Result<Places<'a>, Failure> {
         if source.len() > MOST_BYTES {
             return Err(Failure::Source);
@@ -128,19 +129,15 @@ impl<'a> Places<'a> {
         let number = function as usize;
         let from = self.function(number);
         let to = self.function(number.saturating_add(1));
-        match elements_of(alloc, self.tokens.as_slice(), from, to) {
-            Ok(elements) => self.put_accesses(text, elements.as_slice(), access),
-            Err(AllocError) => text.lack(),
-        }
-    }
-
-    /// Appends where such elements of an array stand, in a function with these elements and declarations.
-    fn put_accesses(&self, text: &mut Text, elements: &[Element], access: Access) {
+        let Ok(elements) = elements_of(alloc, self.tokens.as_slice(), from, to) else {
+            text.lack();
+            return;
+        };
         let mut shown: u64 = 0;
-        for element in elements {
+        for element in elements.as_slice() {
             if element.declared.is_none()
                 && element.is_assigned == access.assigns
-                && self.is_of(access.array, element.at, elements)
+                && self.is_of(access.array, element.at, elements.as_slice())
             {
                 if shown < SHOWN {
                     text.words(if shown == 0 { ", at " } else { " or " });

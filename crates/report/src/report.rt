@@ -174,8 +174,9 @@ pub(crate) fn is_one(sites: &[bool], site: u32) -> bool {
 }
 
 /// Appends the report on the run of a source with this log and these options, up to what is left at its end. `times` are the times of
-/// the trace's events, in order, and `decided` is what the run tells where it was made once more. Whether there was memory for all
-/// that was appended, the text says.
+/// the trace's events, in order, and `decided` is what the run tells where it was made once more. `Log` comes where the log has no
+/// numbers (`numbers_of`), and `Memory` where there is none for what is read off it; whether there was memory for all that was
+/// appended, the text says.
 pub fn put_report(
     alloc: Global,
     text: &mut Text,
@@ -191,7 +192,7 @@ pub fn put_report(
     put_course(alloc, text, places, times, log, course, decided)
 }
 
-/// Appends the report on the run with this log, by what is read off it beside its numbers.
+/// Appends the report on the run with this log, by what is read off it beside its numbers. It is refused as `put_report` is.
 fn put_course(
     alloc: Global,
     text: &mut Text,
