@@ -2,8 +2,8 @@
 _capriccio() {
     local word=${COMP_WORDS[COMP_CWORD]} before=${COMP_WORDS[COMP_CWORD - 1]} command=${COMP_WORDS[1]}
     local placement="--chunk --max-path" policy="--chunks --extra --extra-size --fuel --backlog --caps --high --low --rule --tickets --knee" options=""
-    if [ "$COMP_CWORD" -eq 1 ]; then
-        mapfile -t COMPREPLY < <(compgen -W "serve run build check graph demo audit budget" -- "$word")
+    if [ "$COMP_CWORD" -eq 1 ] || [ "$command" = help ]; then
+        mapfile -t COMPREPLY < <(compgen -W "serve run build check graph demo audit budget help --help --version" -- "$word")
         return
     fi
     case $before in
@@ -34,7 +34,7 @@ _capriccio_report() {
     while [ "$place" -lt "$COMP_CWORD" ]; do
         case ${COMP_WORDS[place]} in
             --why) place=$((place + 1)) ;;
-            --timeline | --graph | --log) place=$((place + 2)) ;;
+            --timeline | --graph | --trace | --folded | --html | --log) place=$((place + 2)) ;;
             *) break ;;
         esac
     done
@@ -42,7 +42,7 @@ _capriccio_report() {
         compopt -o filenames 2>/dev/null
         mapfile -t COMPREPLY < <(compgen -f -- "${COMP_WORDS[COMP_CWORD]}")
     elif [ "$place" -eq "$COMP_CWORD" ]; then
-        mapfile -t COMPREPLY < <(compgen -W "--timeline --graph --log --why serve run" -- "${COMP_WORDS[COMP_CWORD]}")
+        mapfile -t COMPREPLY < <(compgen -W "--timeline --graph --trace --folded --html --log --why serve run" -- "${COMP_WORDS[COMP_CWORD]}")
     else
         # The rest is as behind ./capriccio.
         COMP_WORDS=("${COMP_WORDS[0]}" "${COMP_WORDS[@]:place}")
@@ -50,4 +50,4 @@ _capriccio_report() {
         _capriccio
     fi
 }
-complete -F _capriccio_report report ./report
+complete -F _capriccio_report report ./report capriccio-report

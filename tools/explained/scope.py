@@ -1,7 +1,35 @@
-"""What the refusals of names mean: `Unknown`, `Twice`, `Arity` and `Kind`, told by what the source declares."""
+"""What the refusals of names mean: `Unknown`, `Twice`, `Arity` and `Kind`, told by what the source
+declares."""
+from .text import nearest, some
 from .tokens import MODELLED, arguments_between, bodies_of, closing, declarations_of, tokens_of
 
-OF_C = {"printf", "puts", "malloc", "free", "memcpy", "exit", "rand", "time"}
+# calls of C's libraries, and what does the same
+OF_C = {
+    "printf": "`put(x)` writes a number",
+    "puts": "`put(x)` writes a number",
+    "putchar": "`put(x)` writes a number",
+    "scanf": "`accept()` takes a request, `wait(c)` a message",
+    "read": "`wait(c)` takes a message",
+    "recv": "`wait(c)` takes a message",
+    "malloc": "declare an array",
+    "calloc": "declare an array",
+    "free": "",
+    "memcpy": "write a loop",
+    "memset": "write a loop",
+    "exit": "`main` and each thread end by `return`",
+    "abort": "",
+    "assert": "",
+    "rand": "the same trace gives the same run: write a generator of your own",
+    "time": "`waitfor(c, n)` and `sleep(n)` wait by the clock",
+    "usleep": "`sleep(n)` waits for n ticks",
+    "nanosleep": "`sleep(n)` waits for n ticks",
+    "sched_yield": "`yield()` lets another thread run",
+    "pthread_create": "`spawn(f, x)` starts a thread that calls f(x)",
+    "pthread_self": "`self()` is the number of the thread",
+    "pthread_mutex_lock": "`take(r, 1)` takes a resource that `--caps r=1` gives one unit",
+    "pthread_mutex_unlock": "`give(r, 1)` returns it",
+}
+CONSTANTS = {"true": "1", "false": "0", "NULL": "0", "TRUE": "1", "FALSE": "0"}
 A_OR_AN = {"array": "an array", "scalar": "a variable", "parameter": "a parameter", "function": "a function", "prototype": "a function", "table": "a table"}
 
 
@@ -29,16 +57,17 @@ class Place:
         alike = [it for it in self.declared if it.name == self.token.text and it.at < self.token.at and it.inside in (None, self.inside)]
         return alike[-1] if alike else None
 
+    def known(self):
+        """The names that can be meant here; those of calls, where this is one, first of all."""
+        declared = [it.name for it in self.declared if it.at < self.token.at and it.inside in (None, self.inside)]
+        return [*MODELLED, *declared] if self.text(1) == "(" else declared
+
     def arguments(self):
         """How many arguments the call here has, behind an index if there is one."""
         start = self.index + 1
         if self.text(1) == "[":
             start = closing(self.tokens, start) + 1
         return arguments_between(self.tokens, start, closing(self.tokens, start))
-
-
-def some(number, what):
-    return f"{number} {what}{'' if number == 1 else 's'}"
 
 
 def meant(kind, source, at):
@@ -55,16 +84,18 @@ def unknown(place):
         return [f"this prototype of `{name}` has no definition: no function `{name}` with a body follows in the source"]
     later = next((it for it in alike if it.at > place.token.at and it.inside in (None, place.inside)), None)
     if later:
-        how = f"; write it above, or a prototype `{'int' if later.gives else 'void'} {name}({', '.join(['int'] * later.count)});`" if later.what == "function" else ""
-        return [f"`{name}` is declared in line {place.line(later.at)}, and a name is known from its declaration on{how}"]
+        how = f": move it up, or write above a prototype `{'int' if later.gives else 'void'} {name}({', '.join(['int'] * later.count)});`" if later.what == "function" else ""
+        return [f"`{name}` is declared in line {place.line(later.at)}; a name can be used only after its declaration{how}"]
     own = next((it for it in alike if it.at < place.token.at and not any(token.text in ",;" for token in place.tokens if it.at < token.at < place.token.at)), None)
     if own:
-        return [f"`{name}` is known only behind its own initialiser"]
+        return [f"`{name}` can be used only after its own initialiser"]
     if alike:
-        return [f"`{name}` is declared in line {place.line(alike[-1].at)}, in a scope that has ended here"]
+        return [f"`{name}` is declared in line {place.line(alike[-1].at)}, in a scope that has ended before this place"]
     if name in OF_C:
-        return [f"CapC has no library, so no `{name}`: the calls are {', '.join(MODELLED)}"]
-    return [f"`{name}` is declared nowhere"]
+        return [f"CapC has no library, so no `{name}`{': ' * bool(OF_C[name])}{OF_C[name]}", f"the calls are {', '.join(MODELLED)}"]
+    if name in CONSTANTS:
+        return [f"CapC has no `{name}`: write {CONSTANTS[name]}"]
+    return [f"`{name}` is not declared{nearest(name, place.known())}"]
 
 
 def twice(place):
@@ -82,19 +113,19 @@ def arity(place):
         of = f" in line {place.line(first.at)}" if first else ""
         return [f"`{name}` differs from what is declared{of} in its result or in how many parameters it has"]
     if name in MODELLED:
-        return [f"`{name}` takes {some(MODELLED[name], 'argument')}, and here {'is' if place.arguments() == 1 else 'are'} {place.arguments()}"
+        return [f"`{name}` takes {some(MODELLED[name], 'argument')}, found {place.arguments()}"
                 + (": the function, and the value that it is called with" if name == "spawn" else "")]
     takes = 1 if first and first.what == "table" else first.count if first else None
     through = "a call through a table" if first and first.what == "table" else f"`{name}`"
-    return [f"{through} takes {some(takes, 'argument')}, and here {'is' if place.arguments() == 1 else 'are'} {place.arguments()}"] if takes is not None else []
+    return [f"{through} takes {some(takes, 'argument')}, found {place.arguments()}"] if takes is not None else []
 
 
 def kind_of(place):
     name = place.token.text
     if name == "return":
-        return ["a function that is `int` returns a value, and one that is `void` returns none: " + ("here a value is missing" if place.text(1) == ";" else "here is one too many")]
+        return ["a function that is `int` returns a value, and one that is `void` returns none: " + ("a value is missing here" if place.text(1) == ";" else "leave the value out, or make the function `int`")]
     if name in ("break", "continue"):
-        return [f"`{name}` stands in a loop, and here is none around it"]
+        return [f"`{name}` must stand in a loop; no loop is open here"]
     here = next((it for it in place.declared if it.at == place.token.at), None)
     if here:
         return declared_so(place, here)

@@ -1,29 +1,18 @@
-"""Where in its file a refused source breaks the rule that the program names, what that means there, and what could stand there."""
-import subprocess, tempfile
+"""Where in its file a refused source breaks the rule that the program names, what that means there,
+and what could stand there."""
+import os, subprocess, tempfile
 
-from . import scope, words
-from .tokens import KEYWORDS, declarations_of, tokens_of
+from . import c_forms, scope
+from .commands import MOST_POOL, MOST_SOURCE, default_path
+from .text import listed, visible
+from .tokens import bodies_of, declarations_of, tokens_of
 
-MOST_BYTES = 1_048_576
 MOST_FRAME = 2032  # bytes
+LONGEST_LINE = 160  # characters of a line that are shown
+AT_A_TIME = 8  # questions to the program
 OPERATORS = "* / % << >> < > <= >= == != & ^ | && ||".split()
 STATEMENTS = "if while for return break continue { ;".split()
 OTHERS = "( ) [ ] } , = ? : int void else".split()
-USED = {"int", "void", "if", "else", "while", "for", "break", "continue", "return"}
-INSTEAD = {
-    "++": "write `x = x + 1`",
-    "--": "write `x = x - 1`",
-    "do": "write `while (1) { .. if (..) break; }`",
-    "switch": "write `if (..) .. else if (..) ..`, or a table of functions",
-    "goto": "loops have `break` and `continue`",
-    "->": "CapC has no structures and no pointers",
-    "struct": "CapC has no structures",
-}
-BYTES = {
-    ord('"'): "CapC has no strings: `put(x)` writes a number",
-    ord("'"): "CapC has no characters: write the number",
-    ord("#"): "CapC has no preprocessor: no `#include`, no `#define`",
-}
 LIMITS = {
     "functions": "a source has at most 4,096 functions",
     "sites": "a source has at most 65,535 calls",
@@ -34,41 +23,42 @@ LIMITS = {
 }
 
 
-def why(program, line, given):
+def why(given, line):
     """What is added to a line `source: ..` or `limit: ..`, a line each."""
-    command = given[0]
-    named, options, _ = words.split(command, given[1:])
     if line.startswith("limit: "):
-        return limited(line.split(), options)
-    if not named:
+        return [f"note: {it}" for it in limited(line.split(), given)]
+    name, source = given.name(0), given.source()
+    if source is None:
         return []
-    try:
-        with open(named[0], "rb") as it:
-            source = it.read()
-    except OSError:
-        return []
-    parts = line.split()[1:]
-    if parts[0] == "TooLong":
-        return [f"{named[0]}: note: it has {len(source):,} bytes, and a source at most {MOST_BYTES:,}"]
-    if parts[0] == "NoMain":
-        return [f"{named[0]}: note: a program has a function `int main()` or `void main()` with its body, and here is none"]
-    if parts[0] == "Limit":
-        return [f"{named[0]}: note: {it}" for it in exceeded(parts[1], source)]
-    return [*shown(named[0], source, int(parts[2]), parts[0]), *[f"note: {it}" for it in meant(program, parts[0], source, int(parts[2]))]]
+    kind, *rest = line.split()[1:]
+    if kind == "TooLong":
+        return [f"{name}: note: it has {os.path.getsize(name):,} bytes; a source has at most {MOST_SOURCE:,}"]
+    if kind == "NoMain":
+        return [f"{name}: note: a program has a function `int main()` or `void main()` with a body"]
+    if kind == "Limit":
+        return [f"{name}: note: {it}" for it in exceeded(rest[0], source)]
+    at = int(rest[1])
+    return [*shown(name, source, at, kind), *[f"note: {it}" for it in meant(given.run.program, kind, source, at)]]
 
 
-def limited(parts, options):
+def limited(parts, given):
     """What a line `limit: ..` means."""
-    chunk = int(options.get("--chunk", 4096))
     if parts[1] == "frame":
-        path = int(options["--max-path"]) if "--max-path" in options else words.default_path(chunk)
-        given = "as `--max-path` says" if "--max-path" in options else f"as `--max-path` is where it isn't given, at `--chunk {chunk}`"
-        bound = f"{path:,} bytes, {given}" if path < MOST_FRAME else f"{MOST_FRAME:,} bytes, whatever the options"
-        return [f"note: the frame of `{parts[3]}` has its parameters, its local names with all words of its arrays, and what it keeps on the way; the most is {bound}",
-                "note: a large array can be a global; otherwise more functions with fewer names each" if path >= MOST_FRAME else "note: a larger `--max-path`, and `--chunk` with it, or fewer local names"]
+        return frame(parts[3], given)
     if parts[1] == "code":
-        return ["note: the most is 200,000 words"]
-    return [f"note: `--chunks` times the bytes of the certificate's chunk, and `--extra` times `--extra-size`, are together at most {words.MOST_POOL:,} bytes"] if parts[1] == "pool" else []
+        return ["the code of an image has at most 200,000 words"]
+    return [f"`--chunks` times the bytes of the certificate's chunk, and `--extra` times `--extra-size`, are together at most {MOST_POOL:,} bytes"] if parts[1] == "pool" else []
+
+
+def frame(name, given):
+    """What bounds the frame of the function of this name."""
+    chunk = given.number("--chunk")
+    path = int(given.options.get("--max-path", default_path(chunk)))
+    by = "`--max-path`" if "--max-path" in given.options else f"the default of `--max-path` at `--chunk {chunk}`"
+    what = f"the frame of `{name}` holds its parameters, its local names with all words of their arrays, and what it keeps meanwhile"
+    if path < MOST_FRAME:
+        return [f"{what}; {by} allows {path:,} bytes", "give a larger `--max-path`, with a larger `--chunk`, or have fewer local names"]
+    return [f"{what}; the most is {MOST_FRAME:,} bytes, whatever the options", "make a large array global, or split the function"]
 
 
 def place_of(source, at):
@@ -77,16 +67,18 @@ def place_of(source, at):
 
 
 def shown(name, source, at, kind):
-    """The place, its line, and a mark below what stands there."""
+    """The place, its line or the part of it around the place, and a mark below what stands
+    there."""
     line, column = place_of(source, at)
-    start = at - column + 1
-    end = source.find(b"\n", start)
-    text = source[start : end if end >= 0 else len(source)]
+    start, end = at - column + 1, source.find(b"\n", at)
+    first = max(start, at - LONGEST_LINE // 2)
+    text = source[first : min(end if end >= 0 else len(source), first + LONGEST_LINE)].rstrip(b"\r")
     token = next((it for it in tokens_of(source) if it.at == at), None)
-    length = min(len(token.text) if token else 1, max(len(text) - (column - 1), 1))
-    before = text[: column - 1].decode(errors="replace")
+    length = max(1, min(len(token.text) if token else 1, first + len(text) - at))
+    before = "".join("\t" if it == "\t" else visible(it) for it in text[: at - first].decode(errors="replace"))
+    behind = "".join("\t" if it == "\t" else visible(it) for it in text[at - first :].decode(errors="replace"))
     blank = "".join("\t" if it == "\t" else " " for it in before)
-    return [f"{name}:{line}:{column}: {kind}", f"    {text.decode(errors='replace')}", f"    {blank}^{'~' * (length - 1)}"]
+    return [f"{name}:{line}:{column}: {kind}", f"    {before}{behind}", f"    {blank}^{'~' * (length - 1)}"]
 
 
 def meant(program, kind, source, at):
@@ -94,59 +86,78 @@ def meant(program, kind, source, at):
     if kind == "Unexpected":
         return unexpected(program, source, at)
     if kind == "BadByte":
-        byte = source[at]
-        return [BYTES.get(byte, f"no token begins with the byte {byte:#04x}" + ("" if byte < 128 else ", which isn't ASCII"))]
+        return [c_forms.of_byte(source, at)]
     if kind == "OpenComment":
         return ["this `/*` has no `*/` behind it"]
     if kind == "BadNumber":
-        return ["a number is decimal without a zero in front, or hexadecimal as 0xff, at most 4294967295, and has no letters behind it"]
+        return [c_forms.of_number(word_at(source, at))]
     if kind == "TooDeep":
-        return ["here is the 65th construct that is open at once, and the most is 64: `(`, `[`, `{`, `if`, `while`, `for`, unary operators and `?` count"]
+        return [
+            "here is the 65th construct that is open at once, and the most is 64: `(`, `[`, `{`, `if`, `while`, `for`, unary operators and `?` count",
+            "in a long chain of `else if` each `if` is inside the one before: call through a table of functions, `t[i](x)`, or split the chain",
+        ]
     if kind == "NestedCall":
-        name = next(it.text for it in tokens_of(source) if it.at == at)
+        name = word_at(source, at)
         return [f"in the parentheses of a `for` a call stands alone, or is the whole right side of `=`: put it into a variable before the `for`, as in `r = {name}(..);`, or write a `while`"]
     return scope.meant(kind, source, at)
 
 
+def word_at(source, at):
+    """The word that begins there."""
+    end = at
+    while end < len(source) and (chr(source[end]).isalnum() and source[end] < 128 or source[end] == ord("_")):
+        end += 1
+    return source[at:end].decode()
+
+
 def unexpected(program, source, at):
-    """What stood there and what could stand there, of a token at which the source is no program any more."""
-    token = next((it for it in tokens_of(source) if it.at == at), None)
-    stood = f"`{token.text}`" if token else "the end of the source"
-    before = [it for it in tokens_of(source) if it.at < at]
-    found = []
-    if token and (token.text in INSTEAD or token.text.endswith("=") and token.text[:-1] in [*OPERATORS, "+", "-"] and token.text not in OPERATORS):
-        found.append(f"CapC has no {stood}: " + INSTEAD.get(token.text, f"write `x = x {token.text[:-1]} ..`"))
-    elif token and token.text in KEYWORDS - USED:
-        found.append(f"CapC has no {stood}: all values are `int`, words of 32 bits")
-    elif token and token.text == "*" and before and before[-1].text in ("int", "void"):
-        found.append("CapC has no pointers")
-    could = could_stand(program, source, at)
-    return found + ([f"{stood} stands here, and what could is {could}"] if could else [])
+    """What stands there and what could, of a token at which the source is no program any more."""
+    tokens = tokens_of(source)
+    index = next((place for place, it in enumerate(tokens) if it.at == at), len(tokens))
+    inside = any(first < at <= last for _, first, last in bodies_of(tokens))
+    note = c_forms.missing_end(tokens, index, source, inside)
+    if not note and index < len(tokens):
+        note = c_forms.of_token(tokens, index, inside)
+    stands = f"`{tokens[index].text}`" if index < len(tokens) else "the end of the source"
+    could = could_stand(program, source[:at])
+    return [note] * bool(note) + [f"expected {could}; found {stands}"] * bool(could)
 
 
-def could_stand(program, source, at):
-    """What the program takes at this place, in words."""
-    fits = lambda it: is_taken(program, source[:at], it)
-    is_expression = all(map(fits, ("x", "1", "-")))
-    is_statement = all(map(fits, STATEMENTS))
-    all_operators = all(map(fits, OPERATORS))
+def could_stand(program, before):
+    """What the program takes behind this beginning of a source, in words."""
+    tried = ["x", "1", "-", *STATEMENTS, *OPERATORS, *OTHERS]
+    taken = {it for it, fits in zip(tried, are_taken(program, before, tried)) if fits}
+    is_expression = taken.issuperset(("x", "1", "-"))
+    is_statement = taken.issuperset(STATEMENTS)
+    all_operators = taken.issuperset(OPERATORS)
     found = ["a statement"] * is_statement + ["an expression"] * (is_expression and not is_statement) + ["an operator"] * all_operators
-    found += ["a name"] * (not is_expression and not is_statement and fits("x")) + ["a number"] * (not is_expression and fits("1"))
+    found += ["a name"] * (not is_expression and not is_statement and "x" in taken) + ["a number"] * (not is_expression and "1" in taken)
     others = [it for it in OTHERS if not (it == "(" and is_expression)]
     others += [] if is_statement else STATEMENTS
     others += [] if all_operators else [it for it in OPERATORS if not (it == "*" and is_expression)]
-    found += [f"`{it}`" for it in others if fits(it)]
-    return (", ".join(found[:-1]) + " or " + found[-1]) if len(found) > 1 else "".join(found)
+    return listed(found + [f"`{it}`" for it in others if it in taken], "or")
 
 
-def is_taken(program, before, token):
-    """Whether a source that begins so may go on with this token: the program is asked."""
-    with tempfile.TemporaryDirectory() as folder:
-        with open(f"{folder}/source", "wb") as it:
-            it.write(before + b"\n" + token.encode() + b"\n")
-        run = subprocess.run([program, "graph", "source"], cwd=folder, stdin=subprocess.DEVNULL, stdout=subprocess.DEVNULL, stderr=subprocess.PIPE, text=True, errors="replace")
-    # (a refusal behind it, or of what the tokens mean, is none of its form)
-    return run.stderr.split("\n")[0] != f"source: Unexpected at {len(before) + 1}"
+def are_taken(program, before, tokens):
+    """Whether a source that begins so may go on with each of these tokens: the program is asked,
+    several times at once."""
+    for start in range(0, len(tokens), AT_A_TIME):
+        asked = [asking(program, before, it) for it in tokens[start : start + AT_A_TIME]]
+        for folder, run in asked:
+            said = run.communicate()[1]
+            folder.cleanup()
+            # (a refusal behind it, or of what the tokens mean, is none of its form)
+            yield said.split("\n")[0] != f"source: Unexpected at {len(before) + 1}"
+
+
+def asking(program, before, token):
+    """The program at work on a source that begins so and goes on with this token, and the folder of
+    that."""
+    folder = tempfile.TemporaryDirectory()
+    with open(f"{folder.name}/source", "wb") as it:
+        it.write(before + b"\n" + token.encode() + b"\n")
+    run = subprocess.Popen([program, "graph", "source"], cwd=folder.name, stdin=subprocess.DEVNULL, stdout=subprocess.DEVNULL, stderr=subprocess.PIPE, text=True, errors="replace")
+    return folder, run
 
 
 def exceeded(which, source):

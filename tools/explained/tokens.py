@@ -1,5 +1,6 @@
-"""The tokens of a source with their places, as docs/LANGUAGE.md has them, and what a source declares: enough to say what stands at a place."""
-import re
+"""The tokens of a source with their places, as docs/LANGUAGE.md has them, and what a source
+declares: enough to say what stands at a place."""
+import functools, re
 
 GAP = re.compile(rb"(?:[ \t\n\v\f\r]|//[^\n]*|/\*.*?\*/)*", re.S)
 MARKS = sorted("( ) { } [ ] ; , = ? : + - * / % == != < > <= >= && || & | ^ << >> ! ~ ++ -- += -= *= /= %= &= |= ^= <<= >>= ->".split(), key=len, reverse=True)
@@ -24,7 +25,12 @@ class Token:
     def is_number(self):
         return self.text[0].isdigit()
 
+    def value(self):
+        """The value of a number."""
+        return int(self.text, 0)
 
+
+@functools.lru_cache(maxsize=1)
 def tokens_of(source):
     """The tokens up to the first place where none begins."""
     found, at = [], GAP.match(source).end()
@@ -38,8 +44,9 @@ def tokens_of(source):
 
 
 class Declared:
-    """What a name is declared as: `function`, `prototype`, `table`, `array`, `scalar` or `parameter`; its place, the function that it stands in, if any, and how
-    many parameters or members it has."""
+    """What a name is declared as: `function`, `prototype`, `table`, `array`, `scalar` or
+    `parameter`; its place, the function that it stands in, if any, and how many parameters or
+    members it has."""
 
     def __init__(self, name, what, at, inside=None, count=0, gives=True):
         self.name, self.what, self.at, self.inside, self.count, self.gives = name, what, at, inside, count, gives
@@ -57,7 +64,8 @@ def closing(tokens, start):
 
 
 def arguments_between(tokens, start, end):
-    """How many parts stand between the marks at `start` and `end`, apart by commas of their own level."""
+    """How many parts stand between the marks at `start` and `end`, apart by commas of their own
+    level."""
     if end == start + 1:
         return 0
     depth, count = 0, 1
@@ -109,7 +117,8 @@ def declarations_of(tokens):
 
 
 def function(found, tokens, index):
-    """Adds a function or a prototype with its parameters; gives the index behind its parentheses, and the function that what follows stands in."""
+    """Adds a function or a prototype with its parameters; gives the index behind its parentheses,
+    and the function that what follows stands in."""
     name, start = tokens[index + 1], index + 2
     end = closing(tokens, start)
     is_void = end == start + 2 and tokens[start + 1].text == "void"
@@ -139,3 +148,20 @@ def variables(found, tokens, index, inside):
         is_next = token.text == "," and depth == 0
         index += 1
     return index
+
+
+def calls_of(tokens):
+    """The calls in the functions' bodies in the order of the text, which is that of the numbers of
+    their sites: the name's token, and the caller's name."""
+    found, bodies = [], bodies_of(tokens)
+    for index, token in enumerate(tokens):
+        while bodies and bodies[0][2] < token.at:
+            bodies.pop(0)
+        caller = bodies[0][0] if bodies and bodies[0][1] < token.at else None
+        if caller and token.is_name():
+            behind = index + 1
+            if behind < len(tokens) and tokens[behind].text == "[":
+                behind = closing(tokens, behind) + 1
+            if behind < len(tokens) and tokens[behind].text == "(":
+                found.append((token, caller))
+    return found

@@ -1,59 +1,11 @@
-"""Why some words are no list of words for a command: the first that is wrong, and what it may be."""
-import difflib, re
+"""Why some words are not a command line: the first that is wrong, and what it may be."""
+import re
 
-MOST_POOL = 67_108_864  # bytes of all chunks
-COMMANDS = {
-    "serve": ("SRC",),
-    "run": ("SRC", "IMG", "CRT"),
-    "build": ("SRC", "IMG", "CRT"),
-    "check": ("SRC", "IMG", "CRT"),
-    "graph": ("SRC",),
-    "demo": ("N",),
-    "audit": ("SRC", "LOG"),
-    "budget": ("SRC", "IMG", "CRT"),
-}
-PLACEMENT, POLICY, READING = ("serve", "build", "graph"), ("serve", "run"), ("serve", "run", "audit")
+from .commands import COMMANDS, MOST_POOL, OPTIONS, READING, REPORT_OPTIONS, form_of
+from .text import listed, nearest, quoted, some
 
-
-class Option:
-    """An option: the commands that take it, the number that it is without being given, and the least and the most that it may be."""
-
-    def __init__(self, commands, default, least, most, step=1):
-        self.commands, self.default, self.least, self.most, self.step = commands, default, least, most, step
-
-
-OPTIONS = {
-    "--chunk": Option(PLACEMENT, 4096, 64, 65_536, 16),
-    "--max-path": Option(PLACEMENT, None, 16, None),
-    "--chunks": Option(READING, 1024, 1, 65_536),
-    "--extra": Option(READING, 0, 0, 65_536),
-    "--extra-size": Option(POLICY, 64, 32, 65_536, 16),
-    "--fuel": Option(READING, 10_000_000, 0, 1_000_000_000),
-    "--backlog": Option(READING, 64, 1, 4096),
-    "--caps": Option(READING, None, None, None),
-    "--high": Option(READING, 900, 1, 1000),
-    "--low": Option(READING, 700, 0, None),
-    "--rule": Option(POLICY, None, None, None),
-    "--tickets": Option(POLICY, None, None, None),
-    "--knee": Option(READING, 0, 0, 999),
-    "--steps": Option(("audit",), 1_000_000_000, 0, 1_000_000_000),
-}
-TICKETS_FORM = "`--tickets` takes T=N,.. as in 1=3,2=1: at most 64 threads from 0 to 1,000,000, rising, and from 1 to 1,024 tickets of each"
-CAPS_FORM = "`--caps` takes R=N,.. as in 1=4,3=10: resources from 1 to 7, rising, and from 1 to 1,000,000 units of each"
-
-
-def options_of(command):
-    return [name for name, it in OPTIONS.items() if command in it.commands]
-
-
-def form_of(command):
-    """How a command is called, with its options."""
-    taken = options_of(command)
-    return " ".join([command, *COMMANDS[command]]) + (f"   options: {' '.join(taken)}" if taken else "   no options")
-
-
-def forms():
-    return ["note: the commands are", *[f"        {form_of(it)}" for it in COMMANDS]]
+TICKETS_FORM = "expected T=N,.. as in 1=3,2=1: at most 64 threads from 0 to 1,000,000 in rising order, each with 1 to 1,024 tickets"
+CAPS_FORM = "expected R=N,.. as in 1=4,3=10: resources from 1 to 7 in rising order, each with 1 to 1,000,000 units"
 
 
 def number_of(text):
@@ -61,33 +13,69 @@ def number_of(text):
     return int(text) if re.fullmatch(r"0|[1-9][0-9]{0,18}", text) else None
 
 
-def nearest(word, names):
-    found = difflib.get_close_matches(word, names, 1, 0.5)
-    return f"; did you mean `{found[0]}`?" if found else ""
+def forms():
+    return ["note: the commands are", *[f"        {form_of(it)}" for it in COMMANDS], "note: --help tells what each option sets"]
 
 
-def in_words(numbers):
-    return ", ".join(numbers[:-1]) + " and " + numbers[-1] if len(numbers) > 1 else numbers[0] if numbers else "none"
+def without_report(words):
+    """The words behind the options of the report, those options by name, and what is wrong with the
+    first that is none."""
+    own, rest = {}, list(words)
+    while rest and rest[0].startswith("-"):
+        word = rest.pop(0)
+        if word not in REPORT_OPTIONS:
+            return own, rest, wrong_report_option(word)
+        if REPORT_OPTIONS[word][0] is None:
+            own[word] = None
+        elif rest:
+            own[word] = rest.pop(0)
+        else:
+            return own, rest, f"`{word}` needs the name of a file"
+    return own, rest, None
 
 
-def default_path(chunk):
-    return (chunk - 16) // 2 // 16 * 16
+def wrong_report_option(word):
+    """Why a word before the command is no option of the report."""
+    if word in OPTIONS:
+        return f"`{word}` is an option of the run: it stands behind the command"
+    name, sign, value = word.partition("=")
+    if sign and name in REPORT_OPTIONS:
+        return f"{quoted(word)}: the name is a word of its own: {name} {value}"
+    return f"{quoted(word)} is not an option of report{nearest(word, REPORT_OPTIONS)}"
+
+
+def why_report(given):
+    """What is wrong with the words of the report, a line each."""
+    own, rest, fault = without_report(given)
+    if fault:
+        return [f"note: {fault}"]
+    if not rest:
+        return ["note: a command is missing behind the options of report: serve or run; `report --help` lists all options"]
+    late = [it for it in rest[1:] if it in REPORT_OPTIONS]
+    if late:
+        return [f"note: `{late[0]}` is an option of report and stands before the command"]
+    if "--log" in own and rest[0] not in ("serve", "run"):
+        return [f"note: behind `--log {own['--log']}` stand the words of the run that made the log: serve or run, found {quoted(rest[0])}"]
+    return why(rest)
 
 
 def why(given):
     """What is wrong with the words, a line each."""
     if not given:
-        return ["note: there is no word; the first is a command", *forms()[1:]]
+        return ["note: a command is missing", *forms()]
     command = given[0]
+    if command in REPORT_OPTIONS:
+        return [f"note: `{command}` is an option of ./report, before the words of a run"]
     if command not in COMMANDS:
-        return [f"note: the first word, `{command}`, is no command{nearest(command, list(COMMANDS))}", *forms()[1:]]
+        return [f"note: {quoted(command)} is not a command{nearest(command, COMMANDS)}", *forms()]
     named, options, fault = split(command, given[1:])
     fault = fault or wrong_names(command, named) or wrong_values(command, options)
-    return [f"note: {fault or 'no word alone is wrong'}", f"        {form_of(command)}"]
+    return [f"note: {fault or 'the words do not fit together'}", f"        {form_of(command)}"]
 
 
 def split(command, rest):
-    """The names and the options among the words behind the command, and what is wrong with the first word that is neither."""
+    """The names and the options among the words behind the command, and what is wrong with the
+    first word that is neither."""
     named, options, words = [], {}, list(rest)
     while words:
         word = words.pop(0)
@@ -107,25 +95,27 @@ def wrong_option(command, word, options, words):
         return "a word is empty"
     name, sign, value = word.partition("=")
     if sign and name in OPTIONS:
-        return f"`{word}`: the value is a word of its own: {name} {value}"
+        return f"{quoted(word)}: the value is a word of its own: {name} {value}"
+    if word in REPORT_OPTIONS:
+        return f"`{word}` is an option of ./report and stands before the command"
     if word not in OPTIONS:
-        return f"`{word}` is no option{nearest(word, list(OPTIONS))}" if word.startswith("--") else f"`{word}`: no name of a file begins with `-`, and no option is so short"
+        return f"{quoted(word)} is not an option{nearest(word, OPTIONS)}" if word.startswith("--") else f"{quoted(word)}: options begin with `--`, and a file name does not begin with `-`"
     if command not in OPTIONS[word].commands:
-        return f"`{word}` is no option of `{command}`, but of {in_words(OPTIONS[word].commands)}"
+        return f"`{word}` is not an option of `{command}`, but of {listed(OPTIONS[word].commands)}"
     if word in options:
         return f"`{word}` is given twice"
     if not words or words[0].startswith("-"):
-        return f"behind `{word}` there is no value"
+        return f"`{word}` has no value"
     return None
 
 
 def wrong_names(command, named):
     """Why these aren't the names that the command takes, if they aren't."""
-    wanted = COMMANDS[command]
+    wanted = COMMANDS[command].names
     if len(named) != len(wanted):
-        return f"`{command}` takes {len(wanted)} name{'s' if len(wanted) > 1 else ''}, {' '.join(wanted)}, and here {'are' if len(named) != 1 else 'is'} {len(named)}"
+        return f"`{command}` takes {some(len(wanted), 'name')} ({' '.join(wanted)}), found {len(named)}"
     if command == "demo" and not 1 <= (number_of(named[0]) or 0) <= 1000:
-        return f"`{named[0]}`: N is from 1 to 1,000, in plain decimal digits with no zero in front"
+        return f"{quoted(named[0])}: expected a number from 1 to 1,000 in plain decimal digits, without a leading zero"
     return None
 
 
@@ -138,7 +128,7 @@ def wrong_values(command, options):
         if fault:
             return fault
     if command in READING and "--low" not in options and high <= 700:
-        return f"`--low` is 700 where it isn't given, and must be below `--high`, {high}: give it too"
+        return f"`--low` is 700 by default and must be below `--high`, {high}: give it too"
     return wrong_pool(chunk, options) if command == "serve" else None
 
 
@@ -147,15 +137,15 @@ def wrong_pool(chunk, options):
     chunks, extra, size = (number_of(options.get(name, str(OPTIONS[name].default))) for name in ("--chunks", "--extra", "--extra-size"))
     added = f" and {extra:,} of {size:,}" if extra else ""
     pool = chunk * chunks + size * extra
-    return f"{chunks:,} chunks of {chunk:,} bytes{added} are {pool:,} bytes, and the most is {MOST_POOL:,}" if pool > MOST_POOL else None
+    return f"{chunks:,} chunks of {chunk:,} bytes{added} are {pool:,} bytes, more than the maximum of {MOST_POOL:,}" if pool > MOST_POOL else None
 
 
 def wrong_value(name, text, options, chunk, high):
     """Why the value isn't as its option wants it, if it isn't."""
     if name == "--rule":
-        return None if text in ("graph", "stride") else f"`--rule {text}`: the rules are graph, which is taken where none is given, and stride"
+        return None if text in ("graph", "stride") else f"{quoted('--rule ' + text)}: expected graph, the default, or stride"
     if name == "--tickets" and options.get("--rule") != "stride":
-        return "`--tickets` is for `--rule stride` alone"
+        return "`--tickets` needs `--rule stride`"
     if name == "--tickets":
         return wrong_tickets(text)
     return wrong_caps(text) if name == "--caps" else wrong_number(name, text, chunk, high)
@@ -164,13 +154,13 @@ def wrong_value(name, text, options, chunk, high):
 def wrong_number(name, text, chunk, high):
     option = OPTIONS[name]
     most = {"--max-path": chunk - 16, "--low": high - 1}.get(name, option.most)
-    number = number_of(text)
+    number, word = number_of(text), quoted(f"{name} {text}")
     if number is None:
-        return f"`{name} {text}`: the value is a plain decimal, with no sign and no zero in front, from {option.least:,} to {most:,}"
+        return f"{word}: expected a plain decimal number from {option.least:,} to {most:,}, without a sign or a leading zero"
     if not option.least <= number <= most:
-        return f"`{name} {text}`: it is from {option.least:,} to {most:,}"
+        return f"{word}: the range is {option.least:,} to {most:,}"
     if number % option.step:
-        return f"`{name} {text}`: it is a multiple of {option.step}"
+        return f"{word}: it must be a multiple of {option.step}"
     return None
 
 
@@ -179,9 +169,9 @@ def wrong_caps(text):
     for cap in text.split(","):
         resource, sign, units = cap.partition("=")
         if not sign or number_of(resource) is None or number_of(units) is None:
-            return f"`{cap}`: {CAPS_FORM}"
+            return f"{quoted('--caps ' + text)}: {CAPS_FORM}"
         if not below < number_of(resource) <= 7 or not 1 <= number_of(units) <= 1_000_000:
-            return f"`{cap}`: {CAPS_FORM}"
+            return f"{quoted('--caps ' + text)}: {CAPS_FORM}"
         below = number_of(resource)
     return None
 
@@ -191,6 +181,6 @@ def wrong_tickets(text):
     for pair in pairs:
         thread, sign, tickets = pair.partition("=")
         if not sign or number_of(thread) is None or not least <= number_of(thread) <= 1_000_000 or not 1 <= (number_of(tickets) or 0) <= 1024:
-            return f"`{pair}`: {TICKETS_FORM}"
+            return f"{quoted('--tickets ' + text)}: {TICKETS_FORM}"
         least = number_of(thread) + 1
-    return f"here are {len(pairs)} threads: {TICKETS_FORM}" if len(pairs) > 64 else None
+    return f"{len(pairs)} threads have tickets: {TICKETS_FORM}" if len(pairs) > 64 else None

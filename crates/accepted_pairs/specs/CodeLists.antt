@@ -2,6 +2,7 @@
 use Rattle.std.specs.Prelude.{◌≡◌, ℕ, ◌+◌, ◌*◌, ◌<◌, ◌≤◌, List, length, map, Some, slice_get, slice_index}
 use Rattle.std.specs.Global.{Vec}
 use Rattle.rv_code.specs.Decoding.{decoding}
+use Rattle.decoded_code.specs.Ready.{AreReady}
 use Rattle.flat_code.specs.Codes.{FlatCode}
 use Rattle.stack_image.specs.declared.images.Image.{Image}
 use Rattle.stack_certificate.specs.declared.certificates.Certificate.{Certificate}
@@ -24,9 +25,10 @@ pub record AreBefore (code : FlatCode) (certificate : Certificate) (n : ℕ) (li
   pub count : length lists ≡ n
   pub each : (f : ℕ) (before : Vec ℕ) → slice_get lists f ≡ Some before → AreWordsBefore code certificate f before.items
 
--- the lists of a pair's code: its words decoded, the function of each word, and the words before each operation
+-- the lists of a pair's code: its words decoded, their ready operations, the function of each word, and the words before each operation
 pub record AreCodeLists (code : FlatCode) (image : Image) (certificate : Certificate) (lists : CodeLists) : Type 0 where
   pub instrs : lists.instrs.items ≡ map decoding image.code
+  pub ready : AreReady image.code (length image.code) lists.ready.items
   pub count : length lists.functions.items ≡ length image.code
   pub functions : NamesFunctions certificate (length certificate.functions) lists.functions.items
   pub before : AreBefore code certificate (length code.functions) lists.before.items

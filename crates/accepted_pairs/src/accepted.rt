@@ -1,6 +1,7 @@
 ghost use Rattle.std.specs.Prelude.{◌≡◌, ℕ, ◌<◌, length, map};
 ghost use Rattle.c_tree.specs.ProgramView.{program_tree};
 ghost use Rattle.rv_code.specs.Decoding.{decoding};
+ghost use Rattle.decoded_code.specs.Ready.{AreReady};
 ghost use Rattle.flat_code.specs.ProgramView.{program_code};
 ghost use Rattle.certificate_rules.specs.Validity.{IsValid};
 ghost use Rattle.c_lower.specs.ProgramCode.{lowered};
@@ -10,6 +11,7 @@ ghost use Rattle.accepted_pairs.specs.Held.{AreWordsBefore};
 
 use crate::code_lists::CodeLists;
 use c_tree::Program;
+use decoded_code::Ready;
 use flat_code::FlatProgram;
 use rv_code::Instr;
 use stack_certificate::Certificate;
@@ -113,6 +115,13 @@ impl Accepted {
         ensures { result.now ≡ map decoding self.now.image.code }
     {
         self.lists.instrs.as_slice()
+    }
+
+    /// The ready operation of each word of the image's code.
+    pub fn ready(&self) -> &[Ready]
+        ensures { AreReady self.now.image.code (length self.now.image.code) result.now }
+    {
+        self.lists.ready.as_slice()
     }
 
     /// The function among whose words an address stands. The work doesn't grow with the program.

@@ -8,18 +8,19 @@ ghost use Rattle.accepted_pairs.specs.Held.{IsReadable};
 
 use crate::lookups::fact_of;
 use crate::words_before::words_before_each;
-use decoded_code::decode_all;
+use decoded_code::{Ready, decode_all, ready_all};
 use flat_code::FlatProgram;
 use rv_code::Instr;
 use stack_certificate::Certificate;
 use stack_image::Image;
 use std::alloc::{AllocError, Global};
 
-/// The instruction of each word of the code, the function of each word, and for each function how many words stand before
+/// The instruction and the ready operation of each word of the code, the function of each word, and for each function how many words stand before
 /// each of its operations.
 #[derive(Drop)]
 pub struct CodeLists {
     pub instrs: Vec<Option<Instr>>,
+    pub ready: Vec<Ready>,
     pub functions: Vec<u32>,
     pub before: Vec<Vec<u64>>,
 }
@@ -36,11 +37,13 @@ pub fn code_lists_of(
     ensures { IfOk result (λ lists. AreCodeLists (program_code flat.now) image.now certificate.now lists) }
 {
     let instrs = decode_all(alloc, image.code.as_slice())?;
+    let ready = ready_all(alloc, image.code.as_slice())?;
     let mut functions = vec![in alloc; 0; image.code.len()]?;
     name_functions(flat, image, certificate, &mut functions);
     let before = words_before_all(alloc, flat, certificate)?;
     Ok(CodeLists {
         instrs,
+        ready,
         functions,
         before,
     })

@@ -23,4 +23,7 @@ pub mod Outs
 pub mod Resting
 pub mod Stops
 pub mod Endings
+pub mod Positions
 pub mod Logs
+pub mod ReadRuns
+pub mod ReadWorlds

@@ -1,41 +1,32 @@
 -- Every lawful log of a valid pair is read to its stop, or to a line that needs too many steps.
-use Rattle.std.proofs.Common.{◌≡◌, ℕ, ◌/◌, ◌≤◌, List, [], ◌∷◌, ◌++◌, Some, refl, sym, ap, ◌∙◌, subst, arith, ⊎_elim}
+use Rattle.std.proofs.Common.{ℕ, ◌≤◌, List, ◌∷◌, ◌++◌, refl, sym, subst, arith, ⊎_elim}
 use Rattle.c_lower.specs.ProgramCode.{lowered}
-use Rattle.c_mean.specs.World as source
 use Rattle.c_tree.specs.WellScoped.{IsWellScoped}
 use Rattle.certificate_rules.specs.Validity.{IsValid}
-use Rattle.choice_rules.specs.Seen.{Waiter, uses_in, no_past}
-use Rattle.choice_rules.specs.Trace.{Trace}
 use Rattle.lawful_log.specs.Good.{checked_of}
 use Rattle.lawful_log.specs.Lawful.{IsAllowed, Leads, nowhere, by_entry, ending, IsLawfulLog}
-use Rattle.lawful_log.specs.Setup.{Setup, setting_of, start_machine, start_areas}
+use Rattle.lawful_log.specs.Setup.{Setup, start_areas}
 use Rattle.lawful_log.specs.State.{State, start_of}
 use Rattle.chunk_pool.proofs.PoolLaws.{count-most}
 use Rattle.lawful_reading.specs.Given.{Given, chunks_of}
 use Rattle.lawful_reading.specs.Reading.{IsLawful, IsUnlawful, IsTooLong}
 use Rattle.lawful_reading.specs.State as reading_state
 use Rattle.lawful_reading.proofs.Verdicts.{lawful_unlawful, unlawful_too_long}
-use Rattle.segment_source.proofs.Formed.{formed}
 use Rattle.machine_world.specs.Threads.{World}
-use Rattle.machine_world.specs.WellFormed.{AreWellFormed, IsWellFormed, IsWellFormedIf, most_fuel}
-use Rattle.machine_world.proofs.CountedLaws.{all_free-new}
-use Rattle.machine_world.proofs.FormWorlds.{IsWellFormedIf-start}
+use Rattle.machine_world.specs.WellFormed.{AreWellFormed, most_fuel}
 use Rattle.schedule_log.specs.EntryText.{log_text}
 use Rattle.schedule_log.specs.declared.entries.Entry.{Entry}
 use Rattle.schedule_log.specs.declared.entries.StopLine.{StopLine}
-use Rattle.segment_steps.proofs.ValidCalls.{CallFacts-valid}
-use Rattle.stack_certificate.specs.Certificates.{fact_at}
-use Rattle.world_source.proofs.Between.{starts_law}
 use Rattle.audited_logs.specs.Audited.{given_of, IsLawfulOrTooLong, AreCapsSmall}
 use Rattle.audited_logs.proofs.Begun.{begins}
-use Rattle.audited_logs.proofs.Beside.{Holds, Position, Between, between_at, between_of, GoesOn, next_goes}
+use Rattle.audited_logs.proofs.Beside.{GoesOn, next_goes}
 use Rattle.audited_logs.proofs.Choices.{chosen}
 use Rattle.audited_logs.proofs.Comings.{came}
 use Rattle.audited_logs.proofs.Endings.{ending_read}
 use Rattle.audited_logs.proofs.Fitting as fitting
 use Rattle.audited_logs.proofs.Limits.{leads_at}
 use Rattle.audited_logs.proofs.Outs.{put}
-use Rattle.audited_logs.proofs.Pools.{starts}
+use Rattle.audited_logs.proofs.Positions.{starts_at}
 use Rattle.audited_logs.proofs.Resting.{blocked, ended}
 use Rattle.audited_logs.proofs.Stops.{stops_as}
 use Rattle.audited_logs.proofs.Texts.{Whole, whole_judged}
@@ -81,27 +72,6 @@ module _ (g : Setup) (scoped : IsWellScoped g.program) (valid : IsValid (lowered
   leads_go before after entries more nowhere later = later
   leads_go before after entries more (by_entry {between = between} {entry = entry} {entries = rest} is leads) later = entry_goes before between entry (rest ++ more) is (leads_go between after rest more leads later)
 
-  -- ---- the start
-
-  starts_at : (trace : List ℕ) (start : World) → start_machine g ≡ Some start → Position g (start_of g trace start) (reading_state.start_of given trace)
-  starts_at trace start e =
-      let code = formed g.program g.image g.certificate scoped valid in
-      let room = ((CallFacts-valid (lowered g.program) g.image g.certificate code valid).entries g.program.main code.main_defined).room in
-      let form : IsWellFormed (checked_of g) (setting_of g) start =
-      subst (IsWellFormedIf (checked_of g) (setting_of g)) e
-      (IsWellFormedIf-start (checked_of g) (setting_of g) (start_areas g) (fact_at g.certificate g.program.main).entry (fact_at g.certificate g.program.main).bound areas
-      (all_free-new g.policy.chunks (g.certificate.chunk / 4) g.policy.extra (g.policy.extra_bytes / 4)) fuel (omega (arith, room))) in
-      let first = starts g.policy.chunks (g.certificate.chunk / 4) g.policy.extra (g.policy.extra_bytes / 4) (fact_at g.certificate g.program.main).entry (fact_at g.certificate g.program.main).bound g.image.globals g.image.tables start e in
-      let holds : Holds g start = record { formed = form; count = first.count; few = (let one = first.threads in omega (arith, one)) } in
-      let world = source.start_world g.program in
-      let from : Trace = record { bytes = trace; lines = 0; last = 0 } in
-      let waiting : List Waiter = record { thread = 0; node = 0; since = 0 } ∷ [] in
-      let is : reading_state.start_of given trace ≡ between_of (start_of g trace start) 0 =
-      ap (λ (n : ℕ). between_at n 0 1 world from waiting (no_past (uses_in 1 world.exchange)) 0) (sym first.clock)
-      ∙ ap (λ (n : ℕ). between_at start.clock n 1 world from waiting (no_past (uses_in 1 world.exchange)) 0) (sym first.cost)
-      ∙ ap (λ (n : ℕ). between_at start.clock start.cost n world from waiting (no_past (uses_in n world.exchange)) 0) (sym first.held) in
-      Between (record { none = refl; holds = holds; stands = starts_law g.program g.image g.certificate start (start_areas g) scoped valid refl areas e }) is
-
   -- ---- the log
 
   log_read : (trace : List ℕ) (entries : List Entry) (stop : StopLine) (end : World) → IsLawfulLog g trace entries stop end → Whole given (reading_state.start_of given trace) entries
@@ -111,7 +81,7 @@ module _ (g : Setup) (scoped : IsWellScoped g.program) (valid : IsValid (lowered
       (λ b at range.
       let stops = stops_as g scoped valid most log.last stop end log.stops b at in
       ending_read g most log.last stop b at (fitting.ending_fits given scoped caps fuel chunks b stop stops.steps stops.stops range) stops)
-      (reading_state.start_of given trace) (starts_at trace log.start log.starts) (fitting.starts given scoped caps fuel chunks trace))
+      (reading_state.start_of given trace) (starts_at g scoped valid areas fuel most trace log.start log.starts) (fitting.starts given scoped caps fuel chunks trace))
 
   pub log_judged : (trace : List ℕ) (entries : List Entry) (stop : StopLine) (end : World) → IsLawfulLog g trace entries stop end → IsLawfulOrTooLong given trace (log_text entries)
   log_judged trace entries stop end log = whole_judged given trace entries (log_read trace entries stop end log)

@@ -6,7 +6,9 @@ ghost use Rattle.certificate_rules.specs.Validity.{IsValid};
 ghost use Rattle.lawful_log.specs.Good.{checked_of};
 ghost use Rattle.lawful_log.specs.Lawful.{IsLawfulLog};
 ghost use Rattle.lawful_log.specs.Setup.{Setup, start_areas};
-ghost use Rattle.lawful_reading.specs.Reading.{IsUnlawful};
+ghost use Rattle.audited_logs.specs.Printed.{AreLawfulChoices};
+ghost use Rattle.lawful_reading.specs.Given.{Given};
+ghost use Rattle.lawful_reading.specs.Reading.{IsLawful, IsUnlawful};
 ghost use Rattle.machine_world.specs.Threads.{World};
 ghost use Rattle.machine_world.specs.WellFormed.{AreWellFormed, most_fuel};
 ghost use Rattle.schedule_log.specs.EntryText.{log_text};
@@ -32,4 +34,11 @@ pub fn lawful_logs_are_read_as_lawful()
 pub fn pairs_have_logs_that_are_read()
     ensures { (g : Setup) (trace : List ℕ) (most_steps : ℕ) → IsWellScoped g.program → IsValid (lowered g.program) g.image g.certificate →
         AreWellFormed (checked_of g) (start_areas g) → g.policy.fuel ≤ most_fuel → AreCapsSmall g.policy.caps → HasReadLog g most_steps trace }
+{}
+
+/// In a log that is lawful as it is read, each `run` line names the choice that the rule makes at that place, by what the lines before it
+/// print: the program's world under their schedule, the averages of their costs, their clock and their free chunks. Ghost law: no effect
+/// at run time.
+pub fn read_choices_are_lawful()
+    ensures { (g : Given) (trace log : List ℕ) → (lawful : IsLawful g trace log) → AreLawfulChoices g trace lawful.entries }
 {}

@@ -10,4 +10,6 @@
 
 mod laws;
 
-pub use laws::{lawful_logs_are_read_as_lawful, pairs_have_logs_that_are_read};
+pub use laws::{
+    lawful_logs_are_read_as_lawful, pairs_have_logs_that_are_read, read_choices_are_lawful,
+};

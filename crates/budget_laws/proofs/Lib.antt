@@ -6,4 +6,5 @@ pub mod StepLemmas
 pub mod StartLemmas
 pub mod EnoughLemmas
 pub mod RunLemmas
+pub mod RoomLemmas
 pub mod LogLemmas

@@ -29,6 +29,7 @@ use Rattle.schedule_log.specs.declared.entries.Item.{Item}
 use Rattle.schedule_log.specs.declared.entries.StopLine.{StopLine}
 use Rattle.budget_laws.specs.Lives.{live}
 use Rattle.budget_laws.specs.Rooms.{roomy}
+use Rattle.budget_laws.proofs.RoomLemmas.{first_roomy, start-shape}
 use Rattle.budget_laws.proofs.RunLemmas.{Stage, stage-on, then-on, all-on, starts, stage-short, stage-shape, roomy-same}
 
 -- an event of the trace delivers a word
@@ -93,15 +94,53 @@ module _ (g : Setup) (scoped : IsWellScoped g.program) (valid : IsValid (lowered
   leads-on before after [] nowhere at = at
   leads-on before after (entry ∷ entries) (by_entry {between = between} is leads) at = leads-on between after entries leads (entry-on before between entry is at)
 
+-- what holds of the setup of a run that a checker accepts
+pub record IsReady (g : Setup) : Type 0 where
+  pub scoped : IsWellScoped g.program
+  pub valid : IsValid (lowered g.program) g.image g.certificate
+  pub areas : AreWellFormed (checked_of g) (start_areas g)
+  pub fuel : g.policy.fuel ≤ most_fuel
+
+-- a log that stops for want of a chunk
+abbrev IsShortLog : Setup → List ℕ → List Entry → ℕ → ℕ → ℕ → World → Type 0
+IsShortLog g trace entries thread cost free end = IsLawfulLog g trace entries (StopLine.Cut thread Stop.NoChunk cost free) end
+
+module _ (g : Setup) (ready : IsReady g) (trace : List ℕ) (entries : List Entry) (thread cost free : ℕ) (end : World) (log : IsShortLog g trace entries thread cost free end) where
+  abbrev shape : Shape
+  shape = shape_of (start_areas g).pool
+
+  stopped : Stage g ready.scoped ready.valid shape end
+  stopped =
+      let at_start : Stage g ready.scoped ready.valid shape log.start =
+      inl (starts g ready.scoped ready.valid shape log.start ready.areas ready.fuel log.starts (start-shape g log.start log.starts)) in
+      let at_last = leads-on g ready.scoped ready.valid shape (start_of g trace log.start) log.last log.before_end log.leads at_start in
+      quiet-on g ready.scoped ready.valid shape log.stops.steps log.last.machine end at_last log.stops.way.quiet
+
+  -- the pool has as many chunks that are large enough as it had at the start
+  pub roomy-at-stop : (bytes : ℕ) → roomy end.areas.pool bytes ≡ roomy (start_areas g).pool bytes
+  roomy-at-stop bytes = roomy-same end.areas.pool (start_areas g).pool bytes (stage-shape g ready.scoped ready.valid shape end stopped)
+
+  pub enough-at-stop : (budget : Budget) (threads : ℕ) → IsBudget (lowered g.program) g.certificate budget → threads * budget.per_thread ≤ roomy end.areas.pool g.certificate.max_path → live (setting_of g) end ≤ threads → ⊥
+  enough-at-stop budget threads is room few = stage-short g ready.scoped ready.valid shape budget threads end is stopped few room log.stops.stops
+
+  -- as many as a new pool of the policy has are enough
+  pub enough-in-new : (budget : Budget) (threads : ℕ) → IsBudget (lowered g.program) g.certificate budget → threads * budget.per_thread ≤ roomy (start_areas g).pool g.certificate.max_path → live (setting_of g) end ≤ threads → ⊥
+  enough-in-new budget threads is room few =
+      let same = roomy-at-stop g.certificate.max_path in
+      enough-at-stop budget threads is (omega (arith, room, same)) few
+
 pub enough_in_logs : (g : Setup) (budget : Budget) (threads : ℕ) (trace : List ℕ) (entries : List Entry) (thread cost free : ℕ) (start end : World) → IsWellScoped g.program → IsValid (lowered g.program) g.image g.certificate →
     AreWellFormed (checked_of g) (start_areas g) → g.policy.fuel ≤ most_fuel → IsBudget (lowered g.program) g.certificate budget →
     start_machine g ≡ Some start → threads * budget.per_thread ≤ roomy start.areas.pool g.certificate.max_path →
     live (setting_of g) end ≤ threads → IsLawfulLog g trace entries (StopLine.Cut thread Stop.NoChunk cost free) end → ⊥
 enough_in_logs g budget threads trace entries thread cost free start end scoped valid areas fuel is begins_at room few log =
-    let shape = shape_of start.areas.pool in
-    let first : log.start ≡ start = same_Some log.start start (sym log.starts ∙ begins_at) in
-    let at_start : Stage g scoped valid shape log.start = subst (Stage g scoped valid shape) (sym first) (inl (starts g scoped valid shape start areas fuel begins_at refl)) in
-    let at_last = leads-on g scoped valid shape (start_of g trace log.start) log.last log.before_end log.leads at_start in
-    let stage = quiet-on g scoped valid shape log.stops.steps log.last.machine end at_last log.stops.way.quiet in
-    let same = roomy-same end.areas.pool start.areas.pool g.certificate.max_path (stage-shape g scoped valid shape end stage) in
-    stage-short g scoped valid shape budget threads end is stage few (omega (arith, room, same)) log.stops.stops
+    let same = roomy-same start.areas.pool (start_areas g).pool g.certificate.max_path (start-shape g start begins_at) in
+    enough-in-new g (record { scoped = scoped; valid = valid; areas = areas; fuel = fuel }) trace entries thread cost free end log budget threads is (omega (arith, room, same)) few
+
+-- so many of the certificate's size are enough
+pub enough_first_chunks : (g : Setup) (budget : Budget) (threads : ℕ) (trace : List ℕ) (entries : List Entry) (thread cost free : ℕ) (end : World) → IsWellScoped g.program → IsValid (lowered g.program) g.image g.certificate →
+    AreWellFormed (checked_of g) (start_areas g) → g.policy.fuel ≤ most_fuel → IsBudget (lowered g.program) g.certificate budget → threads * budget.per_thread ≤ g.policy.chunks →
+    live (setting_of g) end ≤ threads → IsLawfulLog g trace entries (StopLine.Cut thread Stop.NoChunk cost free) end → ⊥
+enough_first_chunks g budget threads trace entries thread cost free end scoped valid areas fuel is room few log =
+    let first = first_roomy g valid in
+    enough-in-new g (record { scoped = scoped; valid = valid; areas = areas; fuel = fuel }) trace entries thread cost free end log budget threads is (omega (arith, room, first)) few

@@ -62,3 +62,15 @@ pub fn enough_in_logs_law()
         start_machine g ≡ Some start → threads * budget.per_thread ≤ roomy start.areas.pool g.certificate.max_path →
         live (setting_of g) end ≤ threads → IsLawfulLog g trace entries (StopLine.Cut thread Stop.NoChunk cost free) end → ⊥ }
 {}
+
+/// In the pool in which a run of a valid pair starts each chunk of the certificate's size has a payload of at least the longest path
+/// (`roomy`). So no lawful log stops for want of a chunk where the policy has as many chunks of that size as a budget gives so many
+/// threads, whatever other chunks it has, and no more threads than these live at the stop, the one that is about to start counted
+/// (`enough`). It does nothing: the laws are the contract.
+pub fn certificate_chunks_law()
+    ensures roomy { (g : Setup) → IsValid (lowered g.program) g.image g.certificate → g.policy.chunks ≤ roomy (start_areas g).pool g.certificate.max_path }
+    ensures enough { (g : Setup) (budget : Budget) (threads : ℕ) (trace : List ℕ) (entries : List Entry) (thread cost free : ℕ) (end : World) →
+        IsWellScoped g.program → IsValid (lowered g.program) g.image g.certificate → AreWellFormed (checked_of g) (start_areas g) → g.policy.fuel ≤ most_fuel →
+        IsBudget (lowered g.program) g.certificate budget → threads * budget.per_thread ≤ g.policy.chunks →
+        live (setting_of g) end ≤ threads → IsLawfulLog g trace entries (StopLine.Cut thread Stop.NoChunk cost free) end → ⊥ }
+{}

@@ -4,10 +4,12 @@
 // world keeps in place, the linked calls and the height of the innermost function are together at most the height of the
 // thread's first function (specs/Roots.antt), and a thread holds no more chunks than the budget gives it. Every thread of a run
 // of a valid pair started with main or a function that some site names; so where the pool has enough chunks that are large
-// enough (specs/Rooms.antt) for the threads that live (specs/Lives.antt), no run stops for want of one, and no lawful log says so. The
-// laws are the contracts of calls that do nothing.
+// enough (specs/Rooms.antt) for the threads that live (specs/Lives.antt), no run stops for want of one, and no lawful log says so. Those
+// of the certificate's size are all large enough. The laws are the contracts of calls that do nothing.
 #![tactic(auto)]
 
 mod laws;
 
-pub use laws::{chain_bound_law, enough_chunks_law, enough_in_logs_law, stack_law};
+pub use laws::{
+    certificate_chunks_law, chain_bound_law, enough_chunks_law, enough_in_logs_law, stack_law,
+};

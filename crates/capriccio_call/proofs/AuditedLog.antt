@@ -1,9 +1,10 @@
--- An audit doesn't say of a lawful log that it is unlawful.
+-- An audit doesn't say of a lawful log that it is unlawful; and what it says to be lawful is the source's, with the choices of the priority rule.
 use Rattle.std.proofs.Common.{◌≡◌, ◌⊎◌, ℕ, ◌≤◌, List, Option, Some, Result, Ok, Err, refl, sym, ap, subst, ◌∙◌, arith, inl, inr, ⊎_elim}
 use Rattle.std.specs.Prelude.{slice_index}
 use Rattle.std.specs.Io.KnownBytes.{Appends}
 use Rattle.audited_logs.specs.Audited.{AreCapsSmall, IsLawfulOrTooLong}
 use Rattle.audited_logs.proofs.Logs.{log_judged}
+use Rattle.audited_logs.proofs.ReadWorlds.{choices_are_lawful}
 use Rattle.c_tree.specs.Trees.{ProgramTree}
 use Rattle.cap_io.specs.Files.{Files}
 use Rattle.choice_rules.specs.Policy.{Policy}
@@ -11,27 +12,34 @@ use Rattle.command_words.specs.WordList.{Audit}
 use Rattle.command_words.specs.declared.options.Audit.{Audit as AuditOptions}
 use Rattle.lawful_log.specs.Lawful.{IsLawfulLog}
 use Rattle.lawful_log.specs.Setup.{Setup}
+use Rattle.lawful_reading.specs.Given.{Given}
+use Rattle.lawful_reading.specs.Reading.{IsLawful}
 use Rattle.machine_world.specs.Threads.{World}
 use Rattle.machine_world.specs.WellFormed.{most_fuel}
 use Rattle.schedule_log.specs.EntryText.{log_text}
 use Rattle.schedule_log.specs.declared.entries.Entry.{Entry}
 use Rattle.schedule_log.specs.declared.entries.StopLine.{StopLine}
+use Rattle.text_logs.proofs.ReadLines.{log_of_source}
 use Rattle.thread_core.specs.Worlds.{Held}
+use Rattle.command_outcomes.specs.declared.documents.Document.TheVariants as document
 use Rattle.command_outcomes.specs.declared.faults.Fault.{Fault}
 use Rattle.command_outcomes.specs.declared.faults.Fault.TheVariants.{Read, Write, Memory}
 use Rattle.command_outcomes.specs.Done.{Outside, IsDone, IsThisCase, IsTold, NoFault, line_of, status_of}
 use Rattle.command_outcomes.specs.FaultLines.{fault_status}
 use Rattle.command_outcomes.specs.Outcome.{Outcome}
+use Rattle.command_files.specs.Loads.{AfterLoad, IsSourceText}
 use Rattle.command_options.specs.Options.{AreAuditOptions}
-use Rattle.command_audit.specs.Audits.{Audits, IsJudgement, judged_outcome, reading_of}
+use Rattle.command_audit.specs.Audits.{Audits, AuditsBytes, AuditsProgram, IsJudgement, judged_outcome, judgement_status, reading_of}
 use Rattle.capriccio_commands.specs.Due.{IsDue}
 use Rattle.command_audit.specs.declared.judgements.Judgement.{Judgement}
-use Rattle.command_audit.specs.declared.judgements.Judgement.TheVariants.{Lawful, Steps}
+use Rattle.command_audit.specs.declared.judgements.Judgement.TheVariants.{Lawful, Steps, Unlawful}
 use Rattle.command_options.proofs.Options.{audit-options}
-use Rattle.capriccio_call.specs.Audited.{AsksForAudit, IsAudited, IsRunUnder, SaysOf}
+use Rattle.capriccio_call.specs.Audited.{AsksForAudit, IsAudited, IsRunUnder, IsSourcesLog, SaysOf}
 use Rattle.capriccio_call.specs.Headline.{IsAnswer}
 use Rattle.capriccio_call.proofs.GoodRun.{status-told}
 use Rattle.capriccio_call.proofs.OneRun.{pooled-areas}
+use Rattle.capriccio_call.proofs.OutcomeKinds.{IsFree}
+use Rattle.capriccio_call.proofs.ToldFiles.{does-asked, loaded, outcome-of, program-read}
 
 -- ---- what is said of the log
 
@@ -83,14 +91,53 @@ says words before after err err' faults faults' last status options program trac
     let same = answer.2 none asks.files (judged_outcome is) asks.files_told (λ _. (trace, asks.trace_told)) due in
     said (IsDue words before) is before after answer.0 err err' faults faults' status same answer.1 answer.3
 
+-- ---- what `lawful` says
+
+lawful-only : (is : Judgement) → judgement_status is ≡ judgement_status Lawful → is ≡ Lawful
+lawful-only Lawful e = refl
+lawful-only (Unlawful line) e = absurd (omega (arith, e))
+lawful-only (Steps line) e = absurd (omega (arith, e))
+
+-- an outcome with its status is that judgement
+lawful-by : (options : AuditOptions) (program : ProgramTree) (trace log : List ℕ) (o : Outcome) → AuditsProgram (Some trace) options log program o → o.status ≡ judgement_status Lawful → IsLawful (reading_of program options) trace log
+lawful-by options program trace log o h e =
+    let is : h.0 ≡ Lawful = lawful-only h.0 (sym (ap (λ (x : Outcome). x.status) h.2) ∙ e) in
+    subst (λ (it : Judgement). IsJudgement (reading_of program options) (Some trace) log it) is h.1
+
+-- what is due is an audit of this log
+audited-so : (words : List (List ℕ)) (before : Outside) (options : AuditOptions) (program : ProgramTree) (trace log : List ℕ) (o : Outcome) → AsksForAudit words before options program trace log → IsDue words before o →
+    AuditsProgram (Some trace) options log program o
+audited-so words before options program trace log o asks due =
+    let P : Option Files → Option (List ℕ) → Type 0 = λ files left. Audits files left asks.source_name asks.log_name options o in
+    let does = does-asked words before (Audit asks.source_name asks.log_name options) o asks.asked due in
+    let told : P (Some asks.files) (Some trace) = subst (λ (left : Option (List ℕ)). P (Some asks.files) left) asks.trace_told (subst (λ (files : Option Files). P files before.left) asks.files_told does) in
+    let source = loaded document.Source asks.files asks.source_name asks.source (λ bytes. AfterLoad document.Log (Some asks.files) asks.log_name (AuditsBytes (Some trace) options bytes)) o asks.source_there told in
+    let text = loaded document.Log asks.files asks.log_name log (AuditsBytes (Some trace) options asks.source) o asks.log_there source in
+    program-read asks.source program (AuditsProgram (Some trace) options log) o asks.reads text
+
+sources-log : (source : List ℕ) (g : Given) (trace log : List ℕ) → IsSourceText source g.program → IsLawful g trace log → IsSourcesLog source g trace log
+sources-log source g trace log reads lawful = record {
+  entries = lawful.entries;
+  log_is = lawful.log_is;
+  read = reads.reads;
+  text = log_of_source source g trace log reads.reads reads.scoped lawful;
+  choices = choices_are_lawful g trace lawful.entries lawful.last lawful.leads;
+}
+
 -- ---- the clause
 
 pub audited : (words : List (List ℕ)) (before after : Outside) (err err' : Option (List ℕ)) (faults faults' : ℕ) (last : Option Held) (status : ℕ) → IsAnswer words before after err err' faults faults' last status → IsAudited words before after status
-audited words before after err err' faults faults' last status answer options g trace entries stop end asks run log none =
-    let ranges = audit-options words asks.source_name asks.log_name options asks.asked in
-    let on : (is : Judgement) → IsJudgement (reading_of g.program options) (Some trace) (log_text entries) is → SaysOf is before after status ⊎ (status ≡ fault_status Memory) =
-    λ is judgement. says words before after err err' faults faults' last status options g.program trace (log_text entries) is answer asks none judgement in
-    ⊎_elim
-    (λ lawful. ⊎_elim (λ x. inl x) (λ x. inr (inr x)) (on Lawful lawful))
-    (λ long. ⊎_elim (λ x. inr (inl (long.0, x))) (λ x. inr (inr x)) (on (Steps long.0) long.1))
-    (judged options g trace entries stop end ranges run log)
+audited words before after err err' faults faults' last status answer = record {
+  lawful_log = λ options g trace entries stop end asks run log none.
+      let ranges = audit-options words asks.source_name asks.log_name options asks.asked in
+      let on : (is : Judgement) → IsJudgement (reading_of g.program options) (Some trace) (log_text entries) is → SaysOf is before after status ⊎ (status ≡ fault_status Memory) =
+      λ is judgement. says words before after err err' faults faults' last status options g.program trace (log_text entries) is answer asks none judgement in
+      ⊎_elim
+      (λ lawful. ⊎_elim (λ x. inl x) (λ x. inr (inr x)) (on Lawful lawful))
+      (λ long. ⊎_elim (λ x. inr (inl (long.0, x))) (λ x. inr (inr x)) (on (Steps long.0) long.1))
+      (judged options g trace entries stop end ranges run log);
+  said_lawful = λ options program trace log asks e.
+      let found = outcome-of words before after err err' faults faults' last status answer (subst IsFree (sym e) (inl (omega arith))) in
+      let audits = audited-so words before options program trace log found.0 asks found.1 in
+      sources-log asks.source (reading_of program options) trace log asks.reads (lawful-by options program trace log found.0 audits (found.2 ∙ e));
+}

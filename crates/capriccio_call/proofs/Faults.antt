@@ -63,7 +63,7 @@ ordinary words before o h =
 
 -- ---- Statuses and standard error.
 
-answer-of : (status : ℕ) (line : List ℕ) (old new : Option (List ℕ)) (faults faults' answer : ℕ) → IsTold status line old new faults faults' answer → (answer ≡ status) ⊎ (answer ≡ fault_status Memory)
+pub answer-of : (status : ℕ) (line : List ℕ) (old new : Option (List ℕ)) (faults faults' answer : ℕ) → IsTold status line old new faults faults' answer → (answer ≡ status) ⊎ (answer ≡ fault_status Memory)
 answer-of status line old new faults faults' answer h = ⊎_elim (λ x. inl x.0) (λ x. ⊎_elim (λ y. inl y.0) (λ y. inr y.0) x.2) h
 
 uncounted : {P : Type 0} (before after : Outside) → NoneCounted before after → HasCounted before after → P

@@ -97,10 +97,10 @@ source-case bytes next a b one h k =
     (λ y. alike a b (refusal (cause.Source y.0)) (x.2 ∙ ap (λ (e : SourceError). refusal (cause.Source e)) (one_source_error bytes x.0 y.0 x.1 y.1)) y.2) k)
     h
 
-image-is : (bytes : List ℕ) (i : Image) → IsImageText bytes i → image_of bytes ≡ i
+pub image-is : (bytes : List ℕ) (i : Image) → IsImageText bytes i → image_of bytes ≡ i
 image-is bytes i h = ap image_of h.spelled ∙ image_of-spelling i h.limits h.words
 
-image-never : (bytes : List ℕ) (i : Image) (e : ImageError) → IsImageText bytes i → refusal_of bytes ≡ Some e → ⊥
+pub image-never : (bytes : List ℕ) (i : Image) (e : ImageError) → IsImageText bytes i → refusal_of bytes ≡ Some e → ⊥
 image-never bytes i e h r = let none = spelling_not_refused i h.limits in let same = ap refusal_of h.spelled in let clash : Some e ≡ None = sym r ∙ (same ∙ none) in cc
 
 image-case : (bytes : List ℕ) (next : Image → Outcome → Type 0) (a b : Outcome) → ((i : Image) → next i a → next i b → a ≡ b) → AfterImage bytes next a → AfterImage bytes next b → a ≡ b
@@ -114,7 +114,7 @@ image-case bytes next a b one h k =
     (λ y. let e : Some x.0 ≡ Some y.0 = sym x.1 ∙ y.1 in let same : x.0 ≡ y.0 = cc in alike a b (refusal (cause.Image y.0)) (x.2 ∙ ap (λ (r : ImageError). refusal (cause.Image r)) same) y.2) k)
     h
 
-certificate-never : (bytes : List ℕ) (c : Certificate) (n : ℕ) → IsCertificateText bytes c → IsFirstRefused bytes n → ⊥
+pub certificate-never : (bytes : List ℕ) (c : Certificate) (n : ℕ) → IsCertificateText bytes c → IsFirstRefused bytes n → ⊥
 certificate-never bytes c n h r = spelling_unrefused c n h.limits h.words (subst (λ (t : List ℕ). IsFirstRefused t n) h.spelled r)
 
 certificate-case : (bytes : List ℕ) (next : Certificate → Outcome → Type 0) (a b : Outcome) → ((c : Certificate) → next c a → next c b → a ≡ b) → AfterCertificate bytes next a → AfterCertificate bytes next b → a ≡ b
@@ -243,10 +243,10 @@ built-case options n m p a b scoped h k =
 -- Runs.
 
 -- the pool of the options is within its limit with these chunks
-abbrev IsWithinPool : RunOptions → ℕ → Type 0
+abbrev pub IsWithinPool : RunOptions → ℕ → Type 0
 IsWithinPool policy chunk = policy.chunks * chunk + policy.extra * policy.extra_bytes ≤ 67108864
 
-in-range : (policy : RunOptions) (p : ProgramTree) (i : Image) (c : Certificate) → IsRunPolicy policy → IsWithinPool policy c.chunk → IsInRange (setup_of p i c policy)
+pub in-range : (policy : RunOptions) (p : ProgramTree) (i : Image) (c : Certificate) → IsRunPolicy policy → IsWithinPool policy c.chunk → IsInRange (setup_of p i c policy)
 in-range policy p i c ranges fits = record {
   some_chunks = ranges.some_chunks;
   chunks = ranges.chunks;

@@ -35,7 +35,7 @@ pooled-areas g ok pool =
     areas_formed (lowered g.program) g.image g.certificate (start_areas g) ok.valid pool ok.globals
     (first_bytes-start g.policy.chunks (g.certificate.chunk / 4) g.policy.extra (g.policy.extra_bytes / 4) ∙ fours g.certificate.chunk sizes.0) refl refl
 
-areas-formed : (g : Setup) → IsAccepted g → IsInRange g → AreWellFormed (checked_of g) (start_areas g)
+pub areas-formed : (g : Setup) → IsAccepted g → IsInRange g → AreWellFormed (checked_of g) (start_areas g)
 areas-formed g ok range =
     let sizes = ((ok.valid.holds 1 0 1).v1 refl).chunk refl in
     pooled-areas g ok

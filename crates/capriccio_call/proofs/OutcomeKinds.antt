@@ -62,10 +62,12 @@ pub record IsPair (image_name certificate_name : List ℕ) (o : Outcome) : Type 
   pub unread : o.reads_trace ≡ false
   pub last : o.last ≡ None
 
--- the run of a request: that of a workload on its own trace, and else one on the trace that is handed in
+-- the run of a request: that of a workload on its own trace, and those of `serve` and `run` on the trace that is handed in
 abbrev pub IsRunFor : Request → Option (List ℕ) → Setup → Outcome → Type 0
 IsRunFor (Demo number) trace setup o = IsSourceText (program_text number) setup.program × ShowsRun (trace_text number) setup o
-IsRunFor request trace setup o = RunsOn trace setup o
+IsRunFor (Serve source placement policy) trace setup o = RunsOn trace setup o
+IsRunFor (Run source image certificate policy) trace setup o = RunsOn trace setup o
+IsRunFor request trace setup o = ⊥
 
 -- the pair of a request, which only a build has
 abbrev pub IsPairFor : Request → Outcome → Type 0
@@ -258,10 +260,10 @@ run-free trace setup o h =
 pub run-for-free : (request : Request) (trace : Option (List ℕ)) (setup : Setup) (o : Outcome) → IsRunFor request trace setup o → IsFree o.status × (o.stores ≡ [])
 run-for-free (Serve source placement policy) trace setup o h = run-free trace setup o h
 run-for-free (Run source image certificate policy) trace setup o h = run-free trace setup o h
-run-for-free (Build source image certificate placement) trace setup o h = run-free trace setup o h
-run-for-free (Check source image certificate) trace setup o h = run-free trace setup o h
-run-for-free (Graph source placement) trace setup o h = run-free trace setup o h
-run-for-free (Budget source image certificate) trace setup o h = run-free trace setup o h
-run-for-free (Audit source log options) trace setup o h = run-free trace setup o h
+run-for-free (Build source image certificate placement) trace setup o h = absurd h
+run-for-free (Check source image certificate) trace setup o h = absurd h
+run-for-free (Graph source placement) trace setup o h = absurd h
+run-for-free (Budget source image certificate) trace setup o h = absurd h
+run-for-free (Audit source log options) trace setup o h = absurd h
 run-for-free (Demo number) trace setup o h =
     (subst (λ (x : Outcome). IsFree x.status) (sym h.1.5) (stop-free h.1.2), ap (λ (x : Outcome). x.stores) h.1.5)

@@ -1,26 +1,32 @@
--- What the audit of a lawful log answers: where a log is the lawful log of a run that the checker accepts, under the policy of the audit's
--- words and on its trace, it isn't said to be unlawful.
+-- What an audit's answer is worth. Where a log is the lawful log of a run that the checker accepts, under the policy of the audit's words and
+-- on its trace, it isn't said to be unlawful. And what is said to be lawful is what the source does under the schedule that it prints, with
+-- the choices of the priority rule.
 use Rattle.std.specs.Prelude.{ℕ, ◌≡◌, ◌⊎◌, List, Some}
 use Rattle.std.specs.Io.KnownBytes.{Appends}
 use Rattle.audited_logs.specs.Audited.{read_policy}
+use Rattle.audited_logs.specs.Printed.{AreLawfulChoices}
+use Rattle.c_hoist.specs.NestedText.{ReadsNested}
 use Rattle.c_tree.specs.Trees.{ProgramTree}
 use Rattle.cap_io.specs.Files.{Files}
 use Rattle.chunk_pool.specs.Pool.{IsPool}
 use Rattle.command_words.specs.WordList.{IsWordList, Audit}
 use Rattle.command_words.specs.declared.options.Audit.{Audit as AuditOptions}
+use Rattle.deep_mean.specs.Naming.{deep_program}
 use Rattle.lawful_log.specs.Lawful.{IsLawfulLog}
 use Rattle.lawful_log.specs.Setup.{Setup, start_areas}
+use Rattle.lawful_reading.specs.Given.{Given}
 use Rattle.machine_world.specs.Threads.{World}
 use Rattle.schedule_log.specs.EntryText.{log_text}
 use Rattle.schedule_log.specs.declared.entries.Entry.{Entry}
 use Rattle.schedule_log.specs.declared.entries.StopLine.{StopLine}
+use Rattle.text_logs.specs.TextLog.{IsTextLog}
 use Rattle.command_outcomes.specs.declared.documents.Document.TheVariants as document
 use Rattle.command_outcomes.specs.declared.faults.Fault.TheVariants.{Memory}
 use Rattle.command_outcomes.specs.Done.{Outside, NoFault}
 use Rattle.command_outcomes.specs.FaultLines.{fault_status}
 use Rattle.command_files.specs.Loads.{IsSourceText}
 use Rattle.command_files.specs.Loaded.{IsLoaded}
-use Rattle.command_audit.specs.Audits.{judgement_line, judgement_status, reading_policy}
+use Rattle.command_audit.specs.Audits.{judgement_line, judgement_status, reading_of, reading_policy}
 use Rattle.pair_commands.specs.Runs.{IsAccepted}
 use Rattle.command_audit.specs.declared.judgements.Judgement.{Judgement}
 use Rattle.command_audit.specs.declared.judgements.Judgement.TheVariants.{Lawful, Steps}
@@ -56,9 +62,21 @@ SaysLawfulOrSteps before after status =
     SaysOf Lawful before after status
     ⊎ (((line : ℕ) × SaysOf (Steps line) before after status) ⊎ (status ≡ fault_status Memory))
 
--- Of the text of each lawful log of each such run of the program, on the trace, that is what an audit says where no count rose.
-abbrev pub IsAudited : (words : List (List ℕ)) → (before after : Outside) → (status : ℕ) → Type 0
-IsAudited words before after status =
-    (options : AuditOptions) (g : Setup) (trace : List ℕ) (entries : List Entry) (stop : StopLine) (end : World) →
-    AsksForAudit words before options g.program trace (log_text entries) → IsRunUnder options g → IsLawfulLog g trace entries stop end →
-    NoFault before after → SaysLawfulOrSteps before after status
+-- What `lawful` says of a log, of the bytes of a source, a policy and a trace: it is the text of these entries; under the schedule that they
+-- print the source by itself, with no rewriting, puts, blocks, ends and stops as they say; and each `run` line among them names the choice of the
+-- priority rule, by the costs, the clocks and the free chunks that are printed before it.
+pub record IsSourcesLog (source : List ℕ) (g : Given) (trace log : List ℕ) : Type 0 where
+  pub entries : List Entry
+  pub log_is : log ≡ log_text entries
+  pub read : ReadsNested source g.program
+  pub text : IsTextLog (deep_program read.tree) g.policy.caps entries
+  pub choices : AreLawfulChoices g trace entries
+
+-- An audit says of the text of each lawful log of each such run of the program, on the trace, that it is lawful, or that it needs too many steps,
+-- where no count rose. And where it ends with the status of `lawful`, the log is the source's, under the words' policy and on the trace.
+pub record IsAudited (words : List (List ℕ)) (before after : Outside) (status : ℕ) : Type 0 where
+  pub lawful_log : (options : AuditOptions) (g : Setup) (trace : List ℕ) (entries : List Entry) (stop : StopLine) (end : World) →
+      AsksForAudit words before options g.program trace (log_text entries) → IsRunUnder options g → IsLawfulLog g trace entries stop end →
+      NoFault before after → SaysLawfulOrSteps before after status
+  pub said_lawful : (options : AuditOptions) (program : ProgramTree) (trace log : List ℕ) → (asks : AsksForAudit words before options program trace log) →
+      status ≡ judgement_status Lawful → IsSourcesLog asks.source (reading_of program options) trace log

@@ -18,6 +18,7 @@ use Rattle.command_outcomes.specs.Done.{Outside, IsDone, IsExact, IsTold, IsLast
 use Rattle.capriccio_commands.specs.Due.{IsDue}
 use Rattle.pair_commands.specs.Runs.{IsAccepted, IsRun, IsRunOfSome, stop_status}
 use Rattle.capriccio_commands.specs.Summary.{summary_of}
+use Rattle.capriccio_call.specs.TheText.{IsLogOfText}
 use Rattle.workload.specs.Traces.{trace_text}
 use Rattle.workload_source.specs.Programs.{program_text}
 
@@ -51,7 +52,8 @@ IsLogFor request setup before after entries stop end =
     × IsRunOfSome setup before.left entries stop end
 
 -- A run that the words ask for came to its stop in this world, and was good: the checker accepts its program, image and certificate; the
--- output took its lawful log, which is good, or for `demo` a summary of it; the status is that of the stop.
+-- output took its lawful log, which is good, or for `demo` a summary of it; that log is the one of the text that was loaded; the status is that
+-- of the stop.
 pub record RanWell (words : List (List ℕ)) (before after : Outside) (world : Held) (status : ℕ) : Type 0 where
   pub request : Request
   pub asked : IsWordList words request
@@ -61,6 +63,7 @@ pub record RanWell (words : List (List ℕ)) (before after : Outside) (world : H
   pub end : World
   pub accepted : IsAccepted setup
   pub log : IsLogFor request setup before after entries stop end
+  pub text : IsLogOfText request before.files setup entries
   pub stopped : status ≡ stop_status stop
   pub handed_out : IsWorldOf (record { setup = setup; end = end }) world
 

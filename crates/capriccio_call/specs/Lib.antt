@@ -1,3 +1,5 @@
+pub mod TheText
 pub mod Headline
 pub mod AfterFault
 pub mod Audited
+pub mod EnoughChunks

@@ -4,6 +4,7 @@ ghost use Rattle.std.specs.String.{string_bytes};
 ghost use Rattle.command_outcomes.specs.Done.{outside_by};
 ghost use Rattle.capriccio_call.specs.AfterFault.{HoldsAfterFault};
 ghost use Rattle.capriccio_call.specs.Audited.{IsAudited};
+ghost use Rattle.capriccio_call.specs.EnoughChunks.{HasEnoughChunks};
 ghost use Rattle.capriccio_call.specs.Headline.{IsAnswer, WasGood};
 
 use cap_io::{Shelf, Sink, Source};
@@ -48,6 +49,10 @@ pub fn capriccio<F: Shelf, S: Source, K: Sink, E: Sink>(
         K.taken K.faults in
         IsAudited (map (λ word. string_bytes word) words.now.items)
         (outside shelf.old trace.old out.old) (outside shelf.new trace.new out.new) result }
+    ensures enough { let outside = outside_by F.files F.load_faults F.store_faults S.left S.faults
+        K.taken K.faults in
+        HasEnoughChunks (map (λ word. string_bytes word) words.now.items)
+        (outside shelf.old trace.old out.old) last.new result }
 {
     match do_words(alloc, words, shelf, trace, out) {
         Ok(

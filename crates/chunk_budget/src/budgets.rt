@@ -13,7 +13,7 @@ pub struct Budget {
 #[derive(Clone, Copy, PartialEq, Eq)]
 pub enum BudgetError {
     /// There are so many heights, and another number of functions.
-    Length { heights: usize, functions: usize },
+    Length { heights: u64, functions: u32 },
     /// A thread may hold no chunk.
     Zero,
     /// At this site, the least by number, the caller's height is too low.

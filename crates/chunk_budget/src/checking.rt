@@ -1,4 +1,4 @@
-ghost use Rattle.std.specs.Prelude.{IfOk, IfErr};
+ghost use Rattle.std.specs.Prelude.{◌≤◌, IfOk, IfErr, length};
 ghost use Rattle.std.specs.List.Sorted.{IsStrictlyIncreasing};
 ghost use Rattle.c_lower.specs.ProgramCode.{lowered};
 ghost use Rattle.accepted_pairs.specs.Accepting.{accepted_tree};
@@ -34,15 +34,16 @@ fn check_code(
     certificate: &Certificate,
     budget: &Budget,
 ) -> Result<(), BudgetError>
-    requires { IsStrictlyIncreasing (fact_numbers certificate.now.sites) }
+    requires rising { IsStrictlyIncreasing (fact_numbers certificate.now.sites) }
+    requires few { length (program_code flat.now).functions ≤ 4096 }
     ensures budget { IfOk result (λ _. IsBudget (program_code flat.now) certificate.now budget.now) }
     ensures refused { IfErr result (IsRefusal (program_code flat.now) certificate.now budget.now) }
 {
     let functions = flat.functions().len();
     if budget.heights.len() != functions {
         return Err(BudgetError::Length {
-            heights: budget.heights.len(),
-            functions,
+            heights: budget.heights.len() as u64,
+            functions: functions as u32,
         });
     }
     if budget.per_thread == 0 {

@@ -2,7 +2,7 @@
 //
 // In: an output, standard error. Out: a text printed with its status (`print`), or the step that is a command's last (`Stop`),
 // which `finish` tells standard error. What loads, reads and stores files is in command_files above. specs/Outcome.antt has what a
-// command does, specs/Done.antt what a call leaves outside of it, specs/Loads.antt what is due of the files before it, and
+// command does, specs/Done.antt what a call leaves outside of it, and
 // specs/CauseLines.antt the status and the line of each refusal. The crate above has the commands.
 #![tactic(auto)]
 

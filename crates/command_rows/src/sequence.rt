@@ -1,5 +1,5 @@
-// One shelf that never fails: a program is served, built, checked and run, and the world that it hands out is looked at. And one
-// whose program calls itself, so that no budget is made of it.
+// One shelf that never fails: a program is served, built, checked and run, and the world that it hands out is looked at. Two more
+// are built for their budgets: one gets a budget; the other calls itself, so that none is made of it.
 use crate::calls::{NONE, files_of, hold_files, status_of, words_of};
 use crate::checks::{CERTIFICATE_OF_SEVEN, PUT_SEVEN};
 use crate::images::IMAGE_OF_SEVEN;
@@ -177,15 +177,38 @@ fn is_row(alloc: Global, shelf: &mut CleanShelf, row: &Row) -> Result<bool, Allo
 
 const SMALL: &[&str] = &["build", "P", "I", "C", "--chunk", "64", "--max-path", "32"];
 
-/// A program whose function calls itself.
-const RECURSIVE: &[u8] =
-    b"int f(int n) { int a; int b; if (n < 1) return n; a = f(n - 1); return a; } int main() { int a; a = f(3); return a; }";
+/// A program whose one call is at a checkpoint where the longest path is 32 bytes: the frames of `g` and `main` take 16 and 32.
+const LINKED: &[u8] =
+    b"int g(int x) { return x; } int main() { int a; int b; int c; a = g(1); return a; }";
 
-const CYCLE: [Row<'static>; 2] = [
+const BUDGETED: [Row<'static>; 2] = [
     (
         SMALL,
         0,
-        b"built code 98 globals 0 tables 0\n",
+        b"built code 58 globals 0 tables 0\n",
+        NONE,
+        None,
+        &[],
+    ),
+    (
+        &["budget", "P", "I", "C"],
+        0,
+        b"chunks 2\nheight 0 0\nheight 1 1\n",
+        NONE,
+        None,
+        &[],
+    ),
+];
+
+/// A program whose function calls itself.
+const RECURSIVE: &[u8] =
+    b"int f(int n) { int r; if (n < 1) return 0; r = f(n - 1); return r + 1; } int main() { int r; r = f(100); put(r); return 0; }";
+
+const CYCLE: [Row<'static>; 2] = [
+    (
+        &["build", "P", "I", "C", "--chunk", "64", "--max-path", "48"],
+        0,
+        b"built code 99 globals 0 tables 0\n",
         NONE,
         None,
         &[],
@@ -226,6 +249,11 @@ fn serves_builds_checks_and_runs(rt: HostRuntime) {
             Ok(true)
         )
     );
+}
+
+#[test]
+fn builds_and_makes_a_budget(rt: HostRuntime) {
+    assert!(rt; matches!(all_hold_of_source(rt.alloc(), LINKED, &BUDGETED), Ok(true)));
 }
 
 #[test]

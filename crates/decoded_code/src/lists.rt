@@ -1,8 +1,15 @@
-ghost use Rattle.std.specs.Prelude.{◌≡◌, map, IfOk};
+ghost use Rattle.std.specs.Prelude.{◌≡◌, length, map, IfOk};
+ghost use Rattle.decoded_code.specs.Ready.{AreReady};
 ghost use Rattle.rv_code.specs.Decoding.{decoding};
 
+use crate::ready::Ready;
+use crate::readying::ready_at;
+use cap_word::add;
 use rv_code::{Instr, decode};
 use std::alloc::{AllocError, Global};
+
+// The first byte of the code.
+const CODE_START: u32 = 4096;
 
 /// The instruction of each word, in the order of the words, and None in the place of a word that is no instruction
 /// (RISC-V unprivileged manual, chapters "RV32I" and "M"). It fails only where memory runs out.
@@ -14,4 +21,18 @@ pub fn decode_all(alloc: Global, words: &[u32]) -> Result<Vec<Option<Instr>>, Al
         decoded.push(decode(*word))?;
     }
     Ok(decoded)
+}
+
+/// The ready operation of each word, in the order of the words, which stand from 0x1000. It fails only where memory runs
+/// out.
+pub fn ready_all(alloc: Global, words: &[u32]) -> Result<Vec<Ready>, AllocError>
+    ensures { IfOk result (λ ready. AreReady words.now (length words.now) ready.items) }
+{
+    let mut ready = Vec::with_capacity(alloc, words.len())?;
+    let mut place = CODE_START;
+    for word in words {
+        ready.push(ready_at(place, decode(*word)))?;
+        place = add(place, 4);
+    }
+    Ok(ready)
 }

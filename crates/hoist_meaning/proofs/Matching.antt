@@ -9,7 +9,7 @@ use Rattle.cap_word.specs.declared.traps.TrapKind.{TrapKind}
 use Rattle.cap_word.proofs.RunLemmas.{goes_on}
 use Rattle.cap_word.proofs.Following.{asks_at, stops_at}
 use Rattle.c_tree.specs.Trees.{ProgramTree}
-use Rattle.c_mean.specs.Frames.{Running, Waiting, key_of}
+use Rattle.c_mean.specs.Frames.{Running, Waiting, key_of, function_at}
 use Rattle.c_mean.specs.ModelledCalls.{Exchange, ImmediateRow, blocking_row, immediate_row}
 use Rattle.c_mean.specs.Steps as source_steps
 use Rattle.c_mean.specs.World as source
@@ -27,6 +27,8 @@ use Rattle.hoist_meaning.proofs.Asking.{asked, asking, asked_moves}
 -- threads of the tree follow those of the text, from their starts on
 pub record ThreadsFollow (text : DeepProgram) (program : ProgramTree) (R : DeepRunning → Running → Type 0) (V : DeepWaiting → Waiting → Type 0) : Type 0 where
   pub follows : Follows R V (deep_steps.deep_machine text) (source_steps.source_machine program)
+  -- threads that start a function
+  pub starts : (f : ℕ) (arguments : List ℕ) (globals : List (List ℕ)) → length arguments ≡ (function_at program f).params → R (deep_steps.started text f arguments globals) (source_steps.started program f arguments globals)
   -- threads at a modelled call have the same key
   pub keys : (waiting : DeepWaiting) (other : Waiting) → V waiting other → frames.key_of waiting ≡ key_of other
   -- the threads that `main` and a `spawn` start

@@ -2,23 +2,24 @@
 use Rattle.std.proofs.Common.{ℕ, ◌+◌, ◌<◌, ◌≤◌, ◌≡◌, refl, sym, ap, subst, ◌∙◌, List, [], ◌∷◌, ◌++◌, length, Option, Some, None, option_map, arith}
 use Rattle.std.specs.Prelude.{map, replicate}
 use Rattle.std.proofs.lemmas.List.{append-nil}
-use Rattle.cap_word.specs.Calls.{Call, Blocking, Immediate}
-use Rattle.cap_word.specs.Runs.{Move, Goes, Asks, Stops, moves}
+use Rattle.cap_word.specs.Calls.{Call, Blocking, Immediate, Question, Finish}
+use Rattle.cap_word.specs.Runs.{Move, Goes, Asks, Stops, moves, Progress, Unfinished, Over, run, seen}
 use Rattle.cap_word.specs.declared.traps.TrapKind.{TrapKind}
-use Rattle.cap_word.proofs.Following.{Comes, comes, Came, came}
+use Rattle.cap_word.proofs.Following.{Comes, comes, Came, came, RunComes, run_comes, run_came}
 use Rattle.c_tree.specs.declared.facts.GlobalFact.{GlobalFact}
 use Rattle.c_tree.specs.Trees.{ProgramTree}
 use Rattle.c_mean.specs.Frames.{Running, Waiting}
 use Rattle.c_mean.specs.ModelledCalls.{blocking_row, immediate_row, Delivery, with_delivery}
-use Rattle.c_mean.specs.Steps.{SourceMove, source_step}
+use Rattle.c_mean.specs.Steps.{SourceMove, source_step, source_machine, started}
 use Rattle.c_mean.specs.World as source
 use Rattle.c_mean.specs.World.{Rest, World, Segment, Rested, Entry, Deliver, Run, with_printed, empty_exchange}
 use Rattle.deep_mean.specs.DeepTrees.{DeepProgram}
 use Rattle.deep_mean.specs.DeepFrames.{DeepRunning, DeepWaiting}
-use Rattle.deep_mean.specs.DeepSteps.{DeepMove, deep_step}
+use Rattle.deep_mean.specs.DeepSteps.{DeepMove, deep_step, deep_machine}
+use Rattle.deep_mean.specs.DeepSteps as deep_steps
 use Rattle.deep_mean.specs.DeepWorld as deep
 use Rattle.deep_mean.specs.DeepWorld.{DeepRest, DeepWorld, DeepSegment, DeepRested}
-use Rattle.hoist_meaning.specs.SameRuns.{RestsAlike, BothFresh, BothBlocked, BothEnded, RestAlike, WorldsAlike, RunsTheSame}
+use Rattle.hoist_meaning.specs.SameRuns.{RestsAlike, BothFresh, BothBlocked, BothEnded, RestAlike, WorldsAlike, ThreadStart, FitsFunction, shown_by_program, shown_by_text, RunsTheSame}
 use Rattle.hoist_meaning.proofs.Asking.{asked, asked_moves, went, stopped}
 use Rattle.hoist_meaning.proofs.Outputs.{Outputs, Grows, cut_there, cut_here}
 use Rattle.hoist_meaning.proofs.Matching.{ThreadsFollow, RestsMatch, ThreadsMatch, WorldsMatch, SegmentsMatch, BegunMatch, text_machine, tree_machine, segments_follow, begins}
@@ -260,6 +261,27 @@ module _ (text : DeepProgram) (program : ProgramTree) (R : DeepRunning → Runni
       (WorldsMatch.Match (deep.Fresh text.main [] ∷ []) (source.Fresh text.main [] ∷ []) (started_globals text.globals) empty_exchange []
       (ThreadsMatch.Cons (deep.Fresh text.main []) (source.Fresh text.main []) [] [] (RestsMatch.FreshMatch text.main [] threads.main) ThreadsMatch.Nil)))
 
+  -- ---- a thread alone
+
+  -- what the text's thread shows, that of the program shows
+  program_shown : (start : ThreadStart) (n : ℕ) (progress : Progress DeepRunning Question Finish) (other : Running) → RunComes R V (deep_machine text) (source_machine program) threads.follows start.answers n progress [] other
+      → (m : ℕ) × (seen (run (source_machine program) start.answers m [] other) ≡ seen progress)
+  program_shown start n (Unfinished calls next) other h = (h.0, ap seen h.3)
+  program_shown start n (Over calls end) other h = (h.0, ap seen h.1)
+
+  shows : (start : ThreadStart) → FitsFunction program start → (n : ℕ) → (m : ℕ) × (shown_by_program program start m ≡ shown_by_text text start n)
+  shows start fits n =
+      let one = deep_steps.started text start.function start.arguments start.globals in
+      let other = started program start.function start.arguments start.globals in
+      program_shown start n (run (deep_machine text) start.answers n [] one) other
+      (run_comes R V (deep_machine text) (source_machine program) threads.follows start.answers n [] one other (threads.starts start.function start.arguments start.globals fits))
+
+  shown : (start : ThreadStart) → FitsFunction program start → (n : ℕ) → (m : ℕ) × (shown_by_text text start m ≡ shown_by_program program start n)
+  shown start fits n =
+      run_came R V (deep_machine text) (source_machine program) threads.follows start.answers n []
+      (deep_steps.started text start.function start.arguments start.globals) (started program start.function start.arguments start.globals)
+      (threads.starts start.function start.arguments start.globals fits)
+
   -- Threads that follow make programs that run the same.
   pub follow_same : text.main ≡ program.main → text.globals ≡ program.globals → RunsTheSame program text
   follow_same mains globals =
@@ -281,4 +303,6 @@ module _ (text : DeepProgram) (program : ProgramTree) (R : DeepRunning → Runni
         cuts = λ caps entries other number puts there h cut.
             let at = after_here caps entries (deep.start_world text) other (source.start_world program) start h in
             let here = cuts_here caps other at.0 number puts there at.2 cut in (at.0, here.0, at.1, here.1, here.2);
+        shown = shown;
+        shows = shows;
       }

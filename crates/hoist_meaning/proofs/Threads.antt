@@ -105,6 +105,7 @@ module _ (text : DeepProgram) (program : ProgramTree) (Alike : ℕ → Agreement
       → ThreadsFollow text program Running_alike Waiting_alike
   threads_follow none one = record {
     follows = follows;
+    starts = started_alike;
     keys = keys_same;
     main = λ globals. started_alike text.main [] globals none;
     spawned = λ state other f argument here globals waiting h e.

@@ -1,13 +1,18 @@
 -- That a program and a text do the same: for every schedule, from the start, the runs of the program (`c_mean`) and those of the text
--- with calls inside expressions (`deep_mean`) have the same outputs, modelled calls with values, keys, traps and ends.
-use Rattle.std.specs.Prelude.{◌≡◌, ℕ, List, [], ◌∷◌}
+-- with calls inside expressions (`deep_mean`) have the same outputs, modelled calls with values, keys, traps and ends. Worlds are compared
+-- where threads rest, trap or are cut. Single threads are compared call by call, whatever the calls return, also threads that never rest.
+use Rattle.std.specs.Prelude.{◌≡◌, ℕ, List, [], ◌∷◌, length}
+use Rattle.cap_word.specs.Calls.{Answer, Finish, Question}
+use Rattle.cap_word.specs.Runs.{Seen, run, seen}
 use Rattle.cap_word.specs.declared.calls.Block.{Block}
 use Rattle.c_tree.specs.Trees.{ProgramTree}
-use Rattle.c_mean.specs.Frames.{Waiting, key_of}
+use Rattle.c_mean.specs.Frames.{Waiting, key_of, function_at}
+use Rattle.c_mean.specs.Steps as source_steps
 use Rattle.c_mean.specs.World as source
 use Rattle.c_mean.specs.World.{Entry, World, Rest}
 use Rattle.deep_mean.specs.DeepTrees.{DeepProgram}
 use Rattle.deep_mean.specs.DeepFrames as frames
+use Rattle.deep_mean.specs.DeepSteps as deep_steps
 use Rattle.deep_mean.specs.DeepWorld as deep
 use Rattle.deep_mean.specs.DeepWorld.{DeepWorld, DeepRest}
 
@@ -32,6 +37,31 @@ pub record WorldsAlike (one : World) (other : DeepWorld) : Type 0 where
   pub exchange : one.exchange ≡ other.exchange
   pub outputs : one.outputs ≡ other.outputs
 
+-- ---- what is seen of a thread alone
+
+-- The start of a thread: a function with its arguments, as `main` or `spawn` starts one, and the globals at that moment. `answers` is the
+-- answer to each modelled call, by all calls up to it.
+pub record ThreadStart : Type 0 where
+  pub function : ℕ
+  pub arguments : List ℕ
+  pub globals : List (List ℕ)
+  pub answers : List Question → Answer
+
+-- the function takes that number of arguments
+abbrev pub FitsFunction : ProgramTree → ThreadStart → Type 0
+FitsFunction program start = length start.arguments ≡ (function_at program start.function).params
+
+-- What a thread of the program shows within n steps: its modelled calls, the newest first, each with its values and the globals at that
+-- moment; and its end or its trap, if it has come to one.
+abbrev pub shown_by_program : ProgramTree → ThreadStart → ℕ → Seen Question Finish
+shown_by_program program start n =
+    seen (run (source_steps.source_machine program) start.answers n [] (source_steps.started program start.function start.arguments start.globals))
+
+-- the same of a thread of the text
+abbrev pub shown_by_text : DeepProgram → ThreadStart → ℕ → Seen Question Finish
+shown_by_text text start n =
+    seen (run (deep_steps.deep_machine text) start.answers n [] (deep_steps.started text start.function start.arguments start.globals))
+
 -- ---- runs
 
 pub record RunsTheSame (program : ProgramTree) (text : DeepProgram) : Type 0 where
@@ -51,3 +81,7 @@ pub record RunsTheSame (program : ProgramTree) (text : DeepProgram) : Type 0 whe
       → (other : DeepWorld) × (there : deep.DeepSegment) × deep.IsAfter text caps (deep.start_world text) entries other × deep.IsCutAt text caps other number puts there × (segment.world.outputs ≡ there.world.outputs)
   pub cuts : (caps : List ℕ) (entries : List Entry) (other : DeepWorld) (number puts : ℕ) (there : deep.DeepSegment) → deep.IsAfter text caps (deep.start_world text) entries other → deep.IsCutAt text caps other number puts there
       → (world : World) × (segment : source.Segment) × source.IsAfter program caps (source.start_world program) entries world × source.IsCutAt program caps world number puts segment × (segment.world.outputs ≡ there.world.outputs)
+  -- One thread alone, whatever its modelled calls return, each way: what one shows within n steps, for every n, the other shows within some
+  -- number of steps. So a thread that never rests makes the same calls, with the same values, in the same order.
+  pub shown : (start : ThreadStart) → FitsFunction program start → (n : ℕ) → (m : ℕ) × (shown_by_text text start m ≡ shown_by_program program start n)
+  pub shows : (start : ThreadStart) → FitsFunction program start → (n : ℕ) → (m : ℕ) × (shown_by_program program start m ≡ shown_by_text text start n)

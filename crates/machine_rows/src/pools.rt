@@ -1,7 +1,9 @@
 ghost use Rattle.std.specs.Prelude.{◌≡◌, ◌*◌, ◌%◌, ◌<◌, ◌≤◌};
 
 use chunk_pool::ChunkPool;
-use std::alloc::{AllocError, Global};
+use std::alloc::{Alloc, AllocError, Global};
+use std::fs;
+use std::rt::Files;
 use std::test::Fail;
 
 // Addresses, and the chunk that has each, in a pool of three chunks of 80 bytes, in one of the most chunks, and in one of the
@@ -160,5 +162,38 @@ fn pools(rt: HostRuntime) -> Result<(), Fail> {
         && has_addresses(alloc, 65_536, 64, 0x803f_ffc0, &OF_MOST)?
         && has_addresses(alloc, 1_024, 65_536, 0x83ff_0000, &OF_LARGEST)?;
     assert!(rt; is_given && is_found);
+    Ok(())
+}
+
+// Whether so many of the largest pools are made, each freed before the next.
+fn makes_and_frees(alloc: Global, pools: u32) -> Result<bool, AllocError> {
+    for _ in 0..pools {
+        if !has_addresses(alloc, 65_536, 1_024, 0x83ff_fc00, &[])? {
+            return Ok(false);
+        }
+    }
+    Ok(true)
+}
+
+// The size of this process in pages of 4,096 bytes, as Linux reports it.
+fn pages_of_process<R: Files + Alloc>(rt: &R) -> Option<u64> {
+    let text = fs::read_to_string(rt, "/proc/self/statm").ok()?;
+    let first = text.split_whitespace().next()?;
+    first.parse::<u64>().ok()
+}
+
+// A pool's 64 MiB are 16,384 pages. The first pool may leave the allocator's own tables behind; a hundred more leave nothing.
+#[test]
+fn memory_returns(rt: HostRuntime) -> Result<(), Fail> {
+    let alloc = rt.alloc();
+    let is_first_made = makes_and_frees(alloc, 1)?;
+    let before = pages_of_process(&rt);
+    let are_made = makes_and_frees(alloc, 100)?;
+    let after = pages_of_process(&rt);
+    let is_returned = match (before, after) {
+        (Some(before), Some(after)) => after <= before.saturating_add(16_384),
+        _ => false,
+    };
+    assert!(rt; is_first_made && are_made && is_returned);
     Ok(())
 }

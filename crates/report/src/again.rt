@@ -174,14 +174,14 @@ impl<C: Measure + Drop> Again<C> {
         Some(())
     }
 
-    /// Does what one line more says. False where the run has stopped.
+    /// Does what one line more says. False where the run has stopped, and none where that can't be done.
     fn take(&mut self, alloc: Global, world: &mut World, entry: &Entry) -> Option<bool>
         requires { IsBetween world.old }
         ensures { IfSome result (λ goes. GoesOn goes world.new) }
     {
         match entry {
-            Entry::Event { clock, item } => Some(come(world, *clock, item)),
-            Entry::Dropped { clock, item } => Some(come(world, *clock, item)),
+            Entry::Event { clock, item } => come(world, *clock, item),
+            Entry::Dropped { clock, item } => come(world, *clock, item),
             Entry::Run {
                 clock,
                 thread,

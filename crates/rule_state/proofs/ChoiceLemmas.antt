@@ -1,5 +1,5 @@
--- A choice by strides: its thread has a place for its node, and it may be told by what waits.
-use Rattle.std.proofs.Common.{◌≡◌, ℕ, ◌<◌, Bool, Option, None, List, length, refl, sym, ap, ◌∙◌, subst}
+-- A choice by strides: its thread has a place for its node.
+use Rattle.std.proofs.Common.{◌≡◌, ℕ, ◌<◌, Bool, Option, None, List, length, sym, ap, ◌∙◌, subst}
 use Rattle.cap_word.specs.declared.threads.ThreadId.{ThreadId}
 use Rattle.stride_rule.specs.declared.choices.StrideChoice.{StrideChoice}
 use Rattle.stride_rule.specs.declared.clients.Client.{Client}
@@ -8,7 +8,7 @@ use Rattle.stride_rule.specs.Clients.{grown, without}
 use Rattle.stride_rule.specs.State.{StrideState, waiting_in, waiting_of}
 use Rattle.stride_rule.proofs.ClientLemmas.{all-client, all-grown, all-without}
 use Rattle.stride_rule.proofs.NotingLemmas.{waiting-none}
-use Rattle.rule_state.specs.Strides.{HaveNodes, stride_choice}
+use Rattle.rule_state.specs.Strides.{HaveNodes}
 
 module _ (rule : StrideState) (eligible : ThreadId → Bool) (choice : StrideChoice) (is : IsFirstEligible (waiting_of rule) eligible choice) where
   pub slot_within : (nodes : List ℕ) → rule.running ≡ None → HaveNodes nodes rule.clients → choice.thread.slot < length nodes
@@ -17,13 +17,6 @@ module _ (rule : StrideState) (eligible : ThreadId → Bool) (choice : StrideCho
       let among : HaveNodes nodes (waiting_of rule) = subst (λ (cs : List Client). HaveNodes nodes cs) (sym waiting) all in
       let at : is.client.thread.slot < length nodes = all-client choice.thread.number (λ c. c.thread.slot < length nodes) (waiting_of rule) is.client among is.waits in
       subst (λ (t : ThreadId). t.slot < length nodes) is.thread_is at
-
-  -- what it tells of all that wait is what holds of them
-  pub choice_is : choice ≡ stride_choice rule eligible choice.thread
-  choice_is = ap (λ (all : Bool). record { thread = choice.thread; all = all }) is.all_is
-
-  pub first_told : IsFirstEligible (waiting_of rule) eligible (stride_choice rule eligible choice.thread)
-  first_told = record { client = is.client; waits = is.waits; thread_is = is.thread_is; passes = is.passes; first = is.first; all_is = refl }
 
 -- growth and leaving take no place away
 pub nodes-grown : (number : ℕ) (nodes : List ℕ) (clients : List Client) → HaveNodes nodes clients → HaveNodes nodes (grown number clients)

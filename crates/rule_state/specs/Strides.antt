@@ -1,11 +1,11 @@
 -- Threads that are chosen by strides, with the nodes at which they wait.
 use Rattle.std.specs.Prelude.{ℕ, ◌≡◌, ◌<◌, Bool, false, Option, Some, None, List, length, slice_index}
-use Rattle.std.specs.List.{AllByRecursion, list_all}
+use Rattle.std.specs.List.{AllByRecursion}
 use Rattle.cap_word.specs.declared.threads.ThreadId.{ThreadId}
 use Rattle.scheduler.specs.declared.choices.Choice.{Choice}
 use Rattle.stride_rule.specs.declared.choices.StrideChoice.{StrideChoice}
 use Rattle.stride_rule.specs.declared.clients.Client.{Client}
-use Rattle.stride_rule.specs.Choices.{IsFirstEligible}
+use Rattle.stride_rule.specs.Choices.{IsFirstEligible, choice_among}
 use Rattle.stride_rule.specs.State.{StrideState, waiting_of, with_client, after_choice, after_segment, after_leaving}
 use Rattle.rule_state.specs.Nodes.{IsPut}
 
@@ -24,7 +24,7 @@ HaveNodes nodes clients = AllByRecursion (λ client. client.thread.slot < length
 
 -- the choice of a thread by strides: it tells whether all that wait are eligible
 abbrev pub stride_choice : StrideState → (ThreadId → Bool) → ThreadId → StrideChoice
-stride_choice rule eligible thread = record { thread = thread; all = list_all (λ other. eligible other.thread) (waiting_of rule) }
+stride_choice rule eligible thread = choice_among (waiting_of rule) eligible thread
 
 -- ---- the choice
 

@@ -61,7 +61,8 @@ impl StridesAtNodes {
     }
 
     /// The thread to go on next, with the node at which it waits, or none where no thread that waits is eligible. The choice is
-    /// noted, and under way from here on. Each thread that waits is asked. It takes no memory.
+    /// noted, and under way from here on. Each thread that waits is asked until some choice finds one that isn't eligible, and from
+    /// then on none that goes after the best one so far. It takes no memory.
     pub fn take<R: Ready>(&mut self, gate_open: bool, ready: &R) -> Option<Choice>
         requires none_under_way { self.old.rule.running ≡ None }
         requires room { self.old.rule.noted < 2 ^ 40 }
@@ -70,15 +71,11 @@ impl StridesAtNodes {
         ensures place { IfSome result (λ choice. choice.thread.slot < length self.new.nodes) }
         ensures none { result ≡ None → self.new ≡ self.old }
     {
-        let Some(chosen) = self.rule.choose(gate_open, ready) else {
+        let Some(thread) = self.rule.take(gate_open, ready) else {
             return None;
         };
-        let node = self.nodes[chosen.thread.slot as usize];
-        self.rule.note_choice(&chosen);
-        Some(Choice {
-            thread: chosen.thread,
-            node,
-        })
+        let node = self.nodes[thread.slot as usize];
+        Some(Choice { thread, node })
     }
 
     /// Ends the choice under way: its thread waits at a node. It takes no memory.

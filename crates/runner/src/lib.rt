@@ -2,7 +2,7 @@
 //
 // In: a world as it was made, a monitor of its resources, a trace and a sink. Out: the lawful log in the sink, and how the run
 // ended (`run`). It delivers what comes, moves the clock, chooses threads and runs their segments, one step of a choice point
-// after another (course.rt), and writes a line for each. The crate above uses the clauses of `run` over the lawful log
+// after another (`run_course`), and writes a line for each. The crate above uses the clauses of `run` over the lawful log
 // (`lawful_log`), which says what is to be written and not how. The idea of choices by a blocking graph is Capriccio's (von
 // Behren et al., SOSP 2003).
 #![tactic(auto)]

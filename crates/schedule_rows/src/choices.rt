@@ -196,8 +196,12 @@ const BY_NUMBER: &[Step] = &[
     Step::None,
 ];
 
-// The arrival of node 2 waits while another thread is ready, and goes first where none is.
+// Node 2 was taken earlier. Its arrival waits while another thread is ready, and goes first where none is.
 const ARRIVAL: &[Step] = &[
+    Step::Join(1, 2),
+    Step::Join(2, 4),
+    Step::Take(1, 2),
+    Step::Take(2, 4),
     Step::Join(9, 2),
     Step::Join(3, 4),
     Step::Choose(true, 3, 4),

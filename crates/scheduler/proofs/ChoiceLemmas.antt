@@ -14,7 +14,9 @@ use Rattle.scheduler.specs.declared.finding.Found.{Found}
 use Rattle.scheduler.specs.declared.scores.Rank.{Rank}
 use Rattle.scheduler.specs.LawfulChoice.{IsLawfulChoice}
 use Rattle.scheduler.specs.Queues.{queue_in, places_in, places_of, threads_of, passes_at}
-use Rattle.scheduler.specs.Scores.{comes_before}
+use Rattle.blocking_graph.specs.declared.edges.EdgeLine.{EdgeLine}
+use Rattle.resource_monitor.specs.Monitor.{MonitorState}
+use Rattle.scheduler.specs.Scores.{comes_before, score, score_by}
 use Rattle.scheduler.specs.Search.{IsBestBut, IsFound, IsNoBetter, IsRankOf, is_rank_below, is_rank_below_best, choice_of}
 use Rattle.scheduler.proofs.OrderLemmas.{comes_before-self, comes_before-asym, comes_before-total, comes_before-cotrans}
 
@@ -141,3 +143,8 @@ pub lawful-queued : (queue : ℕ → List ThreadId) (eligible : ThreadId → Boo
     IsLawfulChoice queue eligible score last choice → IfSome choice (λ made. Contains (queue made.node) made.thread)
 lawful-queued queue eligible score last None lawful = tt
 lawful-queued queue eligible score last (Some choice) lawful = Contains-find eligible (queue choice.node) choice.thread lawful.first
+
+-- a rank by the eight pressures is one by the monitor
+pub ranked : (monitor : MonitorState) (edges : List EdgeLine) (last : ℕ → ℕ) (pressures : List ℕ) (rank : Rank) → ((node : ℕ) → score_by pressures edges node ≡ score monitor edges node) →
+    IsRankOf (score_by pressures edges) last rank → IsRankOf (score monitor edges) last rank
+ranked monitor edges last pressures rank same is = record { score = is.score ∙ same rank.node; last = is.last }

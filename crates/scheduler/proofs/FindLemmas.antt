@@ -1,5 +1,5 @@
 -- Needs that say who may go on.
-use Rattle.std.proofs.Common.{◌≡◌, ℕ, Bool, true, false, ◌&&◌, ◌||◌, not, cond, Option, Some, None, position, List, [], ◌∷◌, length, nat_lt, IfSome, refl, sym, ap, subst, ◌∙◌}
+use Rattle.std.proofs.Common.{◌≡◌, ◌<◌, ℕ, Bool, true, false, ◌&&◌, ◌||◌, not, cond, Option, Some, None, position, List, [], ◌∷◌, length, nat_lt, slice_index_or, IsSome, refl, sym, ap, subst, ◌∙◌}
 use Rattle.std.specs.BTreeMap.{BTreeMap, get}
 use Rattle.std.specs.List.{AllByRecursion}
 use Rattle.std.specs.Ordering.{nat_cmp}
@@ -9,8 +9,9 @@ use Rattle.ready_tree.specs.declared.entries.Entry.{Entry}
 use Rattle.ready_tree.specs.declared.needs.Need.{Need}
 use Rattle.ready_tree.specs.Entries.{entries_of, may_go}
 use Rattle.ready_tree.specs.Needs.{is_met, is_arrival}
-use Rattle.scheduler.specs.Queues.{AreExact, entries_in, passes_at, places_of}
+use Rattle.scheduler.specs.Queues.{AreExact, entries_in, passes_at, places_of, queues_of}
 use Rattle.scheduler.proofs.QueueLemmas.{same_first}
+use Rattle.scheduler.proofs.StateLemmas.{entries_are}
 
 -- ---- at the gate
 
@@ -47,8 +48,17 @@ all_map P Q [] goes all = tt
 all_map P Q (x ∷ xs) goes all = (goes x all.0, all_map P Q xs goes all.1)
 
 -- the needs of one queue say who passes where those of all do
-pub exact_here : (bounds : Option Bounds) (test : ThreadId → Bool) (queues : BTreeMap ℕ (List (Option Entry))) (node : ℕ) (queue : List (Option Entry)) → get nat_cmp queues node ≡ Some queue →
-    IfSome bounds (λ given. (other : ℕ) → AreExact given test (entries_in queues other)) → IfSome bounds (λ given. AreExact given test (entries_of queue))
-exact_here None test queues node queue there known = tt
-exact_here (Some given) test queues node queue there known =
+pub exact_here : (given : Bounds) (test : ThreadId → Bool) (queues : BTreeMap ℕ (List (Option Entry))) (node : ℕ) (queue : List (Option Entry)) → get nat_cmp queues node ≡ Some queue →
+    ((other : ℕ) → AreExact given test (entries_in queues other)) → AreExact given test (entries_of queue)
+exact_here given test queues node queue there known =
     subst (λ (o : Option (List (Option Entry))). AreExact given test (entries_of (places_of o))) there (known node)
+
+-- the needs that a world vouches for say who passes, where the bounds do for each such need
+pub all_exact : (queues : BTreeMap ℕ (List (Option Entry))) (count : ℕ) → ((node : ℕ) → IsSome (get nat_cmp queues node) → node < count) → (vouches : ThreadId → Need → Type 0) (given : Bounds) (test : ThreadId → Bool) →
+    ((thread : ThreadId) (need : Need) → vouches thread need → is_met given need ≡ test thread) →
+    ((node : ℕ) → AllByRecursion (λ entry. vouches entry.thread entry.need) (slice_index_or (queues_of queues count) node [])) →
+    (node : ℕ) → AreExact given test (entries_in queues node)
+all_exact queues count placed vouches given test says known node =
+    all_map (λ (e : Entry). vouches e.thread e.need) (λ (e : Entry). is_met given e.need ≡ test e.thread) (entries_in queues node)
+    (λ e vouched. says e.thread e.need vouched)
+    (subst (AllByRecursion (λ (e : Entry). vouches e.thread e.need)) (entries_are queues count placed node) (known node))

@@ -1,5 +1,5 @@
 -- Products and sums of the score, which fit 128 bits.
-use Rattle.std.proofs.Common.{to_z, of_z, FitsSigned, ◌≡◌, ℕ, ◌+◌, ◌*◌, ◌^◌, ◌≤◌, ◌<◌, ℤ, pos, ◌+ℤ◌, ◌*ℤ◌, unsigned_abs, add-one, refl, arith, rules}
+use Rattle.std.proofs.Common.{to_z, of_z, FitsSigned, ◌≡◌, ℕ, zero, suc, ◌+◌, ◌*◌, ◌^◌, ◌≤◌, ◌<◌, ℤ, pos, ◌+ℤ◌, ◌*ℤ◌, unsigned_abs, add-one, refl, arith, rules}
 use Rattle.std.specs.Int.{w128}
 use Rattle.std.proofs.lemmas.Int.{ints, unsigned_abs-mul, fits_signed_mul, fits_signed_from_abs, to_z-of_z}
 use Rattle.std.proofs.lemmas.Nat.{mul-le}
@@ -36,3 +36,13 @@ score_of_first-more pressure predicted n = rw add-one refl
 pub score_of_first-none : (pressure : ℕ → ℕ) (predicted : ℕ → ℤ) → score_of_first pressure predicted 0 ≡ pos 0
 unfolding score_of_first
 score_of_first-none pressure predicted = refl
+
+-- the same pressures give the same score
+pub score_of_first-same : (pressure other : ℕ → ℕ) (predicted : ℕ → ℤ) (n : ℕ) → ((resource : ℕ) → resource < n → pressure resource ≡ other resource) →
+    score_of_first pressure predicted n ≡ score_of_first other predicted n
+unfolding score_of_first
+score_of_first-same pressure other predicted zero same = refl
+score_of_first-same pressure other predicted (suc n) same =
+    let before = score_of_first-same pressure other predicted n (λ resource below. same resource (omega arith)) in
+    let here : pressure n ≡ other n = same n (omega arith) in
+    rw (before, here) refl

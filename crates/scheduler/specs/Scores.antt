@@ -1,5 +1,5 @@
 -- The order in which nodes are chosen.
-use Rattle.std.specs.Prelude.{ℕ, zero, suc, ◌==◌, ◌&&◌, ◌||◌, nat_lt, Bool, ℤ, pos, ◌+ℤ◌, ◌*ℤ◌, int_lt, int_le, List}
+use Rattle.std.specs.Prelude.{ℕ, zero, suc, ◌==◌, ◌&&◌, ◌||◌, nat_lt, Bool, ℤ, pos, ◌+ℤ◌, ◌*ℤ◌, int_lt, int_le, List, slice_index}
 use Rattle.blocking_graph.specs.declared.edges.EdgeLine.{EdgeLine}
 use Rattle.blocking_graph.specs.Edges.{prediction}
 use Rattle.resource_monitor.specs.Monitor.{MonitorState, pressure_at}
@@ -13,6 +13,10 @@ score_of_first pressure predicted (suc resource) =
 -- the score of a node: the sum over the eight resources of pressure times prediction
 abbrev pub score : MonitorState → List EdgeLine → ℕ → ℤ
 score monitor edges node = score_of_first (pressure_at monitor) (prediction edges node) 8
+
+-- the same by the eight pressures
+abbrev pub score_by : List ℕ → List EdgeLine → ℕ → ℤ
+score_by pressures edges node = score_of_first (slice_index pressures) (prediction edges node) 8
 
 -- whether one rank, of a score, a last choice and a number, is below another
 abbrev pub ranks_below : ℤ → ℕ → ℕ → ℤ → ℕ → ℕ → Bool

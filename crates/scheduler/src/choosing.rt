@@ -1,15 +1,16 @@
-ghost use Rattle.std.specs.Prelude.{◌≡◌, ◌<◌, ℕ, length, position, slice_index, Some, IsSome, IfSome};
+ghost use Rattle.std.specs.Prelude.{◌≡◌, ◌<◌, ℕ, Bool, length, position, slice_index, Some, IsSome, IfSome};
 ghost use Rattle.std.specs.BTreeMap.{get};
 ghost use Rattle.std.specs.Ordering.{nat_cmp};
+ghost use Rattle.cap_word.specs.declared.threads.ThreadId.{ThreadId as ThreadIdOf};
 ghost use Rattle.scheduler.specs.LawfulChoice.{is_eligible, IsLawfulChoice};
 ghost use Rattle.scheduler.specs.Queues.{AreExact, entries_in, passes_at, places_in, queue_in};
 ghost use Rattle.scheduler.specs.Scores.{score};
 ghost use Rattle.scheduler.specs.Search.{choice_of, is_rank_below_best};
 
 use crate::choices::Choice;
-use crate::finding::first_of;
+use crate::finding::{first_met, first_of};
 use crate::queues::NodeQueues;
-use crate::scores::{Rank, is_below, rank_of};
+use crate::scores::{Rank, is_below, pressures_of, rank_of};
 use blocking_graph::Graph;
 use cap_word::{Ready, ThreadId};
 use ready_tree::Bounds;
@@ -46,26 +47,52 @@ pub(crate) fn as_choice(best: Option<Candidate>) -> Option<Choice>
     })
 }
 
-/// The lawful choice. A node has one score, and a node that ranks after the best so far isn't asked for a
-/// thread. Where bounds are given, the needs say who may go on.
+/// The lawful choice, by asking. A node that ranks after the best so far isn't asked for a thread.
 pub(crate) fn best_of<C: Measure, R: Ready>(
     queues: &NodeQueues,
     lasts: &[u64],
     graph: &Graph,
     monitor: &Monitor<C>,
     ready: &R,
-    bounds: &Option<Bounds>,
 ) -> Option<Candidate>
-    requires placed { (node : ℕ) → IsSome (get nat_cmp queues.now node) → node < length lasts.now }
-    requires known { IfSome bounds.now (λ given. (node : ℕ) → AreExact given (is_eligible (R.is_ready ready.now) (R.at_accept ready.now) (R.any_elsewhere ready.now) monitor.now.is_open) (entries_in queues.now node)) }
-    ensures lawful { IsLawfulChoice (queue_in queues.now) (is_eligible (R.is_ready ready.now) (R.at_accept ready.now) (R.any_elsewhere ready.now) monitor.now.is_open) (score monitor.now graph.now.edges) (slice_index lasts.now) (choice_of result) }
-    ensures place { IfSome result (λ candidate. position (passes_at (is_eligible (R.is_ready ready.now) (R.at_accept ready.now) (R.any_elsewhere ready.now) monitor.now.is_open)) (places_in queues.now candidate.rank.node) ≡ Some candidate.place) }
+    requires { (node : ℕ) → IsSome (get nat_cmp queues.now node) → node < length lasts.now }
+    ensures { IsLawfulChoice (queue_in queues.now) (is_eligible (R.is_ready ready.now) (R.at_accept ready.now) (R.any_elsewhere ready.now) monitor.now.is_open) (score monitor.now graph.now.edges) (slice_index lasts.now) (choice_of result) }
 {
+    let pressures = pressures_of(monitor);
     let mut best: Option<Candidate> = None;
     for (node, queue) in queues {
-        let rank = rank_of(lasts, graph, monitor, *node);
+        let rank = rank_of(lasts, graph, &pressures, *node);
         if is_below_best(&rank, &best) {
-            if let Some(found) = first_of(queue, ready, monitor.gate(), bounds) {
+            if let Some(found) = first_of(queue, ready, monitor.gate()) {
+                best = Some(Candidate {
+                    rank,
+                    place: found.place,
+                    thread: found.thread,
+                });
+            }
+        }
+    }
+    best
+}
+
+/// The lawful choice where the needs say which threads may go on. A node at which none may isn't ranked.
+pub(crate) fn best_met<C: Measure>(
+    queues: &NodeQueues,
+    lasts: &[u64],
+    graph: &Graph,
+    monitor: &Monitor<C>,
+    bounds: &Bounds,
+) -> Option<Candidate>
+    requires { (node : ℕ) → IsSome (get nat_cmp queues.now node) → node < length lasts.now }
+    ensures lawful { (test : ThreadIdOf → Bool) → ((node : ℕ) → AreExact bounds.now test (entries_in queues.now node)) → IsLawfulChoice (queue_in queues.now) test (score monitor.now graph.now.edges) (slice_index lasts.now) (choice_of result) }
+    ensures place { (test : ThreadIdOf → Bool) → ((node : ℕ) → AreExact bounds.now test (entries_in queues.now node)) → IfSome result (λ candidate. position (passes_at test) (places_in queues.now candidate.rank.node) ≡ Some candidate.place) }
+{
+    let pressures = pressures_of(monitor);
+    let mut best: Option<Candidate> = None;
+    for (node, queue) in queues {
+        if let Some(found) = first_met(queue, bounds) {
+            let rank = rank_of(lasts, graph, &pressures, *node);
+            if is_below_best(&rank, &best) {
                 best = Some(Candidate {
                     rank,
                     place: found.place,

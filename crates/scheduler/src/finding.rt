@@ -68,18 +68,16 @@ fn found_at(queue: &ReadyTree, place: Option<usize>) -> Option<Found>
     })
 }
 
-/// The first thread of a queue that may go on: by needs where bounds are given, or else by asking.
-pub(crate) fn first_of<R: Ready>(
-    queue: &ReadyTree,
-    ready: &R,
-    gate_open: bool,
-    bounds: &Option<Bounds>,
-) -> Option<Found>
-    requires { IfSome bounds.now (λ given. AreExact given (is_eligible (R.is_ready ready.now) (R.at_accept ready.now) (R.any_elsewhere ready.now) gate_open) (entries_of queue.now)) }
+/// The first thread of a queue that may go on. Each before it is asked.
+pub(crate) fn first_of<R: Ready>(queue: &ReadyTree, ready: &R, gate_open: bool) -> Option<Found>
     ensures { IsFoundIf (is_eligible (R.is_ready ready.now) (R.at_accept ready.now) (R.any_elsewhere ready.now) gate_open) queue.now result }
 {
-    match bounds {
-        Some(bounds) => found_at(queue, queue.first(bounds)),
-        None => found_at(queue, first_asked(queue, ready, gate_open)),
-    }
+    found_at(queue, first_asked(queue, ready, gate_open))
+}
+
+/// The first thread of a queue whose need is met. Where the needs say which threads pass a test, it is the first that passes.
+pub(crate) fn first_met(queue: &ReadyTree, bounds: &Bounds) -> Option<Found>
+    ensures { (test : ThreadIdOf → Bool) → AreExact bounds.now test (entries_of queue.now) → IsFoundIf test queue.now result }
+{
+    found_at(queue, queue.first(bounds))
 }

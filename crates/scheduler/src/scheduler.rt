@@ -3,7 +3,7 @@ ghost use Rattle.scheduler.specs.LawfulChoice.{is_eligible, IsLawfulChoice};
 ghost use Rattle.scheduler.specs.Scores.{score};
 
 use crate::choices::Choice;
-use crate::choosing::{as_choice, best_of};
+use crate::choosing::{as_choice, best_met, best_of};
 use crate::finding::bounds_at_gate;
 use crate::queues::{NodeQueues, join, leave, leave_at, make_place};
 use blocking_graph::Graph;
@@ -90,20 +90,13 @@ impl Scheduler {
         ensures queued { IfSome result (λ choice. Contains (queue_of self.now choice.node) choice.thread) }
         ensures lawful { IsLawfulChoice (queue_of self.now) (is_eligible (R.is_ready ready.now) (R.at_accept ready.now) (R.any_elsewhere ready.now) monitor.now.is_open) (score monitor.now graph.now.edges) (last_of self.now) result }
     {
-        let best = best_of(
-            &self.queues,
-            self.lasts.as_slice(),
-            graph,
-            monitor,
-            ready,
-            &None,
-        );
+        let best = best_of(&self.queues, self.lasts.as_slice(), graph, monitor, ready);
         as_choice(best)
     }
 
     /// The choice that `choose` makes, which is noted then. No thread is asked: the needs that were told say who may go on, and
-    /// the world vouches for them. Each node with waiting threads costs a score and a search of as many steps as the tree
-    /// above its queue is high. It takes no memory.
+    /// the world vouches for them. Each node with waiting threads costs a search of as many steps as the tree above its queue is
+    /// high, and each node with an eligible thread a score. It takes no memory.
     pub fn take_choice<C: Measure, W: Bounded>(
         &mut self,
         graph: &Graph,
@@ -118,9 +111,9 @@ impl Scheduler {
         ensures taken { IfSome result (λ choice. IsTaken self.old self.new choice) }
         ensures none { result ≡ None → self.new ≡ self.old }
     {
-        let bounds = Some(bounds_at_gate(world, monitor.gate()));
+        let bounds = bounds_at_gate(world, monitor.gate());
         let lasts = self.lasts.as_slice();
-        let best = best_of(&self.queues, lasts, graph, monitor, world, &bounds);
+        let best = best_met(&self.queues, lasts, graph, monitor, &bounds);
         let Some(candidate) = best else {
             return None;
         };

@@ -1,7 +1,7 @@
-ghost use Rattle.std.specs.Prelude.{◌≡◌, ◌≤◌, ◌<◌, ◌^◌, pos, ◌*ℤ◌, unsigned_abs, slice_index, ◌*◌, length};
+ghost use Rattle.std.specs.Prelude.{◌≡◌, ◌≤◌, ◌<◌, ◌^◌, ℕ, List, pos, ◌*ℤ◌, unsigned_abs, slice_index, ◌*◌, length};
+ghost use Rattle.blocking_graph.specs.declared.edges.EdgeLine.{EdgeLine};
 ghost use Rattle.blocking_graph.specs.Edges.{prediction};
-ghost use Rattle.resource_monitor.specs.Monitor.{pressure_at};
-ghost use Rattle.scheduler.specs.Scores.{score};
+ghost use Rattle.scheduler.specs.Scores.{score, score_by};
 ghost use Rattle.scheduler.specs.Search.{IsRankOf, is_rank_below};
 
 use blocking_graph::Graph;
@@ -18,18 +18,25 @@ pub struct Rank {
     pub node: u32,
 }
 
+/// The pressures of the eight resources. They don't change while a choice is made.
+pub(crate) fn pressures_of<C: Measure>(monitor: &Monitor<C>) -> [u32; 8]
+    ensures scores { (edges : List EdgeLine) → (node : ℕ) → score_by result edges node ≡ score monitor.now edges node }
+    ensures most { (resource : ℕ) → resource < 8 → slice_index result resource ≤ 1000 }
+{
+    let mut pressures = [0; 8];
+    for resource in 0..8u32 {
+        pressures[resource as usize] = monitor.pressure(resource);
+    }
+    pressures
+}
+
 /// The pressure on a resource times the change of it that is expected of a segment from the node.
-fn expected_strain<C: Measure>(
-    graph: &Graph,
-    monitor: &Monitor<C>,
-    node: u32,
-    resource: u32,
-) -> i128
-    requires { resource < 8 }
-    ensures value { result ≡ pos (pressure_at monitor.now resource) *ℤ prediction graph.now.edges node resource }
+fn expected_strain(graph: &Graph, pressure: u32, node: u32, resource: u32) -> i128
+    requires there { resource < 8 }
+    requires most { pressure ≤ 1000 }
+    ensures value { result ≡ pos pressure *ℤ prediction graph.now.edges node resource }
     ensures small { unsigned_abs result ≤ 1000 * 2 ^ 39 }
 {
-    let pressure = monitor.pressure(resource);
     if pressure == 0 {
         return 0;
     }
@@ -37,29 +44,26 @@ fn expected_strain<C: Measure>(
 }
 
 /// The score of a node: the sum of that over the eight resources.
-fn score_of<C: Measure>(graph: &Graph, monitor: &Monitor<C>, node: u32) -> i128
-    ensures { result ≡ score monitor.now graph.now.edges node }
+fn score_of(graph: &Graph, pressures: &[u32; 8], node: u32) -> i128
+    requires { (resource : ℕ) → resource < 8 → slice_index pressures.now resource ≤ 1000 }
+    ensures { result ≡ score_by pressures.now graph.now.edges node }
 {
     let mut total: i128 = 0;
     for resource in 0..8u32 {
-        total += expected_strain(graph, monitor, node, resource);
+        total += expected_strain(graph, pressures[resource as usize], node, resource);
     }
     total
 }
 
 /// The rank of a node.
-pub(crate) fn rank_of<C: Measure>(
-    lasts: &[u64],
-    graph: &Graph,
-    monitor: &Monitor<C>,
-    node: u32,
-) -> Rank
-    requires { node < length lasts.now }
-    ensures rank { IsRankOf (score monitor.now graph.now.edges) (slice_index lasts.now) result }
+pub(crate) fn rank_of(lasts: &[u64], graph: &Graph, pressures: &[u32; 8], node: u32) -> Rank
+    requires there { node < length lasts.now }
+    requires most { (resource : ℕ) → resource < 8 → slice_index pressures.now resource ≤ 1000 }
+    ensures rank { IsRankOf (score_by pressures.now graph.now.edges) (slice_index lasts.now) result }
     ensures node { result.node ≡ node }
 {
     Rank {
-        score: score_of(graph, monitor, node),
+        score: score_of(graph, pressures, node),
         last: lasts[node as usize],
         node,
     }

@@ -10,6 +10,8 @@ pub mod Linking
 pub mod NewThread
 pub mod Owning
 pub mod Reading
+pub mod ReadyTurns
+pub mod RegisterFiles
 pub mod Retiring
 pub mod Scales
 pub mod SpotWords

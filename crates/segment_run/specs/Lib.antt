@@ -10,3 +10,4 @@ pub mod Lookups
 pub mod Sources
 pub mod Walking
 pub mod Payloads
+pub mod ReadyTurns

@@ -222,6 +222,35 @@ impl Areas {
     }
 }
 
+impl Areas {
+    ghost use Rattle.std.specs.Prelude.{ℕ, true, Ok};
+    ghost use Rattle.machine_world.specs.Areas.{byte_at, is_writable, with_byte};
+    ghost use Rattle.rv_machine.specs.Bytes.{with_word, word_is_writable};
+    ghost use Rattle.rv_machine.specs.Rows.{word_loaded};
+
+    // The word at an address from which one can be loaded.
+    #[inline(always)]
+    pub(crate) fn read_word(&self, address: u32) -> u32
+        requires { (word : ℕ) × (word_loaded (byte_at self.now) address ≡ Ok word) }
+        ensures { word_loaded (byte_at self.now) address ≡ Ok result }
+    {
+        match self.load_word(address) {
+            Some(word) => word,
+            None => unreachable!(),
+        }
+    }
+
+    // Writes a word at an address at which one can be stored.
+    #[inline(always)]
+    pub(crate) fn put_word(&mut self, address: u32, word: u32)
+        requires aligned { address % 4 ≡ 0 }
+        requires writable { word_is_writable (is_writable self.old) address ≡ true }
+        ensures { self.new ≡ with_word with_byte self.old address word }
+    {
+        self.store_word(address, word);
+    }
+}
+
 // The word with that byte in the place k of its four bytes.
 fn put_byte(word: u32, k: u32, byte: u8) -> u32
     requires { k < 4 }

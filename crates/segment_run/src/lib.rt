@@ -13,6 +13,8 @@ mod contexts;
 mod links;
 mod lookups;
 mod places;
+mod ready_turns;
+mod register_file;
 mod registers;
 mod running;
 mod segments;

@@ -13,6 +13,7 @@ ghost use Rattle.segment_run.specs.Turns.{thread_of, turn_of, call_with, IsAtEca
 use crate::areas::Areas;
 use crate::links::{end, link, unlink};
 use crate::lookups::function_with_entry;
+use crate::ready_turns::run_ready;
 use crate::registers::{A0, A1};
 use accepted_pairs::Accepted;
 use cap_word::{Ask, Block, TrapKind};
@@ -69,6 +70,21 @@ pub(crate) fn run_to_call(
     let mut regs = thread.regs;
     let mut left = fuel;
     while left > 0 {
+        let running = Thread {
+            regs,
+            chunk: thread.chunk,
+            depth: thread.depth,
+        };
+        let progress = run_ready(accepted, areas, running, left);
+        regs = progress.regs;
+        left = progress.left;
+        if left == 0 {
+            return Pause {
+                regs,
+                left,
+                call: None,
+            };
+        }
         let instr = fetch(instrs, regs.pc);
         match step_of(instr, areas, &mut regs) {
             StepResult::Went => left -= 1,

@@ -1,13 +1,13 @@
--- A choice that `choose` gave may be noted, where no choice is under way.
-use Rattle.std.proofs.Common.{◌≡◌, ℕ, ◌&&◌, Bool, true, false, IsTrue, Option, None, List, [], ◌∷◌, refl, sym, ap, ◌∙◌, subst}
+-- A choice that `choose` or `first` gave may be noted, where no choice is under way.
+use Rattle.std.proofs.Common.{◌≡◌, ℕ, ◌&&◌, ◌||◌, not, Bool, true, false, IsTrue, Option, Some, None, List, [], ◌∷◌, refl, sym, ap, ◌∙◌, subst}
 use Rattle.std.specs.Prelude.{IsSome, IfSome}
 use Rattle.std.specs.List.{AllByRecursion, list_all}
 use Rattle.cap_word.specs.declared.threads.ThreadId.{ThreadId}
 use Rattle.stride_rule.specs.declared.choices.StrideChoice.{StrideChoice}
 use Rattle.stride_rule.specs.declared.clients.Client.{Client}
-use Rattle.stride_rule.specs.Choices.{IsFirst, IsFirstEligible}
+use Rattle.stride_rule.specs.Choices.{IsFirst, IsFirstEligible, IsLawfulStrideChoice, IsLawfulStrideThread, choice_among}
 use Rattle.stride_rule.specs.Clients.{client_of, is_before}
-use Rattle.stride_rule.specs.State.{StrideState, waiting_in, waiting_of}
+use Rattle.stride_rule.specs.State.{StrideState, IsNotedAs, IsNotedAsIf, after_choice, waiting_in, waiting_of}
 
 -- all clients wait
 pub waiting-none : (cs : List Client) → waiting_in None cs ≡ cs
@@ -41,3 +41,33 @@ pub may_be_noted : (rule : StrideState) (eligible : ThreadId → Bool) (choice :
 may_be_noted rule eligible choice none is =
     let all : waiting_of rule ≡ rule.clients = ap (λ (r : Option ℕ). waiting_in r rule.clients) none ∙ waiting-none rule.clients in
     noted_by rule eligible choice (subst (λ (cs : List Client). IsFirstEligible cs eligible choice) all is)
+
+-- ---- what is noted
+
+pub noted_as_made : (rule : StrideState) (eligible : ThreadId → Bool) (choice : StrideChoice) → IsFirstEligible (waiting_of rule) eligible choice → IsNotedAs rule eligible choice
+noted_as_made rule eligible choice is = record {
+  first = record { client = is.client; waits = is.waits; thread_is = is.thread_is; passes = is.passes; first = is.first; all_is = refl };
+  all = λ all. sym is.all_is ∙ all;
+  held_back = ap (λ (b : Bool). rule.held_back || not b) is.all_is;
+}
+
+pub noted_as_made_if : (rule : StrideState) (eligible : ThreadId → Bool) (choice : Option StrideChoice) → IsLawfulStrideChoice (waiting_of rule) eligible choice → IsNotedAsIf rule eligible choice
+noted_as_made_if rule eligible None nobody = nobody
+noted_as_made_if rule eligible (Some choice) is = noted_as_made rule eligible choice is
+
+pub noted_as_held : (rule : StrideState) (eligible : ThreadId → Bool) (thread : ThreadId) → rule.held_back ≡ true → IsLawfulStrideThread (waiting_of rule) eligible (Some thread) →
+    IsNotedAs rule eligible (record { thread = thread; all = false })
+noted_as_held rule eligible thread held lawful = record {
+  first = lawful;
+  all = λ no. absurd (let e : false ≡ true = no in cc);
+  held_back = rw held refl;
+}
+
+module _ (rule : StrideState) (eligible : ThreadId → Bool) (choice : StrideChoice) (is : IsNotedAs rule eligible choice) where
+  pub noted_may_be : rule.running ≡ None → MayBeNoted rule choice
+  noted_may_be none =
+      let made = may_be_noted rule eligible (choice_among (waiting_of rule) eligible choice.thread) none is.first in
+      record { waits = made.waits; first = λ all. made.first (is.all all) }
+
+  pub noted_same : after_choice rule choice ≡ after_choice rule (choice_among (waiting_of rule) eligible choice.thread)
+  noted_same = ap (λ (b : Bool). record (after_choice rule choice) { held_back = b }) is.held_back

@@ -6,11 +6,11 @@ use Rattle.std.proofs.lemmas.Bool.Decides.{nat_tests}
 use Rattle.cap_word.specs.declared.threads.ThreadId.{ThreadId}
 use Rattle.stride_rule.specs.declared.clients.Client.{Client}
 use Rattle.stride_rule.specs.declared.searching.Found.{Found}
-use Rattle.stride_rule.specs.Choices.{IsFirstEligible}
+use Rattle.stride_rule.specs.Choices.{IsFirstEligible, IsLawfulStrideThread}
 use Rattle.stride_rule.specs.Clients.{IsAbsent, client_of, is_before, is_running}
-use Rattle.stride_rule.specs.Search.{better, found_with, found_from, found_in}
+use Rattle.stride_rule.specs.Search.{better, found_with, found_from, found_in, first_with, first_from, first_in}
 use Rattle.stride_rule.specs.State.{AreOnce, waiting_in}
-use Rattle.stride_rule.proofs.ClientLemmas.{by_test, other_number}
+use Rattle.stride_rule.proofs.ClientLemmas.{all_to, by_test, other_number}
 use Rattle.stride_rule.proofs.OrderLemmas.{goes_before-self, goes_before-asym, goes_before-cotrans}
 
 is_before-self : (a : Client) → is_before a a ≡ false
@@ -245,3 +245,71 @@ module _ (eligible : ThreadId → Bool) (running : Option ℕ) where
       let best : IsBest None (waiting_in running cs) None =
       subst (λ (o : Option Client). IsBest None (waiting_in running cs) o) e (best_from (record { best = None; all = true }) cs) in
       best.1
+
+-- ---- the first alone
+
+module _ (eligible : ThreadId → Bool) where
+  abbrev alone : Option Client → Found
+  alone best = record { best = best; all = false }
+
+  -- one more client, by whether it is eligible and whether it goes before the best so far
+  one_alone_by : (best : Option Client) (c : Client) (passes : Bool) → eligible c.thread ≡ passes → found_with eligible None (alone best) c ≡ alone (first_with eligible best c)
+  one_alone_by None c true e = rw e refl
+  one_alone_by None c false e = rw e refl
+  one_alone_by (Some b) c true e = compared_by (is_before c b) refl where
+    compared_by : (goes : Bool) → is_before c b ≡ goes → found_with eligible None (alone (Some b)) c ≡ alone (first_with eligible (Some b) c)
+    compared_by true f = rw (e, f) refl
+    compared_by false f = rw (e, f) refl
+  one_alone_by (Some b) c false e = compared_by (is_before c b) refl where
+    compared_by : (goes : Bool) → is_before c b ≡ goes → found_with eligible None (alone (Some b)) c ≡ alone (first_with eligible (Some b) c)
+    compared_by true f = rw (e, f) refl
+    compared_by false f = rw (e, f) refl
+
+  alone_from : (best : Option Client) (cs : List Client) → (found_from eligible None (alone best) cs).best ≡ first_from eligible best cs
+  alone_from best [] = refl
+  alone_from best (c ∷ cs) =
+      ap (λ (f : Found). (found_from eligible None f cs).best) (one_alone_by best c (eligible c.thread) refl) ∙ alone_from (first_with eligible best c) cs
+
+  best_alone : (running : Option ℕ) (cs : List Client) → running ≡ None → IsBest eligible running None (waiting_in running cs) (first_in eligible cs)
+  best_alone running cs none =
+      subst (λ (r : Option ℕ). IsBest eligible r None (waiting_in r cs) (first_in eligible cs)) (sym none)
+      (subst (λ (o : Option Client). IsBest eligible None None (waiting_in None cs) o) (alone_from None cs) (best_from eligible None (alone None) cs))
+
+  pub first_alone : (running : Option ℕ) (cs : List Client) (b : Client) → running ≡ None → AreOnce cs → Some b ≡ first_in eligible cs →
+      IsLawfulStrideThread (waiting_in running cs) eligible (Some b.thread)
+  first_alone running cs b none once e =
+      let best : IsBest eligible running None (waiting_in running cs) (Some b) =
+      subst (λ (o : Option Client). IsBest eligible running None (waiting_in running cs) o) (sym e) (best_alone running cs none) in
+      chosen_from eligible running b (waiting_in running cs) (once-waiting running cs once) best (list_all (λ c. eligible c.thread) (waiting_in running cs)) refl
+
+  pub none_alone : (running : Option ℕ) (cs : List Client) → running ≡ None → None ≡ first_in eligible cs →
+      IsLawfulStrideThread (waiting_in running cs) eligible None
+  none_alone running cs none e =
+      let best : IsBest eligible running None (waiting_in running cs) None =
+      subst (λ (o : Option Client). IsBest eligible running None (waiting_in running cs) o) (sym e) (best_alone running cs none) in
+      best.1
+
+-- ---- the least of all, where it is eligible
+
+module _ (eligible : ThreadId → Bool) (running : Option ℕ) where
+  abbrev anyone : ThreadId → Bool
+  anyone = λ thread. true
+
+  lies_of : (b : Client) (waiting : List Client) → (None ≡ Some b) ⊎ (Lies b waiting × (true ≡ true)) → Lies b waiting
+  lies_of b waiting (inl failing) = absurd cc
+  lies_of b waiting (inr l) = l.0
+
+  eligible_least : (b : Client) (waiting : List Client) → eligible b.thread ≡ true → IsBestNow anyone running None waiting b → IsBestNow eligible running None waiting b
+  eligible_least b waiting passing is = record {
+    from = inr (lies_of b waiting is.from, passing);
+    no_better = tt;
+    first = all_to (λ c. IsTrue true → is_before c b ≡ false) (λ c. IsTrue (eligible c.thread) → is_before c b ≡ false) (λ c h _. h refl) waiting is.first;
+  }
+
+  pub first_least : (cs : List Client) (b : Client) → running ≡ None → AreOnce cs → Some b ≡ first_in (λ thread. true) cs → eligible b.thread ≡ true →
+      IsLawfulStrideThread (waiting_in running cs) eligible (Some b.thread)
+  first_least cs b none once e passing =
+      let best : IsBest anyone running None (waiting_in running cs) (Some b) =
+      subst (λ (o : Option Client). IsBest anyone running None (waiting_in running cs) o) (sym e) (best_alone anyone running cs none) in
+      chosen_from eligible running b (waiting_in running cs) (once-waiting running cs once) (eligible_least b (waiting_in running cs) passing best)
+      (list_all (λ c. eligible c.thread) (waiting_in running cs)) refl

@@ -24,3 +24,12 @@ pub record IsFirstEligible (waiting : List Client) (eligible : ThreadId → Bool
 abbrev pub IsLawfulStrideChoice : List Client → (ThreadId → Bool) → Option StrideChoice → Type 0
 IsLawfulStrideChoice waiting eligible None = AllByRecursion (λ client. eligible client.thread ≡ false) waiting
 IsLawfulStrideChoice waiting eligible (Some choice) = IsFirstEligible waiting eligible choice
+
+-- the choice of a thread, which tells whether all that wait are eligible
+abbrev pub choice_among : List Client → (ThreadId → Bool) → ThreadId → StrideChoice
+choice_among waiting eligible thread = record { thread = thread; all = list_all (λ other. eligible other.thread) waiting }
+
+-- the thread of the lawful choice, and none exactly where no client that waits is eligible
+abbrev pub IsLawfulStrideThread : List Client → (ThreadId → Bool) → Option ThreadId → Type 0
+IsLawfulStrideThread waiting eligible None = AllByRecursion (λ client. eligible client.thread ≡ false) waiting
+IsLawfulStrideThread waiting eligible (Some thread) = IsFirstEligible waiting eligible (choice_among waiting eligible thread)

@@ -1,5 +1,5 @@
 -- A search through the clients, one after another.
-use Rattle.std.specs.Prelude.{ℕ, Bool, true, false, if◌then◌else◌, Option, Some, None, List, [], ◌∷◌}
+use Rattle.std.specs.Prelude.{ℕ, Bool, true, false, ◌&&◌, if◌then◌else◌, Option, Some, None, List, [], ◌∷◌}
 use Rattle.cap_word.specs.declared.threads.ThreadId.{ThreadId}
 use Rattle.stride_rule.specs.declared.clients.Client.{Client}
 use Rattle.stride_rule.specs.declared.searching.Found.{Found}
@@ -24,3 +24,21 @@ found_from eligible running found (client ∷ clients) = found_from eligible run
 
 abbrev pub found_in : (ThreadId → Bool) → Option ℕ → List Client → Found
 found_in eligible running clients = found_from eligible running (record { best = None; all = true }) clients
+
+-- ---- the first alone, where all clients wait
+
+-- whether a client goes before the best so far, or there is none
+abbrev pub is_before_best : Client → Option Client → Bool
+is_before_best client None = true
+is_before_best client (Some best) = is_before client best
+
+-- the first so far with one more client
+abbrev pub first_with : (ThreadId → Bool) → Option Client → Client → Option Client
+first_with eligible best client = if is_before_best client best && eligible client.thread then Some client else best
+
+abbrev pub first_from : (ThreadId → Bool) → Option Client → List Client → Option Client
+first_from eligible best [] = best
+first_from eligible best (client ∷ clients) = first_from eligible (first_with eligible best client) clients
+
+abbrev pub first_in : (ThreadId → Bool) → List Client → Option Client
+first_in eligible clients = first_from eligible None clients

@@ -1,9 +1,10 @@
 -- What a stride rule means, and what its calls do to that.
-use Rattle.std.specs.Prelude.{ℕ, ◌≡◌, ⊤, ◌+◌, ◌*◌, ◌^◌, ◌≤◌, max, Bool, false, not, ◌||◌, Option, Some, None, List, [], ◌∷◌, ◌++◌, filter}
-use Rattle.std.specs.List.{AllByRecursion}
+use Rattle.std.specs.Prelude.{ℕ, ◌≡◌, ⊤, ◌+◌, ◌*◌, ◌^◌, ◌≤◌, max, Bool, true, false, not, ◌||◌, IsTrue, Option, Some, None, List, [], ◌∷◌, ◌++◌, filter}
+use Rattle.std.specs.List.{AllByRecursion, list_all}
 use Rattle.cap_word.specs.declared.threads.ThreadId.{ThreadId}
 use Rattle.stride_rule.specs.declared.choices.StrideChoice.{StrideChoice}
 use Rattle.stride_rule.specs.declared.clients.Client.{Client}
+use Rattle.stride_rule.specs.Choices.{IsFirstEligible, choice_among}
 use Rattle.stride_rule.specs.Clients.{IsAbsent, is_running, pass_in, grown, without}
 use Rattle.stride_rule.specs.Tickets.{AreTickets, stride_of}
 
@@ -54,6 +55,18 @@ after_segment rule = record rule { running = None }
 -- the choice under way has ended, and its thread has left
 abbrev pub after_leaving : StrideState → ℕ → StrideState
 after_leaving rule number = record rule { clients = without number rule.clients; running = None }
+
+-- the choice as it is noted: its thread is the one to go on; whether all that wait are eligible is told where no thread was held back
+-- before, and tells the rule nothing more where one was
+pub record IsNotedAs (rule : StrideState) (eligible : ThreadId → Bool) (choice : StrideChoice) : Type 0 where
+  pub first : IsFirstEligible (waiting_of rule) eligible (choice_among (waiting_of rule) eligible choice.thread)
+  pub all : IsTrue choice.all → list_all (λ other. eligible other.thread) (waiting_of rule) ≡ true
+  pub held_back : (rule.held_back || not choice.all) ≡ (rule.held_back || not (list_all (λ other. eligible other.thread) (waiting_of rule)))
+
+-- and there is none exactly where no thread that waits is eligible
+abbrev pub IsNotedAsIf : StrideState → (ThreadId → Bool) → Option StrideChoice → Type 0
+IsNotedAsIf rule eligible None = AllByRecursion (λ client. eligible client.thread ≡ false) (waiting_of rule)
+IsNotedAsIf rule eligible (Some choice) = IsNotedAs rule eligible choice
 
 -- ---- what a rule keeps
 

@@ -4,10 +4,11 @@ ghost use Rattle.stride_rule.specs.Tickets.{AreTickets};
 
 use crate::choices::StrideChoice;
 use crate::clients::{Client, grow, take_out};
-use crate::searching::search;
+use crate::searching::{search, search_first, search_least};
 use crate::spreads::apart;
 use crate::tickets::stride_for;
 use cap_word::{Ready, ThreadId};
+use scheduler::may_go_on;
 use std::alloc::{AllocError, Global};
 use std::marker::Model;
 
@@ -41,10 +42,10 @@ impl Model for StrideRule {
 }
 
 impl StrideRule {
-    ghost use Rattle.stride_rule.specs.Choices.{IsLawfulStrideChoice, IsFirst};
+    ghost use Rattle.stride_rule.specs.Choices.{IsLawfulStrideChoice, IsLawfulStrideThread, IsFirst, choice_among};
     ghost use Rattle.stride_rule.specs.Clients.{IsAbsent, client_of};
     ghost use Rattle.stride_rule.specs.Spread.{spread_of};
-    ghost use Rattle.stride_rule.specs.State.{new_rule, waiting_of, with_client, after_choice, after_segment, after_leaving};
+    ghost use Rattle.stride_rule.specs.State.{IsNotedAsIf, new_rule, waiting_of, with_client, after_choice, after_segment, after_leaving};
 
     /// A rule without threads. The tickets are given by the numbers of threads, which rise strictly, and are from 1 to 1,024
     /// each; every other thread has 1. It takes no memory.
@@ -109,6 +110,56 @@ impl StrideRule {
         self.running = Some(choice.thread.number);
         self.noted += 1;
         self.held_back = is_held_back(self.held_back, choice.all);
+    }
+
+    /// The thread of the choice that `choose` makes, where no choice is under way. The first thread of all is asked before the
+    /// others, and then none that goes after the best one so far. It takes no memory.
+    pub fn first<R: Ready>(&self, gate_open: bool, ready: &R) -> Option<ThreadId>
+        requires { self.now.running ≡ None }
+        ensures { IsLawfulStrideThread (waiting_of self.now) (is_eligible (R.is_ready ready.now) (R.at_accept ready.now) (R.any_elsewhere ready.now) gate_open) result }
+    {
+        let clients = self.clients.as_slice();
+        if let Some(least) = search_least(clients) {
+            if may_go_on(ready, gate_open, least.thread) {
+                return Some(least.thread);
+            }
+        }
+        match search_first(clients, gate_open, ready) {
+            Some(client) => Some(client.thread),
+            None => None,
+        }
+    }
+
+    /// The choice as it is to be noted. Where a thread was held back before, it isn't looked for whether one is now.
+    fn choice_to_note<R: Ready>(&self, gate_open: bool, ready: &R) -> Option<StrideChoice>
+        requires { self.now.running ≡ None }
+        ensures { IsNotedAsIf self.now (is_eligible (R.is_ready ready.now) (R.at_accept ready.now) (R.any_elsewhere ready.now) gate_open) result }
+    {
+        if self.held_back {
+            match self.first(gate_open, ready) {
+                Some(thread) => Some(StrideChoice { thread, all: false }),
+                None => None,
+            }
+        } else {
+            self.choose(gate_open, ready)
+        }
+    }
+
+    /// The thread of the choice that `choose` makes. The choice is noted, and under way from here on. Each thread that waits is
+    /// asked until some choice finds one that isn't eligible, and from then on none that goes after the best one so far. It takes
+    /// no memory.
+    pub fn take<R: Ready>(&mut self, gate_open: bool, ready: &R) -> Option<ThreadId>
+        requires none_under_way { self.old.running ≡ None }
+        requires room { self.old.noted < 2 ^ 40 }
+        ensures lawful { IsLawfulStrideThread (waiting_of self.old) (is_eligible (R.is_ready ready.now) (R.at_accept ready.now) (R.any_elsewhere ready.now) gate_open) result }
+        ensures noted { IfSome result (λ thread. self.new ≡ after_choice self.old (choice_among (waiting_of self.old) (is_eligible (R.is_ready ready.now) (R.at_accept ready.now) (R.any_elsewhere ready.now) gate_open) thread)) }
+        ensures none { result ≡ None → self.new ≡ self.old }
+    {
+        let Some(choice) = self.choice_to_note(gate_open, ready) else {
+            return None;
+        };
+        self.note_choice(&choice);
+        Some(choice.thread)
     }
 
     /// Ends the choice under way: its thread waits again. It takes no memory.

@@ -1,6 +1,6 @@
-ghost use Rattle.std.specs.Prelude.{◌≡◌};
+ghost use Rattle.std.specs.Prelude.{◌≡◌, true};
 ghost use Rattle.scheduler.specs.LawfulChoice.{is_eligible};
-ghost use Rattle.stride_rule.specs.Search.{better, found_with, found_in};
+ghost use Rattle.stride_rule.specs.Search.{better, found_with, found_in, first_in, is_before_best};
 
 use crate::clients::{Client, is_client_before, is_client_running};
 use cap_word::Ready;
@@ -73,4 +73,44 @@ pub(crate) fn search<R: Ready>(
         found = looked_at(found, running, client, gate_open, ready);
     }
     found
+}
+
+/// Whether a client goes before the best so far, or there is none so far.
+fn is_before_best_so_far(client: &Client, best: &Option<Client>) -> bool
+    ensures { result ≡ is_before_best client.now best.now }
+{
+    match best {
+        Some(best) => is_client_before(client, best),
+        None => true,
+    }
+}
+
+/// The first of the clients, whether they may go on or not.
+pub(crate) fn search_least(clients: &[Client]) -> Option<Client>
+    ensures { result ≡ first_in (λ thread. true) clients.now }
+{
+    let mut best: Option<Client> = None;
+    for client in clients {
+        if is_before_best_so_far(client, &best) {
+            best = Some(*client);
+        }
+    }
+    best
+}
+
+/// The first of the clients that may go on, where no choice is under way. A client that goes after the best so far isn't asked.
+pub(crate) fn search_first<R: Ready>(
+    clients: &[Client],
+    gate_open: bool,
+    ready: &R,
+) -> Option<Client>
+    ensures { result ≡ first_in (is_eligible (R.is_ready ready.now) (R.at_accept ready.now) (R.any_elsewhere ready.now) gate_open) clients.now }
+{
+    let mut best: Option<Client> = None;
+    for client in clients {
+        if is_before_best_so_far(client, &best) && may_go_on(ready, gate_open, client.thread) {
+            best = Some(*client);
+        }
+    }
+    best
 }

@@ -2,3 +2,5 @@ pub mod Meaning
 pub mod Rests
 pub mod Values
 pub mod Lines
+pub mod OfText
+pub mod ReadLines

@@ -11,8 +11,8 @@ use Rattle.choice_rules.specs.Deliveries.{delivery_of, received}
 use Rattle.choice_rules.specs.EdgeLines.{edge_entry}
 use Rattle.choice_rules.specs.SourceRuns.{outputs_of, HasRun, IsCut}
 use Rattle.deep_mean.specs.DeepTrees.{DeepProgram}
-use Rattle.deep_mean.specs.DeepWorld.{DeepRest}
-use Rattle.hoist_meaning.specs.SameRuns.{RunsTheSame}
+use Rattle.deep_mean.specs.DeepWorld.{DeepRest, DeepWorld}
+use Rattle.hoist_meaning.specs.SameRuns.{RunsTheSame, WorldsAlike}
 use Rattle.lawful_log.specs.Choice.{IsRun}
 use Rattle.lawful_log.specs.Deliveries.{IsComing}
 use Rattle.lawful_log.specs.Good.{delivered}
@@ -21,12 +21,13 @@ use Rattle.lawful_log.specs.Segments.{IsOut, IsBlock, IsEnd}
 use Rattle.lawful_log.specs.Setup.{Setup}
 use Rattle.lawful_log.specs.State.{Segment, State, start_of}
 use Rattle.lawful_log.specs.Stops.{IsStop}
+use Rattle.lawful_reading.specs.Happenings.{live_in}
 use Rattle.machine_world.specs.Threads.{World}
 use Rattle.schedule_log.specs.declared.entries.Entry.{Entry}
 use Rattle.schedule_log.specs.declared.entries.Item.{Item}
 use Rattle.schedule_log.specs.declared.entries.StopLine.{StopLine}
-use Rattle.text_logs.specs.TextLog.{lines_of, ComesTo, ComesToTrap, ComesToCut, StopsSo, AreTextLines, IsTextLog}
-use Rattle.text_logs.proofs.Rests.{rest_at, blocked_in, ended_in}
+use Rattle.text_logs.specs.TextLog.{lines_of, ComesTo, HaveAllEnded, IsSomeLive, ComesToTrap, ComesToCut, StopsSo, AreTextLines, IsTextLog}
+use Rattle.text_logs.proofs.Rests.{rest_at, blocked_in, ended_in, all_ended, some_live}
 use Rattle.text_logs.proofs.Values.{put_more, after_more, delivered_is}
 
 -- what the segment under way has put
@@ -161,11 +162,12 @@ module _ (g : Setup) (text : DeepProgram) (same : RunsTheSame g.program text) wh
   edges_on [] stop schedule put h = h
   edges_on (edge ∷ edges) stop schedule put h = edges_on edges stop schedule put h
 
-  -- a stop at a choice point
-  point_on : (last : State) (schedule : List source.Entry) (put : List (ℕ × ℤ)) → is_some last.segment ≡ false → Position last schedule put → ComesTo text caps schedule put (λ world. Unit {0})
-  point_on last schedule put between at =
+  -- a stop at a choice point, where something holds of each world of the text that is like the source's
+  point_on : (last : State) (schedule : List source.Entry) (put : List (ℕ × ℤ)) (asked : DeepWorld → Type 0) → is_some last.segment ≡ false → Position last schedule put →
+      ((world : DeepWorld) → WorldsAlike last.source world → asked world) → ComesTo text caps schedule put asked
+  point_on last schedule put asked between at holds =
       let there = same.reached caps schedule last.source at.after in
-      (there.0, there.1, between_values last schedule put between at ∙ ap lines_of (append-nil last.source.outputs) ∙ ap lines_of there.2.outputs, tt)
+      (there.0, there.1, between_values last schedule put between at ∙ ap lines_of (append-nil last.source.outputs) ∙ ap lines_of there.2.outputs, holds there.0 there.2)
 
   trap_on : (last : State) (segment : Segment) (schedule : List source.Entry) (put : List (ℕ × ℤ)) (thread : ℕ) (kind : TrapKind) (world : source.World) → last.segment ≡ Some segment → thread ≡ segment.thread →
       HasRun g.program caps last.source segment.thread segment.puts (Some kind) world → Position last schedule put → ComesToTrap text caps schedule put thread kind
@@ -182,20 +184,28 @@ module _ (g : Setup) (text : DeepProgram) (same : RunsTheSame g.program text) wh
       let there = same.cut caps schedule last.source thread number cut.reached at.after mine in
       (there.0, number, there.1, there.2, there.3, within_values last segment schedule put under at ∙ ap lines_of (sym cut.puts) ∙ ap lines_of there.4)
 
-  stop_on : (last : State) (stop : StopLine) (end : World) → IsStop g last stop end → (schedule : List source.Entry) (put : List (ℕ × ℤ)) → Position last schedule put → StopsSo text caps schedule put stop
-  stop_on last StopLine.Done end is schedule put at = point_on last schedule put is.0.between at
-  stop_on last StopLine.Idle end is schedule put at = point_on last schedule put is.0.between at
-  stop_on last (StopLine.Trace line) end is schedule put at = point_on last schedule put is.0.between at
-  stop_on last (StopLine.Cut thread (Stop.Trap kind) cost free) end is schedule put at = trap_on last is.segment schedule put thread kind is.puts.0 is.way.under_way is.thread_is is.puts.1 at
-  stop_on last (StopLine.Cut thread Stop.NoChunk cost free) end is schedule put at = cut_on last is.segment schedule put thread is.way.under_way is.thread_is is.puts at
-  stop_on last (StopLine.Cut thread Stop.Fuel cost free) end is schedule put at = cut_on last is.segment schedule put thread is.way.under_way is.thread_is is.puts at
-  stop_on last (StopLine.Cut thread Stop.Threads cost free) end is schedule put at = cut_on last is.segment schedule put thread is.way.under_way is.thread_is is.puts at
+  -- as many threads of the machine are live as of the source, where the stop comes at a choice point
+  abbrev AreAsMany : State → Type 0
+  AreAsMany last = is_some last.segment ≡ false → length last.machine.threads ≡ live_in last.source
+
+  stop_on : (last : State) (stop : StopLine) (end : World) → AreAsMany last → IsStop g last stop end → (schedule : List source.Entry) (put : List (ℕ × ℤ)) → Position last schedule put → StopsSo text caps schedule put stop
+  stop_on last StopLine.Done end many is schedule put at =
+      let done = is.0 in
+      point_on last schedule put HaveAllEnded done.between at (λ world alike. all_ended last.source.threads world.threads alike.threads (sym (many done.between) ∙ done.nobody))
+  stop_on last StopLine.Idle end many is schedule put at =
+      let idle = is.0 in
+      point_on last schedule put IsSomeLive idle.between at (λ world alike. some_live last.source.threads world.threads alike.threads (λ none. idle.live (many idle.between ∙ none)))
+  stop_on last (StopLine.Trace line) end many is schedule put at = let refused = is.0 in point_on last schedule put (λ world. Unit {0}) refused.between at (λ world alike. tt)
+  stop_on last (StopLine.Cut thread (Stop.Trap kind) cost free) end many is schedule put at = trap_on last is.segment schedule put thread kind is.puts.0 is.way.under_way is.thread_is is.puts.1 at
+  stop_on last (StopLine.Cut thread Stop.NoChunk cost free) end many is schedule put at = cut_on last is.segment schedule put thread is.way.under_way is.thread_is is.puts at
+  stop_on last (StopLine.Cut thread Stop.Fuel cost free) end many is schedule put at = cut_on last is.segment schedule put thread is.way.under_way is.thread_is is.puts at
+  stop_on last (StopLine.Cut thread Stop.Threads cost free) end many is schedule put at = cut_on last is.segment schedule put thread is.way.under_way is.thread_is is.puts at
 
   -- ---- the log
 
-  pub log_of_text : (trace : List ℕ) (entries : List Entry) (stop : StopLine) (end : World) → IsLawfulLog g trace entries stop end → IsTextLog text caps entries
-  log_of_text trace entries stop end log =
+  pub log_of_same : (trace : List ℕ) (entries : List Entry) (stop : StopLine) (end : World) (log : IsLawfulLog g trace entries stop end) → AreAsMany log.last → IsTextLog text caps entries
+  log_of_same trace entries stop end log many =
       subst (λ (all : List Entry). AreTextLines text caps [] [] all) (sym log.entries_are)
       (leads_on (start_of g trace log.start) log.last log.before_end (ending g log.last stop) log.leads
-      (λ schedule put at. edges_on (edges_of log.last.past.records) stop schedule put (stop_on log.last stop end log.stops schedule put at))
+      (λ schedule put at. edges_on (edges_of log.last.past.records) stop schedule put (stop_on log.last stop end many log.stops schedule put at))
       [] [] (record { after = refl; values = refl }))

@@ -1,6 +1,7 @@
--- Where a thread of the program rests, that of the text does.
-use Rattle.std.proofs.Common.{ℕ, zero, suc, ◌≡◌, refl, sym, ap, subst, ◌∙◌, List, [], ◌∷◌, Option, Some, None}
+-- Where a thread of the program rests, that of the text does; and as many of them live.
+use Rattle.std.proofs.Common.{ℕ, zero, suc, ◌+◌, ◌<◌, ◌≡◌, ◌≢◌, Bool, true, cond, refl, sym, ap, subst, ◌∙◌, List, [], ◌∷◌, length, count_by, Option, Some, None, arith}
 use Rattle.std.specs.Prelude.{slice_get}
+use Rattle.std.proofs.lemmas.List.Sums.{sum_by-cons}
 use Rattle.cap_word.specs.declared.calls.Block.{Block}
 use Rattle.c_mean.specs.Frames.{Waiting, key_of}
 use Rattle.c_mean.specs.World as source
@@ -9,6 +10,7 @@ use Rattle.deep_mean.specs.DeepFrames as frames
 use Rattle.deep_mean.specs.DeepFrames.{DeepWaiting}
 use Rattle.deep_mean.specs.DeepWorld as deep
 use Rattle.deep_mean.specs.DeepWorld.{DeepRest}
+use Rattle.lawful_reading.specs.Happenings.{lives}
 use Rattle.hoist_meaning.specs.SameRuns.{RestsAlike, BothFresh, BothBlocked, BothEnded, RestAlike}
 
 abbrev no_rest : Option Rest
@@ -36,3 +38,52 @@ pub ended_in : (r : Rest) (d : DeepRest) → RestsAlike r d → r ≡ source.End
 ended_in r d (BothFresh f arguments) is = absurd (let wrong : source.Fresh f arguments ≡ source.Ended = is in cc)
 ended_in r d (BothBlocked b one other keys) is = absurd (let wrong : source.Blocked b one ≡ source.Ended = is in cc)
 ended_in r d BothEnded is = refl
+
+-- ---- live threads
+
+-- one of the program's, before others
+counted : (r : Rest) (rs : List Rest) → count_by lives (r ∷ rs) ≡ cond (lives r) 1 0 + count_by lives rs
+counted r rs = sum_by-cons (λ (x : Rest). cond (lives x) 1 0) r rs
+
+one_live : (r : Rest) (rs : List Rest) → lives r ≡ true → count_by lives (r ∷ rs) ≡ suc (count_by lives rs)
+one_live r rs live =
+    let one : ◌≡◌ {A = ℕ} (cond (lives r) 1 0) 1 = ap (λ (b : Bool). let n : ℕ = cond b 1 0 in n) live in
+    let sums = counted r rs in
+    omega (arith, sums, one)
+
+none_live : (rs : List Rest) → count_by lives (source.Ended ∷ rs) ≡ count_by lives rs
+none_live rs = let sums = counted source.Ended rs in omega (arith, sums)
+
+-- where none of the program's threads lives, each of the text's has ended
+abbrev AllEnded : List Rest → List DeepRest → Type 0
+AllEnded rs ds = count_by lives rs ≡ 0 → (thread : ℕ) → thread < length ds → slice_get ds thread ≡ Some deep.Ended
+
+ended_before : (rs : List Rest) (ds : List DeepRest) → AllEnded rs ds → count_by lives rs ≡ 0 → (thread : ℕ) → thread < length (deep.Ended ∷ ds) → slice_get (deep.Ended ∷ ds) thread ≡ Some deep.Ended
+ended_before rs ds later none zero below = refl
+ended_before rs ds later none (suc thread) below = later none thread (omega (arith, below))
+
+ended_first : (r : Rest) (d : DeepRest) (rs : List Rest) (ds : List DeepRest) → RestsAlike r d → AllEnded rs ds → AllEnded (r ∷ rs) (d ∷ ds)
+ended_first r d rs ds (BothFresh f arguments) later none thread below = let more = one_live (source.Fresh f arguments) rs refl in absurd (omega (arith, none, more))
+ended_first r d rs ds (BothBlocked b one other keys) later none thread below = let more = one_live (source.Blocked b one) rs refl in absurd (omega (arith, none, more))
+ended_first r d rs ds BothEnded later none thread below = ended_before rs ds later (sym (none_live rs) ∙ none) thread below
+
+pub all_ended : (rs : List Rest) (ds : List DeepRest) → RestAlike rs ds → AllEnded rs ds
+all_ended [] [] alike none thread below = absurd (omega (arith, below))
+all_ended [] (d ∷ ds) alike none thread below = absurd alike
+all_ended (r ∷ rs) [] alike none thread below = absurd alike
+all_ended (r ∷ rs) (d ∷ ds) alike none thread below = ended_first r d rs ds alike.0 (all_ended rs ds alike.1) none thread below
+
+-- where one of the program's lives, one of the text's hasn't ended
+abbrev SomeLive : List Rest → List DeepRest → Type 0
+SomeLive rs ds = count_by lives rs ≢ 0 → (thread : ℕ) × (d : DeepRest) × (slice_get ds thread ≡ Some d) × (d ≢ deep.Ended)
+
+live_first : (r : Rest) (d : DeepRest) (rs : List Rest) (ds : List DeepRest) → RestsAlike r d → SomeLive rs ds → SomeLive (r ∷ rs) (d ∷ ds)
+live_first r d rs ds (BothFresh f arguments) later some = (0, deep.Fresh f arguments, refl, λ e. let clash : deep.Fresh f arguments ≡ deep.Ended = e in cc)
+live_first r d rs ds (BothBlocked b one other keys) later some = (0, deep.Blocked b other, refl, λ e. let clash : deep.Blocked b other ≡ deep.Ended = e in cc)
+live_first r d rs ds BothEnded later some = let there = later (λ none. some (none_live rs ∙ none)) in (suc there.0, there.1, there.2, there.3)
+
+pub some_live : (rs : List Rest) (ds : List DeepRest) → RestAlike rs ds → SomeLive rs ds
+some_live [] [] alike some = absurd (some refl)
+some_live [] (d ∷ ds) alike some = absurd alike
+some_live (r ∷ rs) [] alike some = absurd alike
+some_live (r ∷ rs) (d ∷ ds) alike some = live_first r d rs ds alike.0 (some_live rs ds alike.1) some

@@ -1,5 +1,5 @@
 -- What the lines of a log say of a text in whose expressions calls stand: of the text by itself, with no rewriting (`deep_mean`).
-use Rattle.std.specs.Prelude.{◌≡◌, ℕ, ℤ, List, [], ◌∷◌, ◌++◌, Some, slice_get}
+use Rattle.std.specs.Prelude.{◌≡◌, ◌≢◌, ◌<◌, ℕ, ℤ, List, [], ◌∷◌, ◌++◌, length, Some, slice_get}
 use Rattle.cap_word.specs.Word.{signed}
 use Rattle.cap_word.specs.declared.calls.Block.{Block}
 use Rattle.cap_word.specs.declared.stops.Stop.{Stop}
@@ -8,7 +8,7 @@ use Rattle.c_mean.specs.World as source
 use Rattle.deep_mean.specs.DeepFrames as frames
 use Rattle.deep_mean.specs.DeepTrees.{DeepProgram}
 use Rattle.deep_mean.specs.DeepWorld as deep
-use Rattle.deep_mean.specs.DeepWorld.{DeepWorld, DeepRested, DeepSegment}
+use Rattle.deep_mean.specs.DeepWorld.{DeepWorld, DeepRest, DeepRested, DeepSegment}
 use Rattle.lawful_log.specs.Good.{delivered}
 use Rattle.schedule_log.specs.declared.entries.Entry.{Entry}
 use Rattle.schedule_log.specs.declared.entries.StopLine.{StopLine}
@@ -34,6 +34,14 @@ IsBlockedAt thread key world =
 abbrev pub HasEnded : ℕ → DeepWorld → Type 0
 HasEnded thread world = slice_get world.threads thread ≡ Some deep.Ended
 
+-- every thread has ended
+abbrev pub HaveAllEnded : DeepWorld → Type 0
+HaveAllEnded world = (thread : ℕ) → thread < length world.threads → HasEnded thread world
+
+-- some thread hasn't
+abbrev pub IsSomeLive : DeepWorld → Type 0
+IsSomeLive world = (thread : ℕ) × (rest : DeepRest) × (slice_get world.threads thread ≡ Some rest) × (rest ≢ deep.Ended)
+
 -- after this schedule the thread runs to this trap, and then just this has been put
 abbrev pub ComesToTrap : DeepProgram → List ℕ → List source.Entry → List (ℕ × ℤ) → ℕ → TrapKind → Type 0
 ComesToTrap text caps schedule put thread kind =
@@ -48,10 +56,11 @@ ComesToCut text caps schedule put thread =
 
 -- ---- the lines
 
--- a stop: at a trap that trap is the text's; elsewhere the text is cut after what was put
+-- a stop: at `done` each of the text's threads has ended, at `idle` some thread hasn't, and a refused line of the trace says nothing of them; at a
+-- trap that trap is the text's; elsewhere the text is cut after what was put
 abbrev pub StopsSo : DeepProgram → List ℕ → List source.Entry → List (ℕ × ℤ) → StopLine → Type 0
-StopsSo text caps schedule put StopLine.Done = ComesTo text caps schedule put (λ world. Unit {0})
-StopsSo text caps schedule put StopLine.Idle = ComesTo text caps schedule put (λ world. Unit {0})
+StopsSo text caps schedule put StopLine.Done = ComesTo text caps schedule put HaveAllEnded
+StopsSo text caps schedule put StopLine.Idle = ComesTo text caps schedule put IsSomeLive
 StopsSo text caps schedule put (StopLine.Trace line) = ComesTo text caps schedule put (λ world. Unit {0})
 StopsSo text caps schedule put (StopLine.Cut thread (Stop.Trap kind) cost free) = ComesToTrap text caps schedule put thread kind
 StopsSo text caps schedule put (StopLine.Cut thread Stop.NoChunk cost free) = ComesToCut text caps schedule put thread

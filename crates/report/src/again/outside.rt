@@ -1,5 +1,6 @@
 // What comes to a world that is made again, and its clock.
-ghost use Rattle.report.specs.Between.{IsBetween};
+ghost use Rattle.std.specs.Prelude.{IfSome};
+ghost use Rattle.report.specs.Between.{GoesOn, IsBetween};
 
 use event_trace::{Event, EventKind};
 use schedule_log::Item;
@@ -23,14 +24,14 @@ pub(crate) fn reach(world: &mut World, clock: u64) -> bool
     true
 }
 
-/// An item comes at that time, as the log says. False where it can't: at a clock that is past, or a message where there is no such
-/// channel.
-pub(crate) fn come(world: &mut World, clock: u64, item: &Item) -> bool
+/// An item comes at that time, as the log says, and the run goes on. None where it can't come: at a clock that is past, or a message
+/// where there is no such channel.
+pub(crate) fn come(world: &mut World, clock: u64, item: &Item) -> Option<bool>
     requires { IsBetween world.old }
-    ensures { IsBetween world.new }
+    ensures { IfSome result (λ goes. GoesOn goes world.new) }
 {
     if !reach(world, clock) {
-        return false;
+        return None;
     }
     match item {
         Item::Arrive { value } => {
@@ -40,11 +41,11 @@ pub(crate) fn come(world: &mut World, clock: u64, item: &Item) -> bool
                     value: value.cast_unsigned(),
                 },
             });
-            true
+            Some(true)
         }
         Item::Data { channel, value } => {
             if *channel >= CHANNELS {
-                return false;
+                return None;
             }
             world.deliver(Event {
                 time: clock,
@@ -53,7 +54,7 @@ pub(crate) fn come(world: &mut World, clock: u64, item: &Item) -> bool
                     value: value.cast_unsigned(),
                 },
             });
-            true
+            Some(true)
         }
     }
 }

@@ -7,7 +7,7 @@ use cap_word::{Ready, ThreadId};
 use thread_core::{Turn, World};
 
 /// Runs a segment of a thread, and appends the threads that it starts to `started`. True where the thread has blocked or ended, and
-/// false where the run has stopped, or the thread isn't ready.
+/// false where the segment was cut, and the run has stopped. None where the thread isn't ready, and where there is no memory.
 pub(crate) fn run_segment(
     world: &mut World,
     thread: ThreadId,
@@ -17,7 +17,7 @@ pub(crate) fn run_segment(
     ensures { IfSome result (λ goes. GoesOn goes world.new) }
 {
     if !world.is_ready(thread) {
-        return Some(false);
+        return None;
     }
     let mut turn = world.begin(thread);
     for _ in 0..u64::MAX {
@@ -32,8 +32,8 @@ pub(crate) fn run_segment(
             Turn::Blocked { .. } => return Some(true),
             Turn::Ended { .. } => return Some(true),
             Turn::Cut { .. } => return Some(false),
-            Turn::Memory => return Some(false),
+            Turn::Memory => return None,
         }
     }
-    Some(false)
+    None
 }

@@ -6,6 +6,7 @@ use Rattle.capriccio_call.proofs.Told.{told-done, told-stop}
 use Rattle.capriccio_call.proofs.GoodRun.{good-without, was-good}
 use Rattle.capriccio_call.proofs.Faults.{after-fault}
 use Rattle.capriccio_call.proofs.AuditedLog.{audited}
+use Rattle.capriccio_call.proofs.EnoughRun.{enough}
 use Rattle.capriccio_call.proofs.OneCase.{exact}
 use Rattle.capriccio_call.proofs.command.capriccio.Goals as goal
 
@@ -18,6 +19,7 @@ returns-in-Ok g c =
       good = was-good texts _ _ _ _ _ _ c.put.new.place c.in-Ok.field-0.status answered;
       after_fault = after-fault texts _ _ _ _ _ _ c.put.new.place c.in-Ok.field-0.status answered;
       audited = audited texts _ _ _ _ _ _ c.put.new.place c.in-Ok.field-0.status answered;
+      enough = enough texts _ _ _ _ _ _ c.put.new.place c.in-Ok.field-0.status answered;
     }
 
 pub returns-in-Err : goal.returns-in-Err
@@ -28,5 +30,6 @@ returns-in-Err g c =
       answer = answered;
       after_fault = after-fault texts _ _ _ _ _ _ c.put-in-Err.new.place _ answered;
       audited = audited texts _ _ _ _ _ _ c.put-in-Err.new.place _ answered;
+      enough = enough texts _ _ _ _ _ _ c.put-in-Err.new.place _ answered;
       good = good-without texts _ _ c.put-in-Err.new.place _ c.put-in-Err.ensures;
     }

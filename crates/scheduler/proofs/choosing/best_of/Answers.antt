@@ -6,26 +6,16 @@ use Rattle.std.specs.Ordering.{nat_cmp}
 use Rattle.std.proofs.lemmas.Map.Iter.{btree_map_turn, rest_more}
 use Rattle.scheduler.specs.LawfulChoice.{is_eligible}
 use Rattle.scheduler.specs.Scores.{score}
-use Rattle.scheduler.proofs.ChoiceLemmas.{IsBestBut-taken, IsBestBut-passed, IsBestBut-ineligible}
-use Rattle.scheduler.proofs.FindLemmas.{exact_here}
+use Rattle.scheduler.proofs.ChoiceLemmas.{IsBestBut-taken, IsBestBut-passed, IsBestBut-ineligible, ranked}
 use Rattle.scheduler.proofs.choosing.best_of.Goals as goal
 
-pub rank_of-rank-requires : goal.rank_of-rank-requires
-rank_of-rank-requires g c =
+pub rank_of-rank-requires-clause-there : goal.rank_of-rank-requires-clause-there
+rank_of-rank-requires-clause-there g c =
     let gives = c.into_iter-node-iterator.ensures.into_iter_gives in
     let turn = btree_map_turn deref_pair c.loop-node.yielded c.into_iter-node-iterator.result c.loop-node.node-iterator c.next.new.self c.next.result (c.in-Some.node, c.in-Some.queue)
     c.loop-node.yielded_by c.in-Some.is c.next.ensures.steps nat_cmp_total c.args.queues.now gives.0 gives.5 in
     let there : get nat_cmp c.args.queues.now c.in-Some.node.now ≡ Some c.in-Some.queue.now = turn.1 in
-    c.requires.placed c.in-Some.node.now (subst (λ o. IsSome o) (sym there) (search rules))
-
-pub first_of-requires : goal.first_of-requires
-first_of-requires g c =
-    let gives = c.into_iter-node-iterator.ensures.into_iter_gives in
-    let turn = btree_map_turn deref_pair c.loop-node.yielded c.into_iter-node-iterator.result c.loop-node.node-iterator c.next.new.self c.next.result (c.in-Some.node, c.in-Some.queue)
-    c.loop-node.yielded_by c.in-Some.is c.next.ensures.steps nat_cmp_total c.args.queues.now gives.0 gives.5 in
-    let eligible = is_eligible (g.R.Ready.is_ready c.args.ready.now) (g.R.Ready.at_accept c.args.ready.now) (g.R.Ready.any_elsewhere c.args.ready.now) c.args.monitor.now.is_open in
-    rw c.gate.ensures
-    (exact_here c.args.bounds.now eligible c.args.queues.now c.in-Some.node.now c.in-Some.queue.now turn.1 c.requires.known)
+    c.requires c.in-Some.node.now (subst (λ o. IsSome o) (sym there) (search rules))
 
 pub loop-node-preserved-in-Some-first_of : goal.loop-node-preserved-in-Some-first_of
 loop-node-preserved-in-Some-first_of g c =
@@ -34,8 +24,10 @@ loop-node-preserved-in-Some-first_of g c =
     c.loop-node.yielded_by c.in-Some.is c.next.ensures.steps nat_cmp_total c.args.queues.now gives.0 gives.5 in
     let next = rest_more deref_pair c.loop-node.node-iterator c.next.new.self c.next.result (c.in-Some.node, c.in-Some.queue) c.in-Some.is c.next.ensures.steps in
     let eligible = is_eligible (g.R.Ready.is_ready c.args.ready.now) (g.R.Ready.at_accept c.args.ready.now) (g.R.Ready.any_elsewhere c.args.ready.now) c.args.monitor.now.is_open in
+    let own = ranked c.args.monitor.now c.args.graph.now.edges (slice_index c.args.lasts.now) c.pressures_of-pressures.result c.rank_of-rank.result
+    (c.pressures_of-pressures.ensures.scores c.args.graph.now.edges) c.rank_of-rank.ensures.rank in
     IsBestBut-taken eligible (score c.args.monitor.now c.args.graph.now.edges) (slice_index c.args.lasts.now) c.args.queues.now c.in-Some.node.now c.in-Some.queue.now
-    c.loop-node.node-iterator c.next.new.self c.loop-node.best c.rank_of-rank.result turn.1 next c.loop-node.invariant c.rank_of-rank.ensures.rank c.rank_of-rank.ensures.node
+    c.loop-node.node-iterator c.next.new.self c.loop-node.best c.rank_of-rank.result turn.1 next c.loop-node.invariant own c.rank_of-rank.ensures.node
     c.in-Some-first_of.found (sym c.is_below_best.ensures ∙ c.if-is_below_best.true)
     (rw (c.gate.ensures, c.in-Some-first_of.is) at c.first_of.ensures)
 
@@ -46,8 +38,10 @@ loop-node-preserved-in_default g c =
     c.loop-node.yielded_by c.in-Some.is c.next.ensures.steps nat_cmp_total c.args.queues.now gives.0 gives.5 in
     let next = rest_more deref_pair c.loop-node.node-iterator c.next.new.self c.next.result (c.in-Some.node, c.in-Some.queue) c.in-Some.is c.next.ensures.steps in
     let eligible = is_eligible (g.R.Ready.is_ready c.args.ready.now) (g.R.Ready.at_accept c.args.ready.now) (g.R.Ready.any_elsewhere c.args.ready.now) c.args.monitor.now.is_open in
+    let own = ranked c.args.monitor.now c.args.graph.now.edges (slice_index c.args.lasts.now) c.pressures_of-pressures.result c.rank_of-rank.result
+    (c.pressures_of-pressures.ensures.scores c.args.graph.now.edges) c.rank_of-rank.ensures.rank in
     IsBestBut-ineligible eligible (score c.args.monitor.now c.args.graph.now.edges) (slice_index c.args.lasts.now) c.args.queues.now c.in-Some.node.now c.in-Some.queue.now
-    c.loop-node.node-iterator c.next.new.self c.loop-node.best c.rank_of-rank.result turn.1 next c.loop-node.invariant c.rank_of-rank.ensures.rank c.rank_of-rank.ensures.node
+    c.loop-node.node-iterator c.next.new.self c.loop-node.best c.rank_of-rank.result turn.1 next c.loop-node.invariant own c.rank_of-rank.ensures.node
     (rw (c.gate.ensures, c.in_default.is) at c.first_of.ensures)
 
 pub loop-node-preserved : goal.loop-node-preserved
@@ -57,6 +51,8 @@ loop-node-preserved g c =
     c.loop-node.yielded_by c.in-Some.is c.next.ensures.steps nat_cmp_total c.args.queues.now gives.0 gives.5 in
     let next = rest_more deref_pair c.loop-node.node-iterator c.next.new.self c.next.result (c.in-Some.node, c.in-Some.queue) c.in-Some.is c.next.ensures.steps in
     let eligible = is_eligible (g.R.Ready.is_ready c.args.ready.now) (g.R.Ready.at_accept c.args.ready.now) (g.R.Ready.any_elsewhere c.args.ready.now) c.args.monitor.now.is_open in
+    let own = ranked c.args.monitor.now c.args.graph.now.edges (slice_index c.args.lasts.now) c.pressures_of-pressures.result c.rank_of-rank.result
+    (c.pressures_of-pressures.ensures.scores c.args.graph.now.edges) c.rank_of-rank.ensures.rank in
     IsBestBut-passed eligible (score c.args.monitor.now c.args.graph.now.edges) (slice_index c.args.lasts.now) c.args.queues.now c.in-Some.node.now c.in-Some.queue.now
-    c.loop-node.node-iterator c.next.new.self c.loop-node.best c.rank_of-rank.result turn.1 next c.loop-node.invariant c.rank_of-rank.ensures.rank c.rank_of-rank.ensures.node
+    c.loop-node.node-iterator c.next.new.self c.loop-node.best c.rank_of-rank.result turn.1 next c.loop-node.invariant own c.rank_of-rank.ensures.node
     (sym c.is_below_best.ensures ∙ c.if-is_below_best.false)

@@ -1,23 +1,25 @@
-use Rattle.std.proofs.Common.{◌≡◌, ◌≤◌, ◌+◌, ◌*◌, ◌^◌, ℤ, ◌+ℤ◌, unsigned_abs, to_z, ap, sym, ◌∙◌, arith}
+use Rattle.std.proofs.Common.{◌≡◌, ◌≤◌, ◌+◌, ◌*◌, ◌^◌, ℤ, ◌+ℤ◌, unsigned_abs, slice_index, to_z, ap, sym, ◌∙◌, arith}
 use Rattle.std.specs.Int.{w128}
 use Rattle.blocking_graph.specs.Edges.{prediction}
-use Rattle.resource_monitor.specs.Monitor.{pressure_at}
 use Rattle.scheduler.specs.Scores.{score_of_first}
 use Rattle.scheduler.proofs.ScoreLemmas.{computed_sum, sum-le, score_of_first-more, score_of_first-none}
 use Rattle.scheduler.proofs.scores.score_of.Goals as goal
 
+pub expected_strain-total-requires-clause-most : goal.expected_strain-total-requires-clause-most
+expected_strain-total-requires-clause-most c = c.requires c.loop-resource.resource (omega arith)
+
 pub loop-resource-init : goal.loop-resource-init
-loop-resource-init g c = record {
-  total = sym (score_of_first-none (pressure_at c.args.monitor.now) (prediction c.args.graph.now.edges c.args.node));
+loop-resource-init c = record {
+  total = sym (score_of_first-none (slice_index c.args.pressures.now) (prediction c.args.graph.now.edges c.args.node));
   small = omega arith;
 }
 
 pub loop-resource-preserved : goal.loop-resource-preserved
-loop-resource-preserved g c =
+loop-resource-preserved c =
     let so_far = to_z w128 c.loop-resource.total-bits in
     let part = c.expected_strain-total.result in
     let n = c.loop-resource.resource in
-    let pressure = pressure_at c.args.monitor.now in
+    let pressure = slice_index c.args.pressures.now in
     let predicted = prediction c.args.graph.now.edges c.args.node in
     let sum = computed_sum so_far part n c.loop-resource.invariant.small (omega arith) c.expected_strain-total.ensures.small in
     record {
@@ -32,6 +34,6 @@ loop-resource-preserved g c =
     }
 
 pub returns : goal.returns
-returns g c =
+returns c =
     let done : c.loop-resource.resource ≡ 8 = omega arith in
-    c.loop-resource.invariant.total ∙ ap (score_of_first (pressure_at c.args.monitor.now) (prediction c.args.graph.now.edges c.args.node)) done
+    c.loop-resource.invariant.total ∙ ap (score_of_first (slice_index c.args.pressures.now) (prediction c.args.graph.now.edges c.args.node)) done

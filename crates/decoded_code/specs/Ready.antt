@@ -1,0 +1,73 @@
+-- What a ready operation does to the machine, and when it is that of a word of the code.
+use Rattle.std.specs.Prelude.{◌≡◌, ℕ, ◌+◌, ◌-◌, ◌*◌, ◌%◌, ◌^◌, ◌<◌, ◌==◌, Bool, not, nat_lt, if◌then◌else◌, bit_and, bit_or, bit_xor, List, length, slice_get, Option, Some, None, IfSome}
+use Rattle.cap_word.specs.Word as word
+use Rattle.rv_code.specs.Decoding.{decoding}
+use Rattle.rv_code.specs.declared.instructions.Instr.{Instr}
+use Rattle.rv_machine.specs.Bytes.{Nothing}
+use Rattle.rv_machine.specs.Registers.{read, write}
+use Rattle.rv_machine.specs.Rows.{Machine, Outcome, Goes, next, passes, sets, jumps, loads, word_loaded, word_stored}
+use Rattle.rv_machine.specs.Step.{code_start, decoded, started}
+use Rattle.decoded_code.specs.declared.ready.Kind.{Kind}
+use Rattle.decoded_code.specs.declared.ready.Kind.TheVariants as kind
+use Rattle.decoded_code.specs.declared.ready.Ready.{Ready}
+
+-- the place of the word of an index
+abbrev pub place_at : ℕ → ℕ
+place_at at = code_start + 4 * at
+
+-- a number with bit 0 cleared
+abbrev pub even : ℕ → ℕ
+even number = number - number % 2
+
+-- on to the word of that index, where the test holds
+abbrev pub branches_to : Machine → ℕ → Bool → Outcome
+branches_to m at taken = if taken then Goes (place_at at) m.x Nothing else passes m
+
+-- what an operation of a kind comes to, where its two registers hold a and b
+abbrev pub done_as : Kind → Ready → ℕ → ℕ → Machine → Option Outcome
+done_as kind.Other op a b m = None
+done_as kind.Lui op a b m = Some (sets m op.rd op.imm)
+done_as kind.Addi op a b m = Some (sets m op.rd (word.add a op.imm))
+done_as kind.Sltiu op a b m = Some (sets m op.rd (word.sltu a op.imm))
+done_as kind.Xori op a b m = Some (sets m op.rd (bit_xor a op.imm))
+done_as kind.Slli op a b m = Some (sets m op.rd (word.sll a op.imm))
+done_as kind.Add op a b m = Some (sets m op.rd (word.add a b))
+done_as kind.Sub op a b m = Some (sets m op.rd (word.sub a b))
+done_as kind.Sll op a b m = Some (sets m op.rd (word.sll a b))
+done_as kind.Slt op a b m = Some (sets m op.rd (word.slt a b))
+done_as kind.Sltu op a b m = Some (sets m op.rd (word.sltu a b))
+done_as kind.Xor op a b m = Some (sets m op.rd (bit_xor a b))
+done_as kind.Sra op a b m = Some (sets m op.rd (word.sra a b))
+done_as kind.Or op a b m = Some (sets m op.rd (bit_or a b))
+done_as kind.And op a b m = Some (sets m op.rd (bit_and a b))
+done_as kind.Mul op a b m = Some (sets m op.rd (word.mul a b))
+done_as kind.Div op a b m = Some (sets m op.rd (word.div a b))
+done_as kind.Rem op a b m = Some (sets m op.rd (word.rem a b))
+done_as kind.Lw op a b m = Some (loads m op.rd (word_loaded m.bytes (word.add a op.imm)))
+done_as kind.Sw op a b m = Some (word_stored m (word.add a op.imm) b)
+done_as kind.Jump op a b m = Some (Goes (place_at op.imm) m.x Nothing)
+done_as kind.Call op a b m = Some (Goes (place_at op.imm) (write m.x op.rd (next m)) Nothing)
+done_as kind.JumpTo op a b m = Some (jumps m 0 (even (word.add a op.imm)))
+done_as kind.CallTo op a b m = Some (jumps m op.rd (even (word.add a op.imm)))
+done_as kind.Bne op a b m = Some (branches_to m op.imm (not (a == b)))
+done_as kind.Bltu op a b m = Some (branches_to m op.imm (nat_lt a b))
+
+unfoldable pub done : Ready → ℕ → ℕ → Machine → Option Outcome
+done op a b m = done_as op.kind op a b m
+
+-- what a ready operation comes to; none where only the machine's step says it
+abbrev pub ready_effect : Ready → Machine → Option Outcome
+ready_effect op m = done op (read m.x op.rs1) (read m.x op.rs2) m
+
+-- the operation of what was decoded at a place: what it comes to is what the machine's step comes to there
+pub record IsReadyAt (op : Ready) (place : ℕ) (found : Option Instr) : Type 0 where
+  pub writes : 0 < op.rd
+  pub rd : op.rd < 32
+  pub rs1 : op.rs1 < 32
+  pub rs2 : op.rs2 < 32
+  pub does : (m : Machine) → m.pc ≡ place → IfSome (ready_effect op m) (λ outcome. started (decoded found) m ≡ outcome)
+
+-- the operations of so many of the code's words, each at its place; what stands beyond 2 ^ 32 is never reached
+pub record AreReady (words : List ℕ) (count : ℕ) (ops : List Ready) : Type 0 where
+  pub count_is : length ops ≡ count
+  pub each : (at word : ℕ) (op : Ready) → place_at at < 2 ^ 32 → slice_get words at ≡ Some word → slice_get ops at ≡ Some op → IsReadyAt op (place_at at) (decoding word)

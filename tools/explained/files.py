@@ -1,0 +1,135 @@
+"""Which file is absent, or can't be read or written, and why."""
+import os, stat
+
+from .commands import COMMANDS, REPORT_OPTIONS
+from .text import nearest, quoted
+
+PLACES = {"source": "SRC", "image": "IMG", "certificate": "CRT", "log": "LOG"}
+READ_BY = {"serve": ("SRC",), "graph": ("SRC",), "build": ("SRC",)}  # of all others each name
+
+
+def named(given, which):
+    """The name that stands for SRC, IMG, CRT or LOG."""
+    names = COMMANDS[given.command].names
+    return given.name(names.index(which)) if which in names else ""
+
+
+def absent(given, line):
+    """The notes on `absent: WHICH`."""
+    which = line.split()[1]
+    name = named(given, PLACES[which])
+    folder = os.path.dirname(name) or "."
+    if not os.path.isdir(folder):
+        return [f"note: {quoted(name)}: there is no folder {quoted(folder)}"]
+    others = (it for it in os.listdir(folder) if os.path.isfile(os.path.join(folder, it)) and os.path.join(os.path.dirname(name), it) not in given.names)
+    alike = nearest(os.path.basename(name), others)
+    return [f"note: {quoted(name)}: there is no such file{alike}", *made_by(which)]
+
+
+def made_by(which):
+    """What makes a file of this kind."""
+    if which in ("image", "certificate"):
+        return ["note: `build SRC IMG CRT` makes image and certificate"]
+    return ["note: `serve SRC > LOG` makes a log"] if which == "log" else []
+
+
+def unread(given, _):
+    """The notes on `fault: read`: the first file that can't be read, or the trace."""
+    for name in [*names_read(given), *names_of_report(given, "LOG")]:
+        fault = read_fault(name)
+        if fault:
+            return [f"note: {quoted(name)}: {fault}"]
+    return [f"note: the trace on standard input: {trace_fault() or 'a read failed'}"]
+
+
+def names_read(given):
+    wanted = COMMANDS[given.command].names if given.command in COMMANDS else ()
+    return [given.name(place) for place, it in enumerate(wanted) if it in READ_BY.get(given.command, PLACES.values())]
+
+
+def names_of_report(given, value):
+    """The names behind those options of the report that take such a value."""
+    return [name for option, name in given.of_report.items() if REPORT_OPTIONS[option][0] == value]
+
+
+def read_fault(name):
+    """Why a file of this name can't be read, or nothing."""
+    if os.path.isdir(name):
+        return "it is a folder"
+    if os.path.exists(name) and not os.path.isfile(name):  # (a pipe would keep this waiting)
+        return None
+    try:
+        with open(name, "rb") as it:
+            it.read(1)
+    except OSError as error:
+        return in_words(error)
+    return None
+
+
+def in_words(error):
+    return (error.strerror or str(error)).lower()
+
+
+def trace_fault():
+    """Why standard input can't be read, or nothing."""
+    try:
+        os.read(0, 0)
+    except OSError as error:
+        return in_words(error)
+    return None
+
+
+def unwritten(given, _):
+    """The notes on `fault: write`: the first file that can't be stored, or standard output."""
+    stored = given.names[1:] if given.command == "build" else []
+    for name in [*stored, *names_of_report(given, "FILE")]:
+        fault = write_fault(name)
+        if fault:
+            return [f"note: {quoted(name)}: {fault}"]
+    return [f"note: standard output: {output_fault()}; what was written before is a beginning of the output"]
+
+
+def write_fault(name):
+    """Why a file of this name can't be stored, or nothing."""
+    folder = os.path.dirname(name) or "."
+    if os.path.isdir(name):
+        return "it is a folder"
+    if not os.path.isdir(folder):
+        return f"there is no folder {quoted(folder)}"
+    if os.path.exists(name) and not os.access(name, os.W_OK) or not os.path.exists(name) and not os.access(folder, os.W_OK):
+        return "permission denied"
+    return "no space is left there" if is_full(name if os.path.exists(name) else folder) else None
+
+
+def is_full(name):
+    """Whether no more can be written there."""
+    try:
+        return os.path.samefile(name, "/dev/full") or os.statvfs(name).f_bavail == 0
+    except OSError:
+        return False
+
+
+def output_fault():
+    """Why standard output can't be written, as far as that can be seen."""
+    try:
+        mode = os.fstat(1).st_mode
+    except OSError:
+        return "it is closed"
+    if stat.S_ISFIFO(mode) or stat.S_ISSOCK(mode):
+        return "its reader has ended"
+    return "no space is left there" if is_full("/proc/self/fd/1") else "a write failed"
+
+
+def no_memory(given, _):
+    chunks = "; all chunks of a run (`--chunks` times `--chunk`) take their memory at once" if given.command in ("serve", "run") else ""
+    return [f"note: an allocation failed{chunks}"]
+
+
+def no_log(given, _):
+    """The notes where the report is given no log of a run."""
+    return [f"note: {quoted(given.of_report.get('--log', ''))} is no log of a run; `serve SRC > LOG` makes one"]
+
+
+def no_source(given, _):
+    """The notes where the report is given a source that is refused."""
+    return [f"note: {quoted(given.name(0))} is refused; `graph {given.name(0)}` tells where and why"]

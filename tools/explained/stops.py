@@ -1,0 +1,130 @@
+"""What the last line of a log means, and which option or line of the source helps."""
+from . import traces
+from .text import listed, some
+from .tokens import closing, tokens_of
+
+STOPS = {4: "trace", 10: "idle", 11: "trap", 12: "nochunk", 13: "fuel", 14: "threads"}  # by status
+MOST_FUEL, MOST_CHUNKS, MOST_THREADS, MOST_RESOURCE, MOST_CHANNEL = 1_000_000_000, 65_536, 65_535, 7, 63
+VERBS = {"take": "asks for", "give": "returns"}
+BLOCKING = ("accept", "wait", "waitfor", "sleep", "yield", "take")
+
+
+class Stop:
+    """A stop: its name, the fields behind it as far as they can be seen, and what the run was
+    given."""
+
+    def __init__(self, given, name, fields):
+        self.given, self.name, self.fields = given, name, fields
+
+    def field(self, place):
+        return self.fields[place] if place < len(self.fields) else ""
+
+    def thread(self):
+        return f"thread {self.field(0)}" if self.fields else "a thread"
+
+
+def why(given, line):
+    """The notes on a stop: by its line, or by the status where the line can't be seen."""
+    name, fields = STOPS.get(given.status), []
+    if line and line.startswith("stop "):
+        name, *fields = line.split()[1:]
+    meant = MEANT.get(name)
+    if not meant:
+        return []
+    return [f"note: {it}" for it in [*meant(Stop(given, name, fields)), *where(given, name)]]
+
+
+def where(given, name):
+    """Which call shows more."""
+    if given.is_report or given.command not in ("serve", "run") or name == "trace":
+        return []
+    shows = "who waits where" if name == "idle" else "the function, the line and the numbers" if name == "trap" else "where each thread was"
+    return [f"{given.report_call()} shows {shows}"]
+
+
+def idle(stop):
+    return ["the trace is over, and the threads that are left wait for something that does not come; a server usually ends so (status 10)"]
+
+
+def trap(stop):
+    kind = stop.field(1)
+    meant = {"index": index, "table": table, "resource": resource, "channel": channel}.get(kind)
+    return meant(stop) if meant else ["a thread made a call or used an index that has no meaning, which ends the run; the last line of the log names the thread and the kind"]
+
+
+def index(stop):
+    return [f"{stop.thread()} used an index that is outside its array: an index is from 0 to the size less 1"]
+
+
+def table(stop):
+    return [f"{stop.thread()} called through a table with an index that is outside it: an index is from 0 to the number of members less 1"]
+
+
+def resource(stop):
+    caps = stop.given.caps()
+    for name, numbers, line in literal_calls(stop, ("take", "give"), 2):
+        if not 1 <= numbers[0] <= MOST_RESOURCE:
+            return [f"`{name}({numbers[0]}, {numbers[1]})` in line {line} names resource {numbers[0]}; resources are numbered from 1 to {MOST_RESOURCE}"]
+        if numbers[1] > caps.get(numbers[0], 0):
+            return [f"`{name}({numbers[0]}, {numbers[1]})` in line {line} {VERBS[name]} {some(numbers[1], 'unit')} of resource {numbers[0]}, which has {caps.get(numbers[0], 0)}", more(caps, *numbers)]
+    has = listed([f"resource {it} has {units:,}" for it, units in caps.items()]) or "no resource has any, as `--caps` is not given"
+    return [f"a `take` of {stop.thread()} asked for more units than the resource has in all, or a `give` returned more than are in use ({has})"]
+
+
+def more(caps, number, units):
+    """The option that gives a resource so many units."""
+    pairs = ",".join(f"{it}={count}" for it, count in sorted({**caps, number: units}.items()))
+    return f"`--caps` sets the units of each resource, as in `--caps {pairs}`"
+
+
+def channel(stop):
+    for name, numbers, line in literal_calls(stop, ("wait", "waitfor"), 1):
+        if not 0 <= numbers[0] <= MOST_CHANNEL:
+            return [f"`{name}({numbers[0]}..)` in line {line} names channel {numbers[0]}; channels are numbered from 0 to {MOST_CHANNEL}"]
+    return [f"{stop.thread()} waited for a message on a channel outside 0 to {MOST_CHANNEL}"]
+
+
+def literal_calls(stop, names, count):
+    """The calls of these names in the source whose first arguments are numbers: name, numbers, and
+    line."""
+    source = stop.given.source() or b""
+    tokens = tokens_of(source)
+    for place, token in enumerate(tokens[:-1]):
+        if token.text in names and tokens[place + 1].text == "(":
+            inside = tokens[place + 2 : closing(tokens, place + 1)]
+            numbers = [it.value() for it in inside[::2][:count] if it.is_number()]
+            if len(numbers) == count and all(it.text == "," for it in inside[1::2]):
+                yield token.text, numbers, source.count(b"\n", 0, token.at) + 1
+
+
+def nochunk(stop):
+    given = stop.given
+    chunks = given.number("--chunks") + given.number("--extra")
+    free = f"{stop.field(2)} of {chunks:,} chunks are free, and a larger one is needed" if stop.field(2) not in ("", "0") else f"all {chunks:,} chunks are in use"
+    return [
+        f"{stop.thread()} found no chunk of stack for a call or a new thread: {free}",
+        f"more chunks help (`--chunks`, here {given.number('--chunks'):,}, at most {MOST_CHUNKS:,}), or fewer live threads, or fewer calls inside one another; `budget` tells how many chunks a thread may hold",
+    ]
+
+
+def fuel(stop):
+    given = stop.given
+    default = "" if "--fuel" in given.options else ", the default"
+    return [
+        f"the run has made the {some(given.number('--fuel'), 'instruction')} that `--fuel` allows{default}; the most is {MOST_FUEL:,}",
+        f"if {stop.thread()} loops without a blocking call, no other thread runs: threads change only at {listed(BLOCKING)} and at a thread's end",
+    ]
+
+
+def threads(stop):
+    return [
+        f"{MOST_THREADS:,} threads are alive, the maximum, and {stop.thread()} started another",
+        "a resource limits them: `take(1, 1)` before the `spawn`, `give(1, 1)` at the thread's end, and `--caps 1=N`",
+    ]
+
+
+def trace(stop):
+    return traces.refused(stop.given, int(stop.field(0) or 0))
+
+
+MEANT = {"idle": idle, "trap": trap, "nochunk": nochunk, "fuel": fuel, "threads": threads, "trace": trace}

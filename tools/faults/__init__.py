@@ -1,0 +1,1 @@
+"""Faults in allocations, reads, writes and opens of a program, by a preloaded library."""

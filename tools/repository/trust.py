@@ -1,0 +1,155 @@
+"""Which definitions stand under the contract of a public call, and the page that lists them."""
+import collections, re
+
+from repository import rooms
+from repository.definitions import CodeType, Module, cited, cites, first_sentence, modules
+from repository.pages import row, table
+
+COMMAND = "crates/capriccio_call/src/command.rt"
+
+
+def contract_of(path, function):
+    """The `ghost use` lines of a source as a module, and the clauses of one of its functions."""
+    module, text = Module(path, rooms.TOP / path), (rooms.TOP / path).read_text()
+    for line in text.splitlines():
+        module.take_use(line)
+    signature = text[text.index(f"pub fn {function}<") :]
+    return module, signature[: signature.index("\n{\n")]
+
+
+def under(path, function):
+    """What the function's clauses rest on: definitions by their identity, and types of the code.
+
+    Each comes with the definition that first cited it, None if a clause did.
+    """
+    todo = collections.deque((it, None) for it in cited(*contract_of(path, function)))
+    definitions, types = {}, {}
+    while todo:
+        it, above = todo.popleft()
+        if isinstance(it, CodeType):
+            types.setdefault(it, above)
+        elif id(it) not in definitions:
+            definitions[id(it)] = (it, above)
+            todo += ((each, it) for each in cites(it))
+    return definitions, types
+
+
+def ways_to(name):
+    """For each definition of this name the shortest way from a clause to it."""
+    definitions, _ = under(COMMAND, "capriccio")
+    for it, above in definitions.values():
+        if it.name == name:
+            way = [it]
+            while above:
+                way.append(above)
+                above = definitions[id(above)][1]
+            yield " -> ".join(f"{it.name} ({shown(it)}:{it.first})" for it in reversed(way))
+
+
+def shown(it):
+    return it.path.relative_to(rooms.TOP)
+
+
+def ordered(files):
+    """Modules of one crate, each behind those that it uses."""
+    found = []
+
+    def visit(module):
+        used = [*(it[0] for it in module.imports.values()), *module.aliases.values()]
+        for target in used:
+            if target in files and files[target] not in found and files[target] is not module:
+                visit(files[target])
+        if module not in found:
+            found.append(module)
+
+    for name in sorted(files):
+        visit(files[name])
+    return found
+
+
+def type_line(it):
+    """File and line of a type of the code, its name, and the first sentence of its docstring."""
+    *place, name = it.declared.split(".")
+    path, comment = f"crates/{it.crate}/src/{'/'.join(place)}.rt", []
+    for number, line in enumerate((rooms.TOP / path).read_text().splitlines(), 1):
+        if line.startswith("///"):
+            comment.append(line[3:].strip())
+        elif re.match(rf"(pub(\([a-z]+\))? )?(enum|struct|trait) {name}\b", line):
+            return path, number, name, first_sentence("\n".join(comment))
+        elif not line.startswith("#["):
+            comment = []
+    raise ValueError(f"{path} declares no {name}")
+
+
+def grouped(module, wanted):
+    """The wanted definitions of a file, those together that share a comment or a section."""
+    groups = []
+    for it in module.defined.values():
+        if id(it) in wanted:
+            if it.comment or not groups or groups[-1][-1].section != it.section:
+                groups.append([])
+            groups[-1].append(it)
+    return groups
+
+
+def group_row(module, group):
+    first, last = group[0].first, group[-1].last
+    lines = f"{first}" if first == last else f"{first}-{last}"
+    says = first_sentence(group[0].comment or group[0].section or module.head)
+    return row(", ".join(f"`{it.name}`" for it in group), f"{module.path.stem}:{lines}", says)
+
+
+def crate_part(crate, definitions, types):
+    """The part of one crate: its types, and its definitions file by file."""
+    yield from (f"### {crate}", "")
+    for path, number, name, says in sorted(map(type_line, types)):
+        yield f"- type `{name}`, {path}:{number}{': ' + says if says else ''}"
+    if types:
+        yield ""
+    if not definitions:
+        return
+    yield from table("Definition", f"File of crates/{crate}/specs, lines", "Says")
+    wanted = {id(it) for it in definitions}
+    for module in ordered({it.module: modules()[it.module] for it in definitions}):
+        yield from (group_row(module, group) for group in grouped(module, wanted))
+    yield ""
+
+
+def lines_of(definitions):
+    return sum(it.lines for it in definitions)
+
+
+def by_crate(found):
+    grouped_by = collections.defaultdict(list)
+    for it in found:
+        grouped_by[it.crate].append(it)
+    return grouped_by
+
+
+def page():
+    """The made part of docs/TRUST.md."""
+    found, types = under(COMMAND, "capriccio")
+    definitions = [it for it, _ in found.values()]
+    defined, declared = by_crate(definitions), by_crate(types)
+    by_room = []
+    for room in rooms.rooms():
+        names = [it.name for it in room.crates if it.name in defined or it.name in declared]
+        if names:
+            by_room.append((room.name, names))
+    lines = ["## The list", ""]
+    lines += [
+        f"{len(definitions):,} definitions in {lines_of(definitions):,} lines of"
+        f" {len({it.module for it in definitions})} files and {len(defined)} crates,"
+        f" and {len(types)} types of the code.",
+        "",
+        *table("Room", "Definitions", "Lines"),
+    ]
+    for room, names in by_room:
+        here = [it for name in names for it in defined[name]]
+        lines.append(row(room, f"{len(here):,}", f"{lines_of(here):,}"))
+    lines.append("")
+    for room, names in by_room:
+        lines += [f"## {room}", ""]
+        for name in names:
+            lines += crate_part(name, defined[name], declared[name])
+    return "\n".join(lines).rstrip("\n") + "\n"

@@ -1,0 +1,1 @@
+"""The parts of tools/soak: runs under load, and files with random bytes changed."""

@@ -1,0 +1,71 @@
+"""The tools that run the program, tried on it where the folder that CAPRICCIO_PROGRAMS names has
+it; tools/check_tools names it, and nothing is built here."""
+import csv, io, os, pathlib, re, shutil, subprocess, sys, tempfile, unittest
+
+from random_programs import compared, printers
+
+TOOLS = pathlib.Path(__file__).resolve().parent.parent
+TOP = TOOLS.parent
+
+
+def is_there(name):
+    return os.access(os.path.join(os.environ.get("CAPRICCIO_PROGRAMS", "no folder"), name), os.X_OK)
+
+
+def run(tool, *words, given=None):
+    with open(given or os.devnull) as trace:
+        return subprocess.run([sys.executable, TOOLS / tool, *map(str, words)], stdin=trace, capture_output=True, text=True)
+
+
+@unittest.skipUnless(is_there("capriccio_cli"), "the program isn't built")
+class WithTheProgram(unittest.TestCase):
+    def test_a_sweep_has_the_numbers_of_the_kept_report(self):
+        folder = TOP / "examples/calculator"
+        options = dict(zip(*[iter((folder / "options").read_text().split())] * 2))
+        varied = [it for name, value in options.items() for it in ("--vary", name[2:], value)]
+        told = run("sweep", folder / "server.c", folder / "trace", "--csv", *varied, "--vary", "fuel", "10000000", "100")
+        rows = list(csv.DictReader(io.StringIO(told.stdout)))
+        whole = re.search(r"first answer: least (\d+), median (\d+), 90th (\d+), 99th (\d+), greatest (\d+)", (folder / "report").read_text())
+        ranks = [rows[0][f"first {rank}"] for rank in ("least", "median", "90th", "99th", "greatest")]
+        self.assertEqual(ranks, list(whole.groups()))
+        self.assertEqual(rows[0]["stop"], "idle")
+        self.assertRegex(rows[1]["stop"], "^fuel ")
+        self.assertEqual(rows[1]["cost"], "100")  # all of the fuel
+
+    @unittest.skipUnless(shutil.which("gcc"), "there is no gcc")
+    def test_random_programs_do_what_gcc_makes_of_them(self):
+        self.assertGreater(sum(map(compared.compared, range(4, 7))), 100)
+
+    @unittest.skipUnless(shutil.which("gcc"), "there is no gcc")
+    def test_another_meaning_of_division_by_zero_is_found(self):
+        right = printers.PRELUDE
+        self.addCleanup(setattr, printers, "PRELUDE", right)
+        printers.PRELUDE = right.replace("b == 0 ? -1", "b == 0 ? 1")
+        self.assertNotEqual(printers.PRELUDE, right)
+        with self.assertRaises(compared.Differs):
+            sum(map(compared.compared, range(4, 7)))
+
+
+@unittest.skipUnless(is_there("capriccio_cli") and is_there("report"), "the programs aren't built")
+class WithTheReport(unittest.TestCase):
+    def test_files_are_stored_beside_the_report(self):
+        folder = TOP / "examples/pool"
+        with tempfile.TemporaryDirectory() as to:
+            names = [os.path.join(to, name) for name in ("run.json", "run.folded", "run.html")]
+            options = [it for pair in zip(("--trace", "--folded", "--html"), names) for it in pair]
+            told = run("export", *options, "serve", folder / "server.c", given=folder / "trace")
+            self.assertEqual(told.returncode, 10)
+            self.assertEqual(told.stdout.splitlines()[-1], "stop idle")
+            self.assertEqual(sorted(os.listdir(to)), ["run.folded", "run.html", "run.json"])
+            self.assertEqual(pathlib.Path(names[1]).read_text(), "main;[end] 31\nmain;worker;accept 86\n")
+
+    def test_a_refused_source_stores_nothing(self):
+        with tempfile.TemporaryDirectory() as to:
+            name = os.path.join(to, "run.json")
+            told = run("export", "--trace", name, "serve", os.devnull)
+            self.assertNotEqual(told.returncode, 0)
+            self.assertEqual(os.listdir(to), [])
+
+
+if __name__ == "__main__":
+    unittest.main()
