@@ -76,6 +76,10 @@ REPORT_OPTIONS = {
     "--trace": ("FILE", "stores the run in the Trace Event format, for Perfetto"),
     "--folded": ("FILE", "stores folded stacks by instructions, with --why by waits, for flame graphs"),
     "--html": ("FILE", "stores a page with the report, a timeline that zooms, requests, graph and log"),
+    "--request": ("N", "shows the parts of the time of the N-th request that came"),
+    "--answers": ("HOW", "pairs outputs with requests: first, in their order, or value, by their values"),
+    "--from": ("CLOCK", "begins the timeline there"),
+    "--to": ("CLOCK", "ends the timeline there"),
     "--log": ("LOG", "makes no run and reads a stored log with its source and trace"),
 }
 

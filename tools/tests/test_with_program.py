@@ -59,6 +59,16 @@ class WithTheReport(unittest.TestCase):
             self.assertEqual(sorted(os.listdir(to)), ["run.folded", "run.html", "run.json"])
             self.assertEqual(pathlib.Path(names[1]).read_text(), "main;[end] 31\nmain;worker;accept 86\n")
 
+    def test_the_reports_own_options_reach_it(self):
+        folder = TOP / "examples/pool"
+        words = ["--request", "2", "--answers", "first", "--why", "serve", str(folder / "server.c")]
+        with open(folder / "trace") as trace:
+            alone = subprocess.run([os.path.join(os.environ["CAPRICCIO_PROGRAMS"], "report"), *words], stdin=trace, capture_output=True, text=True)
+        with tempfile.TemporaryDirectory() as to:
+            told = run("export", "--folded", os.path.join(to, "run.folded"), *words, given=folder / "trace")
+        self.assertIn("request 2: arrived ", told.stdout)
+        self.assertEqual((told.stdout, told.returncode), (alone.stdout, alone.returncode))
+
     def test_a_refused_source_stores_nothing(self):
         with tempfile.TemporaryDirectory() as to:
             name = os.path.join(to, "run.json")

@@ -1,5 +1,2 @@
 mod Eight
 mod Starts
-mod EmptyPlaces
-pub mod Gathered
-pub mod Readings

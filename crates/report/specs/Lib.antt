@@ -1,12 +1,6 @@
 pub mod Between
-pub mod Known
-pub mod Happenings
 pub mod Counts
 pub mod Courses
 pub mod Holds
 pub mod Reasons
-pub mod Spells
-pub mod Answers
-pub mod Numbers
 pub mod Lines
-pub mod Takes

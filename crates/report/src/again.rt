@@ -28,11 +28,12 @@ use crate::again::outside::{come, reach};
 use crate::again::reasons::Choices;
 use crate::again::segments::run_segment;
 use crate::again::uses::{changes, uses_of};
-use crate::history::spells::Spells;
+use crate::push::push;
 use blocking_graph::SegmentRecord;
 use cap_text::Lines;
 use cap_word::ThreadId;
 use resource_monitor::Measure;
+use run_history::Spells;
 use schedule_log::{Entry, read_entry};
 use std::alloc::{AllocError, Global};
 use std::collections::BTreeMap;
@@ -53,6 +54,18 @@ pub struct Told {
     pub decided: Option<Decided>,
     /// What each thread holds of the resources 1 to 7, in their order.
     pub holders: Vec<Holders>,
+    /// The threads that were started, by their numbers.
+    pub threads: BTreeMap<u32, ThreadId>,
+    /// The threads that segments started, in order.
+    pub spawned: Vec<Spawned>,
+}
+
+/// A thread that a segment started.
+#[derive(Clone, Copy)]
+pub struct Spawned {
+    pub thread: u32,
+    /// The number of the segment, from 0 in the order in which they ran.
+    pub segment: u64,
 }
 
 /// What decided the choices of a run by the blocking graph.
@@ -60,7 +73,7 @@ pub struct Told {
 pub struct Decided {
     /// What decided the choices.
     pub choices: Choices,
-    /// When the gate was closed, up to the last choice.
+    /// When the gate was closed, from the start to the end.
     pub spells: Spells,
     /// The clock at which the last segment ended.
     pub ended: u64,
@@ -83,6 +96,9 @@ struct Again<C: Measure> {
     spells: Spells,
     holders: Vec<Holders>,
     threads: BTreeMap<u32, ThreadId>,
+    spawned: Vec<Spawned>,
+    /// How many segments are over.
+    segments: u64,
     ran: Option<Ran>,
     /// The clock at which the last segment ended.
     ended: u64,
@@ -106,6 +122,8 @@ pub fn make_again<C: Measure + Drop>(
         spells: Spells::new(),
         holders: Vec::new(alloc),
         threads: BTreeMap::new(alloc),
+        spawned: Vec::new(alloc),
+        segments: 0,
         ran: None,
         ended: 0,
     };
@@ -121,7 +139,7 @@ pub fn make_again<C: Measure + Drop>(
 }
 
 impl<C: Measure + Drop> Again<C> {
-    /// Makes the run from its start, where nobody holds anything and the first thread waits at node 0.
+    /// Makes the run from its start, where nobody holds anything and the first thread waits at node 0. The gate moves by the uses then.
     fn make(&mut self, alloc: Global, world: &mut World, log: &[u8]) -> Option<()>
         requires { IsBetween world.old }
     {
@@ -132,6 +150,7 @@ impl<C: Measure + Drop> Again<C> {
             }
         }
         self.start(world.main_thread())?;
+        self.watch(world)?;
         self.read(alloc, world, log)
     }
 
@@ -143,6 +162,7 @@ impl<C: Measure + Drop> Again<C> {
             spells,
             holders,
             threads,
+            spawned,
             ended,
             ..
         } = self;
@@ -152,10 +172,11 @@ impl<C: Measure + Drop> Again<C> {
             ended,
         };
         drop(choosing);
-        drop(threads);
         Told {
             decided: if by_graph { Some(decided) } else { None },
             holders,
+            threads,
+            spawned,
         }
     }
 
@@ -236,10 +257,19 @@ impl<C: Measure + Drop> Again<C> {
         };
         self.hold(&ran)?;
         self.ran = Some(ran);
+        self.watch(world)?;
         Some(goes)
     }
 
-    /// The choice at these uses, which is to be that of this thread at this node, and where the gate stands then.
+    /// The gate moves by the uses as they stand, at the clock at which the last segment ended.
+    fn watch(&mut self, world: &World) -> Option<()> {
+        let caps = self.choosing.caps();
+        self.choosing.observe(uses_of(world, &caps));
+        self.spells = self.spells.turn(self.choosing.is_open(), self.ended)?;
+        Some(())
+    }
+
+    /// The choice at these uses, which is to be that of this thread at this node.
     fn choose(&mut self, world: &World, uses: [u32; 8], thread: u32, node: u32) -> Option<()>
         requires { NoneAbove uses self.old.choosing.monitor.caps }
     {
@@ -248,16 +278,21 @@ impl<C: Measure + Drop> Again<C> {
             if choice.thread.number != thread || choice.node != node {
                 return None;
             }
-            self.spells = self.spells.turn(self.choosing.is_open(), self.ended)?;
         }
         Some(())
     }
 
-    /// Threads were started: they wait at node 0.
+    /// The segment under way has started threads: they wait at node 0.
     fn start_all(&mut self, started: &[ThreadId]) -> Option<()> {
         for thread in started {
             self.start(*thread)?;
+            let spawned = Spawned {
+                thread: thread.number,
+                segment: self.segments,
+            };
+            push(&mut self.spawned, spawned).ok()?;
         }
+        self.segments = self.segments.saturating_add(1);
         Some(())
     }
 

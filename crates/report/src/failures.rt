@@ -4,12 +4,16 @@ use std::alloc::AllocError;
 /// Why there is no report, or not all of it.
 #[derive(Clone, Copy)]
 pub enum Failure {
-    /// The words behind `--log` are those of no run.
+    /// The words are those of no command, or those behind `--log` are those of no run.
     Words,
     /// The file of the source is none.
     Source,
     /// The file of the log is none.
     Log,
+    /// There is no file of the source.
+    NoSource,
+    /// There is no file of the log.
+    NoLog,
     /// A file or the trace could not be read.
     Read,
     /// The report or a picture could not be written.
@@ -31,10 +35,12 @@ impl Failure {
         match self {
             Failure::Words => (
                 2,
-                b"usage: report [--timeline FILE] [--graph FILE] [--log LOG] [--why] serve SRC .. | run SRC IMG CRT ..\n",
+                b"usage: report [--timeline FILE] [--graph FILE] [--log LOG] [--answers first|value] [--from CLOCK] [--to CLOCK] [--request N] [--why] [--help] serve SRC .. | run SRC IMG CRT ..\n",
             ),
             Failure::Source => (3, b"report: the source is none\n"),
             Failure::Log => (4, b"report: the log is none\n"),
+            Failure::NoSource => (9, b"absent: source\n"),
+            Failure::NoLog => (9, b"absent: log\n"),
             Failure::Read => (6, b"fault: read\n"),
             Failure::Write => (7, b"fault: write\n"),
             Failure::Memory => (8, b"fault: memory\n"),

@@ -2,16 +2,18 @@ use crate::failures::Failure;
 use cap_io::{Shelf, ShelfError};
 use std::alloc::Global;
 
-/// The bytes of a file.
+/// The bytes of a file. Where there is none the failure is `absent`.
 pub fn load<F: Shelf>(
     alloc: Global,
     shelf: &mut F,
     name: &str,
     most: u32,
+    absent: Failure,
 ) -> Result<Vec<u8>, Failure> {
     match shelf.load(alloc, name, most) {
         Ok(bytes) => Ok(bytes),
         Err(ShelfError::Memory) => Err(Failure::Memory),
+        Err(ShelfError::Absent) => Err(absent),
         Err(_) => Err(Failure::Read),
     }
 }

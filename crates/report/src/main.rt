@@ -5,15 +5,15 @@
 // over a log in memory; with `--log` a stored log is read in place of a run. docs/REPORT.md says what the report tells. `show` of
 // outcome.rt is the whole program over the objects that it is handed; `main` makes the real ones.
 //
-// What each entry of a log tells, and the numbers of a whole log, are in `history`; the run that is made once more in `again`; the
-// report's text in `report`; its pictures in `pictures`. `places` says where the calls of a source stand. What is shown is written
+// What each entry of a log tells, and the numbers of a whole log, are those of `run_history`; the run that is made once more is in
+// `again`, the report's text in `report`, its pictures in `pictures`. `places` says where the calls of a source stand. What is shown is written
 // into a `Text`, which keeps whether there was memory for all of it, so that what writes it has nothing to answer; numbers stand in
 // it as a form with a mark for each, which is proved faster than a format. Of most of the text and the pictures no clause speaks.
 #![tactic(auto)]
 
 mod again;
 mod failures;
-mod history;
+mod help;
 mod inputs;
 mod outcome;
 mod pictures;
@@ -23,6 +23,7 @@ mod report;
 mod run;
 mod subject;
 mod text;
+mod told;
 mod trace;
 mod wanted;
 

@@ -1,12 +1,14 @@
 use crate::again::holders::Holders;
 use crate::again::starting::make_once_more;
-use crate::again::{Decided, Told};
+use crate::again::{Decided, Spawned, Told};
 use crate::failures::Failure;
+use crate::help::HELP;
 use crate::inputs::{load, store};
 use crate::pictures::{put_blocking, put_times};
 use crate::places::Places;
-use crate::report::stop::put_stop;
-use crate::report::{Found, last_line, put_report};
+use crate::report::circles::put_circles;
+use crate::report::stop::{cut_in, is_in_use, put_stop};
+use crate::report::{Found, RunLog, last_line, put_report};
 use crate::run::make_run;
 use crate::subject::{Subject, subject_of};
 use crate::text::Text;
@@ -17,6 +19,9 @@ use capriccio_commands::let_go;
 use schedule_log::read_entry;
 use std::alloc::{AllocError, Global};
 use thread_core::World;
+
+/// The last line of a run in which no thread can go on.
+const IDLE: &[u8] = b"stop idle";
 
 /// The most bytes of a source.
 const MOST_BYTES: u32 = 1_048_576;
@@ -32,14 +37,39 @@ pub fn show<F: Shelf, S: Source, K: Sink, E: Sink>(
 ) -> Result<u8, Failure> {
     match Wanted::read(alloc, words) {
         Ok(wanted) => {
-            let shown = match Trace::read(alloc, input) {
-                Ok(trace) => show_trace(alloc, &wanted, trace, shelf, out, err),
-                Err(failure) => Err(failure),
+            let shown = if wanted.help {
+                show_help(out)
+            } else {
+                show_wanted(alloc, &wanted, shelf, input, out, err)
             };
             drop(wanted);
             shown
         }
-        Err(AllocError) => Err(Failure::Memory),
+        Err(failure) => Err(failure),
+    }
+}
+
+/// Shows the usage.
+fn show_help<K: Sink>(out: &mut K) -> Result<u8, Failure> {
+    match put(out, HELP.as_bytes()) {
+        Ok(()) => Ok(0),
+        Err(failure) => Err(failure),
+    }
+}
+
+/// Shows what is asked for, with the trace that is read. Words of no command are refused before.
+fn show_wanted<F: Shelf, S: Source, K: Sink, E: Sink>(
+    alloc: Global,
+    wanted: &Wanted,
+    shelf: &mut F,
+    input: &mut S,
+    out: &mut K,
+    err: &mut E,
+) -> Result<u8, Failure> {
+    let _subject = subject_of(alloc, &wanted.words)?;
+    match Trace::read(alloc, input) {
+        Ok(trace) => show_trace(alloc, wanted, trace, shelf, out, err),
+        Err(failure) => Err(failure),
     }
 }
 
@@ -73,7 +103,7 @@ fn show_stored<F: Shelf, K: Sink>(
     shelf: &mut F,
     out: &mut K,
 ) -> Result<u8, Failure> {
-    match load(alloc, shelf, name, u32::MAX) {
+    match load(alloc, shelf, name, u32::MAX, Failure::NoLog) {
         Ok(log) => {
             let shown = show_kept(alloc, wanted, times, log.as_slice(), shelf, out);
             drop(log);
@@ -153,11 +183,7 @@ fn show_made<'a, F: Shelf, K: Sink>(
 ) -> Result<(), Failure> {
     match (subject_of(alloc, &wanted.words)?, last) {
         (Some(subject), Some(world)) => {
-            let told = if wanted.why {
-                make_once_more(alloc, &wanted.words, shelf, log)
-            } else {
-                None
-            };
+            let told = told_of(alloc, wanted, shelf, log, world);
             let run = Run {
                 subject,
                 times,
@@ -171,6 +197,25 @@ fn show_made<'a, F: Shelf, K: Sink>(
         }
         _ => put(out, log),
     }
+}
+
+/// What a run tells where it is made once more: with `--why`, and for who holds what where no thread goes on while some resource is in
+/// use.
+fn told_of<F: Shelf>(
+    alloc: Global,
+    wanted: &Wanted,
+    shelf: &mut F,
+    log: &[u8],
+    world: &World,
+) -> Option<Told> {
+    if !wanted.why && (last_line(log) != IDLE || !is_in_use(world)) {
+        return None;
+    }
+    let mut told = make_once_more(alloc, &wanted.words, shelf, log)?;
+    if !wanted.why {
+        told.decided = None;
+    }
+    Some(told)
 }
 
 /// A run that is shown: what its words say, the times of its trace, its log, and what is seen of it beside its log: the world at its
@@ -193,7 +238,7 @@ fn show_log<F: Shelf, K: Sink>(
     out: &mut K,
 ) -> Result<(), Failure> {
     let name = run.subject.source;
-    match load(alloc, shelf, name, MOST_BYTES) {
+    match load(alloc, shelf, name, MOST_BYTES, Failure::NoSource) {
         Ok(source) => match Places::read(alloc, name, source) {
             Ok(places) => {
                 let shown = show_placed(alloc, wanted, &places, run, shelf, out);
@@ -216,10 +261,11 @@ fn show_placed<F: Shelf, K: Sink>(
     shelf: &mut F,
     out: &mut K,
 ) -> Result<(), Failure> {
-    let found = put_text(alloc, places, run, out)?;
+    let found = put_text(alloc, places, run, wanted, out)?;
     if let Some(name) = &wanted.timeline {
         let mut text = Text::new(alloc);
-        let written = put_times(alloc, &mut text, places, run.log, found);
+        let asked = (wanted.from, wanted.to);
+        let written = put_times(alloc, &mut text, places, run.log, found, asked);
         store_whole(alloc, shelf, name.as_str(), written, text)?;
     }
     match &wanted.graph {
@@ -246,10 +292,11 @@ fn put_text<K: Sink>(
     alloc: Global,
     places: &Places,
     run: Run,
+    wanted: &Wanted,
     out: &mut K,
 ) -> Result<Found, Failure> {
     let mut text = Text::new(alloc);
-    let shown = match write_text(alloc, &mut text, places, run) {
+    let shown = match write_text(alloc, &mut text, places, run, wanted) {
         Ok(found) => match text.whole() {
             Ok(report) => match put(out, report.as_bytes()) {
                 Ok(()) => Ok(found),
@@ -264,14 +311,32 @@ fn put_text<K: Sink>(
 }
 
 /// Appends the report: what the log tells, where the run stopped, and the last line of its log.
-fn write_text(alloc: Global, text: &mut Text, places: &Places, run: Run) -> Result<Found, Failure> {
+fn write_text(
+    alloc: Global,
+    text: &mut Text,
+    places: &Places,
+    run: Run,
+    wanted: &Wanted,
+) -> Result<Found, Failure> {
     let (decided, holders): (Option<Decided>, &[Holders]) = match run.told {
         Some(told) => (told.decided, told.holders.as_slice()),
         None => (None, &[]),
     };
-    let options = run.subject.options;
-    let found = put_report(alloc, text, places, run.times, run.log, options, decided)?;
     let line = last_line(run.log);
+    if let (Some(world), Some(told)) = (run.world, run.told) {
+        put_circles(alloc, text, world, told, cut_in(line));
+    }
+    let whole = RunLog {
+        log: run.log,
+        options: run.subject.options,
+        times: run.times,
+        world: run.world,
+        decided,
+        request: wanted.request,
+        pairing: wanted.answers,
+        spawned: spawned_in(run.told, wanted),
+    };
+    let found = put_report(alloc, text, places, whole)?;
     if let Some(world) = run.world {
         if let Ok(last) = read_entry(line) {
             put_stop(alloc, text, places, world, found.left, &last, holders);
@@ -280,6 +345,14 @@ fn write_text(alloc: Global, text: &mut Text, places: &Places, run: Run) -> Resu
     text.bytes(line);
     text.words("\n");
     Ok(found)
+}
+
+/// The threads that segments started, where a request is followed through `spawn`: with `--why`.
+fn spawned_in<'a>(told: Option<&'a Told>, wanted: &Wanted) -> Option<&'a [Spawned]> {
+    match told {
+        Some(known) if wanted.why => Some(known.spawned.as_slice()),
+        _ => None,
+    }
 }
 
 /// Stores a picture that was written, where it could be.

@@ -10,19 +10,18 @@ pub mod rows;
 pub mod timeline;
 
 use crate::failures::Failure;
-use crate::history::happenings::{Happening, Wait};
-use crate::history::threads::Standing;
-use crate::history::{History, HistoryError};
 use crate::pictures::drawing::put_drawing;
 use crate::pictures::graph::{GraphEdge, put_graph};
-use crate::pictures::rows::Rows;
+use crate::pictures::rows::{Rows, Window};
 use crate::pictures::timeline::put_timeline;
 use crate::places::Places;
 use crate::push::push;
 use crate::report::Found;
 use crate::text::Text;
+use crate::told::told_by;
 use cap_text::Lines;
 use cap_word::SiteKey;
+use run_history::{Happening, History, Standing, Wait};
 use schedule_log::{Entry, read_entry};
 use std::alloc::{AllocError, Global};
 use std::collections::BTreeMap;
@@ -33,7 +32,8 @@ const NARROW_ROWS: u64 = 100;
 /// How many columns a place has then.
 const WIDE: u32 = 3;
 
-/// Appends the timeline of the run with this log, as SVG, by what the report on it found. None of its entries is kept. `Log` comes
+/// Appends the timeline of the run with this log, as SVG, by what the report on it found, between the clocks that are asked for, and
+/// else from 0 to the end of the last segment. None of its entries is kept. `Log` comes
 /// where a line is no entry's, or a clock or a count would be 2^64 or more, and `Memory` where there is none for the rows; whether
 /// there was memory for all that was appended, the text says.
 pub fn put_times(
@@ -42,10 +42,15 @@ pub fn put_times(
     places: &Places,
     log: &[u8],
     found: Found,
+    asked: (Option<u64>, Option<u64>),
 ) -> Result<(), Failure> {
+    let window = Window {
+        from: asked.0.unwrap_or(0),
+        to: asked.1.unwrap_or(found.ended),
+    };
     let wide = if found.started > NARROW_ROWS { WIDE } else { 1 };
-    let mut rows = Rows::new(alloc, found.ended, wide);
-    mark_all(alloc, log, found.threads, &mut rows)?;
+    let mut rows = Rows::new(alloc, window, wide);
+    mark_all(alloc, log, found, &mut rows)?;
     let mut sites = Vec::new(alloc);
     let mut names = Vec::new(alloc);
     add_sites(alloc, places, &rows, &mut sites, &mut names)?;
@@ -53,32 +58,19 @@ pub fn put_times(
     Ok(())
 }
 
-/// Marks what all lines of a log tell, and then the waits that are under way when the run ends, as if they ended then. All threads
-/// that ran have numbers below that one.
-fn mark_all(alloc: Global, log: &[u8], threads: u32, rows: &mut Rows) -> Result<(), Failure> {
+/// Marks what all lines of a log tell, and then the waits that are under way when the run ends, as if they ended then.
+fn mark_all(alloc: Global, log: &[u8], found: Found, rows: &mut Rows) -> Result<(), Failure> {
     let mut history = History::new(alloc);
     for line in Lines::new(log) {
-        let told = told_by(&mut history, line)?;
+        let told = told_by(&mut history, line, &[])?;
         rows.add(told)?;
     }
-    for thread in 0..threads {
-        if let Some(wait) = wait_left(&history, thread, rows.end) {
+    for thread in 0..found.threads {
+        if let Some(wait) = wait_left(&history, thread, found.ended) {
             rows.add(Happening::Waited(wait))?;
         }
     }
     Ok(())
-}
-
-/// What one line more of a log tells of waits and segments: requests are left out, so no call counts as `accept`.
-fn told_by(history: &mut History, line: &[u8]) -> Result<Happening, Failure> {
-    match read_entry(line) {
-        Ok(entry) => match history.tell(&entry, &[]) {
-            Ok(told) => Ok(told),
-            Err(HistoryError::Memory) => Err(Failure::Memory),
-            Err(HistoryError::Count) => Err(Failure::Log),
-        },
-        Err(_) => Err(Failure::Log),
-    }
 }
 
 /// The wait of a thread that is still under way when the run ends, at that clock.
@@ -130,7 +122,7 @@ pub fn put_blocking(
     if is_dot {
         put_graph(text, names.as_slice(), edges.as_slice());
     } else {
-        put_drawing(text, names.as_slice(), edges.as_slice());
+        put_drawing(alloc, text, names.as_slice(), edges.as_slice());
     }
     Ok(())
 }

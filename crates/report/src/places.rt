@@ -80,6 +80,15 @@ impl<'a> Places<'a> {
         Ok(sites)
     }
 
+    /// For each site, whether its call is one at which a thread waits.
+    pub(crate) fn waiting_sites(&self, alloc: Global) -> Result<Vec<bool>, AllocError> {
+        let mut sites = Vec::new(alloc);
+        for at in self.names.calls.as_slice() {
+            sites.push(is_waiting_call(self.name_at(*at)))?;
+        }
+        Ok(sites)
+    }
+
     /// Appends where a site stands, what is called there and in which function: `server.c:12:5 accept in worker`.
     pub fn put_site(&self, text: &mut Text, site: u32) {
         match self.call(site) {
@@ -101,6 +110,20 @@ impl<'a> Places<'a> {
                 self.put_inside(text, at)
             }
             None => text.form("site $", &[u64::from(site)]),
+        }
+    }
+
+    /// Appends the text of a site's call, as `put_site_text` has it; nothing where there is no such site.
+    pub(crate) fn put_call(&self, text: &mut Text, site: u32) {
+        if let Some(at) = self.call(site) {
+            put_call_text(text, self.source.as_slice(), self.tokens.as_slice(), at)
+        }
+    }
+
+    /// Appends the name of a site's call; nothing where there is no such site.
+    pub(crate) fn put_call_name(&self, text: &mut Text, site: u32) {
+        if let Some(at) = self.call(site) {
+            text.bytes(self.name_at(at))
         }
     }
 
@@ -225,6 +248,19 @@ impl<'a> Places<'a> {
         }
         rest
     }
+}
+
+/// The calls at which threads wait.
+const WAITING: [&[u8]; 6] = [b"accept", b"wait", b"sleep", b"yield", b"take", b"waitfor"];
+
+/// Whether a thread waits at the call of that name.
+fn is_waiting_call(name: &[u8]) -> bool {
+    for call in WAITING {
+        if call == name {
+            return true;
+        }
+    }
+    false
 }
 
 /// The most bytes of a source.

@@ -3,30 +3,44 @@
 //
 // A log is read once for its numbers, by `numbers_of`, and a `Course` looks on. What a run tells that was made once more beside its
 // log (`Decided`) stands in the lines on choices and the gate; what only the world at the stop tells, in those of `put_stop`.
+pub mod circles;
 pub mod code;
+pub mod followed;
 pub mod latencies;
 pub mod left;
 pub mod lines;
+pub mod pairs;
+pub mod queues;
+pub mod requests;
 pub mod stacks;
 pub mod stop;
+pub mod unasked;
+pub mod values;
 pub mod waits;
 
-use crate::again::Decided;
+ghost use Rattle.std.specs.Prelude.{◌≤◌};
+
+use crate::again::{Decided, Spawned};
 use crate::failures::Failure;
-use crate::history::HistoryError;
-use crate::history::happenings::Happening;
-use crate::history::reading::{ReadError, Watch, numbers_of};
-use crate::history::spells::{Marks, Spells};
-use crate::history::takes::Takes;
 use crate::places::Places;
-use crate::report::latencies::put_requests;
+use crate::report::followed::Followed;
+use crate::report::latencies::{put_requests, slowest_of};
 use crate::report::left::put_left;
 use crate::report::lines::ChunksLine;
+use crate::report::pairs::{Pairing, Pairs};
+use crate::report::queues::put_queue;
+use crate::report::requests::{Asked, put_parts};
+use crate::report::unasked::put_unasked;
 use crate::report::waits::put_waits;
 use crate::text::Text;
 use cap_word::SiteKey;
+use run_history::{
+    Happening, HistoryError, Marks, ReadError, Reading, Spells, Takes, Unasked, Watch, numbers_of,
+};
 use schedule_log::{Entry, Item};
 use std::alloc::{AllocError, Global};
+use std::mem;
+use thread_core::World;
 
 /// What a report takes from the options of the run.
 #[derive(Clone, Copy)]
@@ -57,9 +71,22 @@ pub(crate) struct Course<'a> {
     pub(crate) accepts: &'a [bool],
     /// And whether it is `take`.
     at_take: &'a [bool],
+    /// And whether it is one at which threads wait.
+    waiting: &'a [bool],
+    /// The times of the trace's events, in order, and how many of them came or were dropped so far.
+    times: &'a [u64],
+    events: usize,
+    /// Whether each event so far is one of the trace's, and each wait one of the source's.
+    fits: bool,
     options: Options,
     /// The wait at `take` that each thread went past last, since it took its request.
     pub(crate) takes: Takes,
+    /// What threads put that served no request.
+    pub(crate) unasked: Unasked,
+    /// Which outputs answer which requests, where a user says how.
+    pairs: Option<Pairs>,
+    /// What threads answer that work for requests, where it is known who started whom.
+    followed: Option<Followed<'a>>,
     /// One more than the greatest number of a thread that ran, and how many threads ran.
     pub(crate) threads: u32,
     started: u64,
@@ -76,8 +103,15 @@ pub(crate) struct Course<'a> {
 
 impl<'a> Watch for Course<'a> {
     fn see(&mut self, entry: &Entry, told: Happening) -> Result<(), HistoryError> {
+        let named = self.named(told);
         match self.takes.add(told, self.at_take) {
-            Ok(()) => self.take(entry, told),
+            Ok(()) => match self.unasked.add(named) {
+                Ok(()) => match self.pair(told) {
+                    Ok(()) => self.take(entry, told),
+                    Err(AllocError) => Err(HistoryError::Memory),
+                },
+                Err(error) => Err(error),
+            },
             Err(AllocError) => Err(HistoryError::Memory),
         }
     }
@@ -89,17 +123,26 @@ impl<'a> Course<'a> {
         alloc: Global,
         accepts: &'a [bool],
         at_take: &'a [bool],
+        waiting: &'a [bool],
+        times: &'a [u64],
         options: Options,
     ) -> Course<'a> {
         Course {
             accepts,
             at_take,
+            waiting,
+            times,
+            events: 0,
+            fits: true,
             options,
             takes: Takes::new(alloc),
+            unasked: Unasked::new(alloc),
+            pairs: None,
+            followed: None,
             threads: 0,
             started: 0,
             choices: 0,
-            spells: Spells::new(),
+            spells: Spells::start(in_range(options.marks)),
             ended: 0,
             requests: 0,
             at_accept: 0,
@@ -115,8 +158,11 @@ impl<'a> Course<'a> {
                 self.choices = self.choices.saturating_add(1);
                 self.choose(told);
             }
+            Entry::Event { clock, .. } => self.come(*clock),
+            Entry::Dropped { clock, .. } => self.come(*clock),
             Entry::Block { key, .. } => {
-                if is_accept_at(self.accepts, key) {
+                self.fits = self.fits && is_innermost_in(self.waiting, key);
+                if is_innermost_in(self.accepts, key) {
                     self.at_accept = self.at_accept.saturating_add(1);
                 }
             }
@@ -131,15 +177,42 @@ impl<'a> Course<'a> {
             Happening::Ran { segment, .. } => self.ended = segment.ended,
             _ => (),
         }
-        let marks = self.options.marks;
-        let knee = marks.knee.min(999);
-        match self.spells.with(Marks { knee, ..marks }, told) {
+        match self.spells.with(in_range(self.options.marks), told) {
             Some(spells) => {
                 self.spells = spells;
                 Ok(())
             }
             None => Err(HistoryError::Count),
         }
+    }
+
+    /// What was told, with the request that a thread works for where that is known.
+    fn named(&self, told: Happening) -> Happening {
+        match &self.followed {
+            Some(followed) => followed.named(told),
+            None => told,
+        }
+    }
+
+    /// Takes what tells of requests and outputs, where a user says which belong together.
+    fn pair(&mut self, told: Happening) -> Result<(), AllocError> {
+        if let Some(pairs) = &mut self.pairs {
+            return pairs.add(told);
+        }
+        match &mut self.followed {
+            Some(followed) => followed.add(told),
+            None => Ok(()),
+        }
+    }
+
+    /// Takes an event that came or was dropped at that clock: the next of the trace, whose time isn't later.
+    fn come(&mut self, clock: u64) {
+        let is_next = match self.times.get(self.events) {
+            Some(time) => *time <= clock,
+            None => false,
+        };
+        self.fits = self.fits && is_next;
+        self.events = self.events.saturating_add(1);
     }
 
     /// Takes a choice, by what it tells.
@@ -157,10 +230,18 @@ impl<'a> Course<'a> {
     }
 }
 
-/// Whether the innermost call of a key is `accept`.
-fn is_accept_at(accepts: &[bool], key: &SiteKey) -> bool {
+/// The marks of a gate, whose knee is at most 999 in every run.
+fn in_range(marks: Marks) -> Marks
+    ensures { result.knee ≤ 999 }
+{
+    let knee = marks.knee.min(999);
+    Marks { knee, ..marks }
+}
+
+/// Whether the innermost call of a key is at one of these sites.
+fn is_innermost_in(sites: &[bool], key: &SiteKey) -> bool {
     match key.sites().first() {
-        Some(site) => is_one(accepts, *site),
+        Some(site) => is_one(sites, *site),
         None => false,
     }
 }
@@ -173,23 +254,47 @@ pub(crate) fn is_one(sites: &[bool], site: u32) -> bool {
     }
 }
 
-/// Appends the report on the run of a source with this log and these options, up to what is left at its end. `times` are the times of
-/// the trace's events, in order, and `decided` is what the run tells where it was made once more. `Log` comes where the log has no
+/// What a report is made of beside its source: the run's log and its options, the times of the trace's events in order, the world at
+/// the stop, where the run was made, what it tells where it was made once more, and the request whose parts are asked for.
+#[derive(Clone, Copy)]
+pub struct RunLog<'a> {
+    pub log: &'a [u8],
+    pub options: Options,
+    pub times: &'a [u64],
+    pub world: Option<&'a World>,
+    pub decided: Option<Decided>,
+    pub request: Option<u64>,
+    pub pairing: Option<Pairing>,
+    /// The threads that segments started, where that is known.
+    pub spawned: Option<&'a [Spawned]>,
+}
+
+/// Appends the report on a run, up to what is left at its end. `Log` comes where the log has no
 /// numbers (`numbers_of`), and `Memory` where there is none for what is read off it; whether there was memory for all that was
 /// appended, the text says.
 pub fn put_report(
     alloc: Global,
     text: &mut Text,
     places: &Places,
-    times: &[u64],
-    log: &[u8],
-    options: Options,
-    decided: Option<Decided>,
+    run: RunLog,
 ) -> Result<Found, Failure> {
     let accepts = places.sites_of(alloc, b"accept")?;
     let at_take = places.sites_of(alloc, b"take")?;
-    let course = Course::new(alloc, accepts.as_slice(), at_take.as_slice(), options);
-    put_course(alloc, text, places, times, log, course, decided)
+    let waiting = places.waiting_sites(alloc)?;
+    let mut course = Course::new(
+        alloc,
+        accepts.as_slice(),
+        at_take.as_slice(),
+        waiting.as_slice(),
+        run.times,
+        run.options,
+    );
+    if let Some(pairing) = run.pairing {
+        course.pairs = Some(Pairs::new(alloc, pairing));
+    } else if let Some(spawned) = run.spawned {
+        course.followed = Some(Followed::new(alloc, spawned));
+    }
+    put_course(alloc, text, places, run, course)
 }
 
 /// Appends the report on the run with this log, by what is read off it beside its numbers. It is refused as `put_report` is.
@@ -197,31 +302,80 @@ fn put_course(
     alloc: Global,
     text: &mut Text,
     places: &Places,
-    times: &[u64],
-    log: &[u8],
+    run: RunLog,
     mut course: Course,
-    decided: Option<Decided>,
 ) -> Result<Found, Failure> {
     let accepts = course.accepts;
     let chunks = course.options.marks.chunks;
-    match numbers_of(alloc, log, accepts, chunks, &mut course) {
-        Ok(reading) => {
-            let numbers = &reading.numbers;
-            put_requests(alloc, text, numbers, times);
-            put_waits(alloc, text, places, numbers.waits.as_slice());
-            put_choices(text, numbers.most_held, &course, decided);
-            let left = put_left(text, places, &reading.history, &course);
+    match numbers_of(alloc, run.log, accepts, chunks, &mut course) {
+        Ok(mut reading) => {
+            if let Some(pairs) = &mut course.pairs {
+                reading.numbers.answers = mem::replace(&mut pairs.answers, Vec::new(alloc));
+            } else if let Some(followed) = &mut course.followed {
+                reading.numbers.answers = mem::replace(&mut followed.answers, Vec::new(alloc));
+            }
+            let put = put_numbers(alloc, text, places, run, &course, &reading);
             drop(reading);
-            Ok(Found {
-                left,
-                threads: course.threads,
-                started: course.started,
-                ended: course.ended,
-            })
+            match put {
+                Ok(left) => Ok(Found {
+                    left,
+                    threads: course.threads,
+                    started: course.started,
+                    ended: course.ended,
+                }),
+                Err(failure) => Err(failure),
+            }
         }
         Err(ReadError::Memory) => Err(Failure::Memory),
         Err(_) => Err(Failure::Log),
     }
+}
+
+/// Appends how outputs answer requests, where a user says so.
+fn put_pairing(text: &mut Text, pairing: Option<Pairing>) {
+    match pairing {
+        Some(Pairing::First) => text.words(
+            "answers: the N-th output is that to the N-th request\n",
+        ),
+        Some(Pairing::Value) => text.words(
+            "answers: an output is that to the first request of its value that has none\n",
+        ),
+        None => (),
+    }
+}
+
+/// The first line on a log of another source or trace.
+const FOREIGN: &str =
+    "this log is not of this source and trace: what follows joins what isn't of one run\n";
+
+/// Appends what was read off a log. The answer is how many threads are left.
+fn put_numbers(
+    alloc: Global,
+    text: &mut Text,
+    places: &Places,
+    run: RunLog,
+    course: &Course,
+    reading: &Reading,
+) -> Result<u64, Failure> {
+    let numbers = &reading.numbers;
+    if !course.fits {
+        text.words(FOREIGN);
+    }
+    put_pairing(text, run.pairing);
+    put_requests(alloc, text, numbers, run.times);
+    put_unasked(text, &course.unasked);
+    let asked = match run.request {
+        Some(number) => Some(Asked::of(numbers, number)),
+        None => slowest_of(numbers, run.times),
+    };
+    if let Some(request) = asked {
+        put_parts(alloc, text, places, run, numbers, course.accepts, request)?;
+    }
+    text.words("waits by place: count, total, median, 99th, greatest\n");
+    put_queue(alloc, text, numbers, run.times);
+    put_waits(alloc, text, places, numbers.waits.as_slice());
+    put_choices(text, numbers.most_held, course, run.decided);
+    Ok(put_left(alloc, text, places, &reading.history, course, run.world))
 }
 
 /// Appends the lines on chunks, choices and the gate.
@@ -247,8 +401,7 @@ fn put_choices(text: &mut Text, most_held: u32, course: &Course, decided: Option
 
 /// Appends the line on the gate, in a run whose last segment ended then. At how many choices it held a request back isn't always known.
 fn put_gate(text: &mut Text, spells: Spells, ended: u64, held_back: Option<u64>) {
-    let since = spells.since.unwrap_or(ended);
-    let ticks = spells.ticks.saturating_add(ended.saturating_sub(since));
+    let ticks = spells.closed_until(ended).unwrap_or(u64::MAX);
     text.form(
         "gate: closed $ times, for $ ticks in all",
         &[spells.times, ticks],

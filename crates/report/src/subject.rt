@@ -1,7 +1,7 @@
 use crate::failures::Failure;
-use crate::history::spells::Marks;
 use crate::report::Options;
 use command_words::{Command, Policy, WordsError, read_words};
+use run_history::Marks;
 use std::alloc::Global;
 
 /// The run that is to be shown: the name of its source, and what its options say.
@@ -11,7 +11,7 @@ pub struct Subject<'a> {
     pub options: Options,
 }
 
-/// The run that words ask for; none where they ask for something else, or are no words of a command.
+/// The run that words ask for; none where they ask for something else. `Words` comes where they are those of no command.
 pub fn subject_of<'a>(
     alloc: Global,
     words: &'a Vec<String>,
@@ -26,7 +26,7 @@ pub fn subject_of<'a>(
             options: options_of(policy),
         })),
         Ok(_) => Ok(None),
-        Err(WordsError::NotWords) => Ok(None),
+        Err(WordsError::NotWords) => Err(Failure::Words),
         Err(WordsError::Memory) => Err(Failure::Memory),
     }
 }

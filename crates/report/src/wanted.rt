@@ -1,5 +1,8 @@
+use crate::failures::Failure;
 use crate::push::push;
-use std::alloc::{AllocError, Global};
+use crate::report::pairs::Pairing;
+use cap_text::read_dec;
+use std::alloc::Global;
 
 /// What is asked for: the files that the pictures go to, the file of a stored log, whether the run is made once more, and the words
 /// of the run.
@@ -10,6 +13,15 @@ pub struct Wanted {
     pub log: Option<String>,
     /// Whether the run is made once more beside its log, for what decided its choices and who holds what.
     pub why: bool,
+    /// The request whose parts are asked for, by its number from 1 in the order in which requests came.
+    pub request: Option<u64>,
+    /// How outputs answer requests, where that is said.
+    pub answers: Option<Pairing>,
+    /// The clocks between which the timeline is asked for.
+    pub from: Option<u64>,
+    pub to: Option<u64>,
+    /// Whether the usage is asked for.
+    pub help: bool,
     pub words: Vec<String>,
 }
 
@@ -21,30 +33,39 @@ enum Next {
     Timeline,
     Graph,
     Log,
+    Request,
+    From,
+    To,
+    Answers,
     Word,
 }
 
 impl Wanted {
-    /// What these words ask for.
-    pub fn read(alloc: Global, words: Vec<String>) -> Result<Wanted, AllocError> {
+    /// What these words ask for. `Words` comes where a number is none.
+    pub fn read(alloc: Global, words: Vec<String>) -> Result<Wanted, Failure> {
         let mut wanted = Wanted {
             timeline: None,
             graph: None,
             log: None,
             why: false,
+            request: None,
+            answers: None,
+            from: None,
+            to: None,
+            help: false,
             words: Vec::new(alloc),
         };
         match wanted.take_all(words) {
             Ok(()) => Ok(wanted),
-            Err(error) => {
+            Err(failure) => {
                 drop(wanted);
-                Err(error)
+                Err(failure)
             }
         }
     }
 
     /// Takes all words.
-    fn take_all(&mut self, words: Vec<String>) -> Result<(), AllocError> {
+    fn take_all(&mut self, words: Vec<String>) -> Result<(), Failure> {
         let mut next = Next::Any;
         for word in words {
             next = match next {
@@ -61,6 +82,22 @@ impl Wanted {
                     self.log = Some(word);
                     Next::Any
                 }
+                Next::Request => {
+                    self.request = Some(number_in(word.as_str(), 1)?);
+                    Next::Any
+                }
+                Next::Answers => {
+                    self.answers = Some(pairing_in(word.as_str())?);
+                    Next::Any
+                }
+                Next::From => {
+                    self.from = Some(number_in(word.as_str(), 0)?);
+                    Next::Any
+                }
+                Next::To => {
+                    self.to = Some(number_in(word.as_str(), 1)?);
+                    Next::Any
+                }
                 Next::Word => {
                     push(&mut self.words, word)?;
                     Next::Word
@@ -71,11 +108,19 @@ impl Wanted {
     }
 
     /// Takes a word that may be one of the report's options; the first that is none begins the words of the run.
-    fn begin(&mut self, word: String) -> Result<Next, AllocError> {
+    fn begin(&mut self, word: String) -> Result<Next, Failure> {
         match word.as_str() {
             "--timeline" => Ok(Next::Timeline),
             "--graph" => Ok(Next::Graph),
             "--log" => Ok(Next::Log),
+            "--request" => Ok(Next::Request),
+            "--answers" => Ok(Next::Answers),
+            "--from" => Ok(Next::From),
+            "--to" => Ok(Next::To),
+            "--help" => {
+                self.help = true;
+                Ok(Next::Any)
+            }
             "--why" => {
                 self.why = true;
                 Ok(Next::Any)
@@ -85,5 +130,22 @@ impl Wanted {
                 Ok(Next::Word)
             }
         }
+    }
+}
+
+/// The number of a word, at least that one.
+fn number_in(word: &str, least: u64) -> Result<u64, Failure> {
+    match read_dec(word.as_bytes(), u64::MAX) {
+        Ok(number) if number >= least => Ok(number),
+        _ => Err(Failure::Words),
+    }
+}
+
+/// How outputs answer requests, by its word.
+fn pairing_in(word: &str) -> Result<Pairing, Failure> {
+    match word {
+        "first" => Ok(Pairing::First),
+        "value" => Ok(Pairing::Value),
+        _ => Err(Failure::Words),
     }
 }

@@ -44,7 +44,7 @@ impl<C: Measure> Choosing<C> {
     ghost use Rattle.blocking_graph.specs.Graph.{IsSegment};
     ghost use Rattle.resource_monitor.specs.Monitor.{NoneAbove};
     ghost use Rattle.scheduler.specs.State.{IsJoined};
-    ghost use Rattle.report.specs.Courses.{start_of, Decides};
+    ghost use Rattle.report.specs.Courses.{start_of, seen, Decides};
 
     /// Before the first choice of a run whose resources begin so, with these caps. It takes no memory.
     pub fn new(alloc: Global, monitor: Monitor<C>, caps: [u32; 8]) -> Choosing<C>
@@ -86,6 +86,14 @@ impl<C: Measure> Choosing<C> {
         ensures { result ≡ self.now.monitor.is_open }
     {
         self.monitor.gate()
+    }
+
+    /// The gate moves by these uses of the resources.
+    pub fn observe(&mut self, uses: [u32; 8])
+        requires { NoneAbove uses self.old.monitor.caps }
+        ensures { self.new ≡ record self.old { monitor = seen self.old.monitor uses } }
+    {
+        self.monitor.observe(uses);
     }
 
     /// A thread waits at a node from now on.

@@ -1,4 +1,4 @@
-use crate::history::HistoryError;
+use run_history::HistoryError;
 use std::alloc::Global;
 use std::collections::BTreeMap;
 

@@ -1,6 +1,8 @@
 use crate::pictures::graph::{GraphEdge, put_label};
 use crate::pictures::head::HEAD;
 use crate::text::Text;
+use std::alloc::{AllocError, Global};
+use std::collections::BTreeSet;
 
 /// The height from one node to the next.
 const STEP: u64 = 70;
@@ -18,18 +20,21 @@ const BOW: u64 = 45;
 
 const FARTHEST: u64 = 360;
 
+/// The height of a line of labels.
+const LINE: u64 = 13;
+
 /// The width of the picture.
 const WIDTH: u64 = 1420;
 
 /// Appends the blocking graph as SVG: the nodes one below another with their names, and an arrow for each edge with its label.
 /// Arrows down stand right of the boxes, and arrows up and back to the same node left.
-pub(crate) fn put_drawing(text: &mut Text, names: &[String], edges: &[GraphEdge]) {
+pub(crate) fn put_drawing(alloc: Global, text: &mut Text, names: &[String], edges: &[GraphEdge]) {
     let bottom = top_of(names.len() as u64);
     let height = bottom.saturating_add(20);
     text.form(HEAD, &[WIDTH, height, WIDTH, height]);
     put_arrows(text, edges);
     put_boxes(text, names);
-    put_labels(text, edges);
+    put_labels(alloc, text, edges);
     text.form(MEANING, &[LEFT, bottom])
 }
 
@@ -110,20 +115,52 @@ const BEGINS: &str =
 const ENDS: &str =
     "<text x=\"$\" y=\"$\" text-anchor=\"end\" paint-order=\"stroke\" stroke=\"#ffffff\" stroke-width=\"4\">";
 
-/// Appends the labels of the arrows. Arrows of several lengths that have the same middle have their labels at several heights.
-fn put_labels(text: &mut Text, edges: &[GraphEdge]) {
+/// Appends the labels of the arrows, each at the middle of its arrow or below it: on either side no two are in one line.
+fn put_labels(alloc: Global, text: &mut Text, edges: &[GraphEdge]) {
+    let mut left = BTreeSet::new(alloc);
+    let mut right = BTreeSet::new(alloc);
     for edge in edges {
         let arrow = arrow_of(edge);
-        let bow = arrow.bow.min(FARTHEST) * 3 / 4 + 4;
-        let lower = (edge.from.abs_diff(edge.to) % 4) as u64 * 12;
-        let middle = (arrow.start / 2).saturating_add(arrow.end / 2);
-        let y = middle.saturating_add(lower);
-        if arrow.goes_down {
-            text.form(BEGINS, &[RIGHT + bow, y]);
+        let line = ((arrow.start / 2).saturating_add(arrow.end / 2)) / LINE;
+        let taken = if arrow.goes_down {
+            take_line(&mut right, line)
         } else {
-            text.form(ENDS, &[LEFT - bow, y]);
+            take_line(&mut left, line)
+        };
+        match taken {
+            Ok(free) => put_at(text, edge, arrow, free.saturating_mul(LINE)),
+            Err(AllocError) => text.lack(),
         }
-        put_label(text, edge);
-        text.words("</text>\n");
     }
+}
+
+/// Takes the first line that is free, from that one on.
+fn take_line(taken: &mut BTreeSet<u64>, from: u64) -> Result<u64, AllocError> {
+    let free = first_free(taken, from);
+    taken.insert(free)?;
+    Ok(free)
+}
+
+/// The first line that isn't taken, from that one on.
+fn first_free(taken: &BTreeSet<u64>, from: u64) -> u64 {
+    let mut line = from;
+    for _ in 0..taken.len() {
+        if !taken.contains(&line) {
+            return line;
+        }
+        line = line.saturating_add(1);
+    }
+    line
+}
+
+/// Appends the label of an arrow at that height.
+fn put_at(text: &mut Text, edge: &GraphEdge, arrow: Arrow, y: u64) {
+    let bow = arrow.bow.min(FARTHEST) * 3 / 4 + 4;
+    if arrow.goes_down {
+        text.form(BEGINS, &[RIGHT + bow, y]);
+    } else {
+        text.form(ENDS, &[LEFT - bow, y]);
+    }
+    put_label(text, edge);
+    text.words("</text>\n");
 }

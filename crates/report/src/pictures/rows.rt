@@ -1,6 +1,6 @@
-use crate::history::happenings::Happening;
 use crate::push::push;
 use report_figures::column_of;
+use run_history::Happening;
 use std::alloc::{AllocError, Global};
 use std::collections::{BTreeMap, BTreeSet};
 
@@ -20,12 +20,31 @@ pub(crate) struct Mark {
     pub(crate) doing: Doing,
 }
 
+/// The clocks between which a picture is.
+#[derive(Clone, Copy)]
+pub(crate) struct Window {
+    pub(crate) from: u64,
+    pub(crate) to: u64,
+}
+
+impl Window {
+    /// How many ticks it has.
+    pub(crate) fn ticks(self) -> u64 {
+        self.to.saturating_sub(self.from)
+    }
+
+    /// The column of a clock, of one that is past the first and of a later one the last.
+    pub(crate) fn column(self, clock: u64) -> u32 {
+        column_of(clock.saturating_sub(self.from), self.ticks())
+    }
+}
+
 /// The rows of a timeline, by the numbers of the threads.
 #[derive(Drop)]
 pub(crate) struct Rows {
     alloc: Global,
-    /// The clock at which the run ended.
-    pub(crate) end: u64,
+    /// The clocks between which the picture is.
+    pub(crate) window: Window,
     /// How many columns a place has, one at least.
     pub(crate) wide: u32,
     /// The threads that have a row, in the order of their numbers, with their marks in the order of time.
@@ -35,12 +54,12 @@ pub(crate) struct Rows {
 }
 
 impl Rows {
-    /// The rows of a run that ended at that clock, before its first entry, with places of so many columns, one at least. It takes
-    /// no memory.
-    pub(crate) fn new(alloc: Global, end: u64, wide: u32) -> Rows {
+    /// The rows of a run between these clocks, before its first entry, with places of so many columns, one at least. It takes no
+    /// memory.
+    pub(crate) fn new(alloc: Global, window: Window, wide: u32) -> Rows {
         Rows {
             alloc,
-            end,
+            window,
             wide: wide.max(1),
             rows: BTreeMap::new(alloc),
             sites: BTreeSet::new(alloc),
@@ -64,12 +83,15 @@ impl Rows {
 
     /// The place of a clock.
     fn place_of(&self, clock: u64) -> u32 {
-        column_of(clock, self.end) / self.wide.max(1)
+        self.window.column(clock) / self.wide.max(1)
     }
 
-    /// Marks what a thread does from one clock to another. Marks meet in at most one place: what is done there first is shown, and a
-    /// mark that has no place of its own isn't kept.
+    /// Marks what a thread does from one clock to another, as far as it lies in the window. Marks meet in at most one place: what is
+    /// done there first is shown, and a mark that has no place of its own isn't kept.
     fn mark(&mut self, thread: u32, from: u64, to: u64, doing: Doing) -> Result<(), AllocError> {
+        if to < self.window.from || self.window.to < from {
+            return Ok(());
+        }
         let mark = Mark {
             from: self.place_of(from),
             to: self.place_of(to),

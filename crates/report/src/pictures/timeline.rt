@@ -1,6 +1,6 @@
 use crate::pictures::colors::{COLORS, color_of, name_of};
 use crate::pictures::head::HEAD;
-use crate::pictures::rows::{Doing, Mark, Rows};
+use crate::pictures::rows::{Doing, Mark, Rows, Window};
 use crate::text::Text;
 use report_figures::COLUMNS;
 
@@ -15,8 +15,8 @@ const HIGH: u64 = 16;
 
 const LOW: u64 = 3;
 
-/// How many parts the time is divided into by lines.
-const PARTS: u64 = 6;
+/// The most parts that the time is divided into by lines.
+const PARTS: u64 = 8;
 
 /// Appends the timeline as SVG: a row for each thread, its runs black and its waits in the colour of their place, a legend of the
 /// places above, and lines of time with their clocks. `sites` are the sites at which threads wait, rising, and `names` their
@@ -30,7 +30,7 @@ pub(crate) fn put_timeline(text: &mut Text, rows: &Rows, sites: &[u32], names: &
     let height = bottom.saturating_add(20);
     text.form(HEAD, &[WIDTH, height, WIDTH, height]);
     put_legend(text, names);
-    put_clocks(text, rows.end, top, bottom);
+    put_clocks(text, rows.window, top, bottom);
     put_rows(text, rows, sites, top, high)
 }
 
@@ -66,16 +66,46 @@ const CLOCK: &str = "<text x=\"4\" y=\"$\">clock</text>\n";
 const LINE: &str =
     "<path d=\"M$ $V$\" stroke=\"#cccccc\"/><text x=\"$\" y=\"$\" text-anchor=\"middle\">$</text>\n";
 
-/// Appends lines of time over rows between these heights, each with its clock above.
-fn put_clocks(text: &mut Text, end: u64, top: u64, bottom: u64) {
+/// Appends lines of time over rows between these heights, each with its clock above: the multiples of a round number of ticks.
+fn put_clocks(text: &mut Text, window: Window, top: u64, bottom: u64) {
     let above = top.saturating_sub(4);
     let below = bottom.saturating_add(6);
     text.form(CLOCK, &[above]);
-    for part in 0..PARTS + 1 {
-        let x = LEFT + part * (COLUMNS as u64 / PARTS);
-        let clock = (end as u128 * part as u128 / PARTS as u128) as u64;
-        text.form(LINE, &[x, top, below, x, above, clock]);
+    let step = round_step(window.ticks());
+    let first = (window.from / step.max(1)).saturating_mul(step);
+    for part in 0..PARTS + 2 {
+        let clock = first.saturating_add(step.saturating_mul(part));
+        if window.from <= clock && clock <= window.to {
+            let x = LEFT + u64::from(window.column(clock));
+            text.form(LINE, &[x, top, below, x, above, clock]);
+        }
     }
+}
+
+/// A round number of ticks, 1, 2 or 5 times a power of ten, of which at most so many parts have these ticks.
+fn round_step(ticks: u64) -> u64 {
+    let power = power_within(ticks / PARTS);
+    if ticks <= power.saturating_mul(PARTS) {
+        power
+    } else if ticks <= power.saturating_mul(2 * PARTS) {
+        power.saturating_mul(2)
+    } else if ticks <= power.saturating_mul(5 * PARTS) {
+        power.saturating_mul(5)
+    } else {
+        power.saturating_mul(10)
+    }
+}
+
+/// The greatest power of ten that is at most a number; 1 where there is none.
+fn power_within(number: u64) -> u64 {
+    let mut power: u64 = 1;
+    for _ in 0..19 {
+        if power.saturating_mul(10) > number {
+            return power;
+        }
+        power = power.saturating_mul(10);
+    }
+    power
 }
 
 /// The head of the rows, whose lines are so thick.

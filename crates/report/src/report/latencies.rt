@@ -1,12 +1,14 @@
-use crate::history::numbers::Numbers;
 use crate::report::lines::RequestsLine;
+use crate::report::requests::Asked;
 use crate::text::Text;
 use report_figures::spread_of;
+use run_history::Numbers;
 use std::alloc::{AllocError, Global};
 
-/// How long a request took: from when it arrived to an answer, and the thread that took it.
+/// How long a request took: from when it arrived to an answer, its number, and the thread that took it.
 #[derive(Clone, Copy)]
 struct Latency {
+    request: usize,
     ticks: u64,
     arrived: u64,
     thread: u32,
@@ -38,6 +40,30 @@ fn answered_in(numbers: &Numbers, times: &[u64]) -> u64 {
     answered
 }
 
+/// The request that took longest to its last answer, the earliest of such, and the clock of that answer.
+pub(crate) fn slowest_of(numbers: &Numbers, times: &[u64]) -> Option<Asked> {
+    let mut slowest: Option<Latency> = None;
+    for request in 0..numbers.answers.len() {
+        if let Some(latency) = latency_of(numbers, times, request, true) {
+            slowest = slower_of(slowest, latency);
+        }
+    }
+    let latency = slowest?;
+    Some(Asked {
+        request: latency.request as u64,
+        is_slowest: true,
+        until: Some(latency.arrived.saturating_add(latency.ticks)),
+    })
+}
+
+/// The slower of two requests, the first where they took as long.
+fn slower_of(before: Option<Latency>, latency: Latency) -> Option<Latency> {
+    match before {
+        Some(slow) if slow.ticks >= latency.ticks => Some(slow),
+        _ => Some(latency),
+    }
+}
+
 /// Adds how long each request that was answered took to its first answer, or to its last one. The answer is the one that took
 /// longest, the earliest of such.
 fn add_latencies(
@@ -49,10 +75,7 @@ fn add_latencies(
     let mut slowest: Option<Latency> = None;
     for request in 0..numbers.answers.len() {
         if let Some(latency) = latency_of(numbers, times, request, to_last) {
-            slowest = match slowest {
-                Some(slow) if slow.ticks >= latency.ticks => Some(slow),
-                _ => Some(latency),
-            };
+            slowest = slower_of(slowest, latency);
             ticks.push(latency.ticks)?;
         }
     }
@@ -70,6 +93,7 @@ fn latency_of(numbers: &Numbers, times: &[u64], request: usize, to_last: bool) -
         (Some(Some(given)), Some(take), Some(arrived)) => {
             let answered = if to_last { given.last } else { given.first };
             Some(Latency {
+                request,
                 ticks: answered.saturating_sub(*arrived),
                 arrived: *arrived,
                 thread: take.thread,

@@ -1,9 +1,10 @@
-use crate::history::History;
-use crate::history::happenings::Wait;
-use crate::history::threads::Standing;
 use crate::places::Places;
+use crate::report::values::put_blocked;
 use crate::report::{Course, is_one};
 use crate::text::Text;
+use run_history::{History, Standing, Wait};
+use std::alloc::Global;
+use thread_core::World;
 
 /// The most threads that are listed.
 const LISTED: u64 = 20;
@@ -11,17 +12,20 @@ const LISTED: u64 = 20;
 /// Appends a line for each thread that is left after the last entry, up to 20 of them, and how many more there are. The answer is how
 /// many are left.
 pub(crate) fn put_left(
+    alloc: Global,
     text: &mut Text,
     places: &Places,
     history: &History,
     course: &Course,
+    world: Option<&World>,
 ) -> u64 {
     let mut left: u64 = 0;
     for thread in 0..course.threads {
         if let Some(standing) = standing_left(history, thread) {
             if left < LISTED {
                 let last = last_take(course, thread, standing);
-                put_standing(text, places, thread, standing, last);
+                put_standing(alloc, text, places, thread, standing, world);
+                put_last(text, places, last);
             }
             left = left.saturating_add(1);
         }
@@ -43,25 +47,33 @@ fn standing_left(history: &History, thread: u32) -> Option<Standing> {
     }
 }
 
-/// Appends where a thread stands that is left, and the `take` that it went past last, where there was one.
+/// Appends where a thread stands that is left, with the values of its call where the world at the stop is there.
 fn put_standing(
+    alloc: Global,
     text: &mut Text,
     places: &Places,
     thread: u32,
     standing: Standing,
-    last: Option<Wait>,
+    world: Option<&World>,
 ) {
     match standing {
         Standing::Waits { site, since, .. } => {
             text.form("left: thread $ waits at ", &[u64::from(thread)]);
             places.put_site_text(text, site);
-            text.form(" since $", &[since])
+            text.form(" since $", &[since]);
+            if let Some(at_stop) = world {
+                put_blocked(alloc, text, places, at_stop, thread);
+            }
         }
         _ => text.form(
             "left: thread $, whose segment was cut",
             &[u64::from(thread)],
         ),
     }
+}
+
+/// Appends the `take` that a thread went past last, where there was one, and ends its line.
+fn put_last(text: &mut Text, places: &Places, last: Option<Wait>) {
     match last {
         Some(wait) => {
             text.words(", went past ");

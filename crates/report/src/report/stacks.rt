@@ -43,7 +43,11 @@ fn word_of(world: &World, chunk: u32, word: u64) -> Option<u32>
 
 /// Where a frame returns to, by its lowest address and its function.
 pub(crate) fn return_of(world: &World, low: u32, fact: &FunctionFact) -> Option<u32> {
-    let address = u64::from(low) + u64::from(fact.ra);
+    word_at(world, u64::from(low) + u64::from(fact.ra))
+}
+
+/// The word at an address; none where no chunk has it.
+pub(crate) fn word_at(world: &World, address: u64) -> Option<u32> {
     let chunk = chunk_at(world, address)?;
     word_of(world, chunk.number, address.saturating_sub(chunk.start) / 4)
 }

@@ -7,16 +7,14 @@ use crate::again::holders::Holders;
 use crate::places::{Access, Array, Places};
 use crate::report::code::{function_at, operation_at, site_of};
 use crate::report::stacks::{below, return_of};
+use crate::report::values::{Called, called_at, put_values, thread_of};
 use crate::text::Text;
-use cap_word::{Stop, ThreadId, TrapKind};
+use cap_word::{Stop, TrapKind};
 use flat_code::Op;
-use schedule_log::{Entry, StopLine};
+use schedule_log::{Entry, StopLine, read_entry};
 use stack_certificate::FunctionFact;
 use std::alloc::Global;
 use thread_core::{Standing, World};
-
-/// The most threads that live.
-const MOST_THREADS: u32 = 65_535;
 
 /// The most threads that are listed.
 const LISTED: u64 = 20;
@@ -54,6 +52,24 @@ pub fn put_stop(
         }
         _ => (),
     }
+}
+
+/// The thread whose segment the last line of a log cuts, if it does.
+pub fn cut_in(line: &[u8]) -> Option<u32> {
+    match read_entry(line) {
+        Ok(Entry::Stop(StopLine::Cut { thread, .. })) => Some(thread),
+        _ => None,
+    }
+}
+
+/// Whether some of a resource is in use, of 1 to 7.
+pub fn is_in_use(world: &World) -> bool {
+    for resource in 1..8u32 {
+        if world.used(resource) > 0 {
+            return true;
+        }
+    }
+    false
 }
 
 /// Appends a line for each resource that has a cap and is in use, with who holds it where that is known.
@@ -102,18 +118,23 @@ fn put_standing(
     standing: Standing,
 ) {
     let Some((function, fact)) = function_at(world.accepted(), standing.pc) else {
+        text.words(" behind its last return");
+        put_reason(text, world, stop, standing);
         text.words("\n");
         return;
     };
     let op = operation_at(world.accepted(), function, fact, standing.pc);
     text.words(" in ");
     places.put_function(text, function);
-    put_reason(text, stop, standing);
+    put_reason(text, world, stop, standing);
     let bound = match stop {
         Stop::Trap(TrapKind::Index) => Some(standing.t1),
         _ => None,
     };
     put_where(alloc, text, places, function, bound, op);
+    if let Some(called) = called_at(world, standing.sp, standing.pc) {
+        put_values(alloc, text, places, called);
+    }
     text.words("\n");
     if is_in_its_frame(stop, op) {
         put_calls(text, places, world, standing.sp, fact);
@@ -122,26 +143,49 @@ fn put_standing(
 
 /// Where a thread stands, by its number: none where it doesn't live.
 fn standing_of(world: &World, number: u32) -> Option<Standing> {
-    for slot in 0..MOST_THREADS {
-        if let Some(standing) = world.standing(ThreadId { slot, number }) {
-            return Some(standing);
-        }
-    }
-    None
+    world.standing(thread_of(world, number)?)
 }
 
 /// Appends why the run stopped.
-fn put_reason(text: &mut Text, stop: Stop, standing: Standing) {
+fn put_reason(text: &mut Text, world: &World, stop: Stop, standing: Standing) {
     match stop {
         Stop::Trap(TrapKind::Index) => put_index(text, standing, " words"),
         Stop::Trap(TrapKind::Table) => put_index(text, standing, " members"),
-        Stop::Trap(TrapKind::Resource) => {
-            text.words(": a resource that isn't there, or an amount out of range")
-        }
+        Stop::Trap(TrapKind::Resource) => put_resource(text, world, standing),
         Stop::Trap(TrapKind::Channel) => text.words(": a channel outside 0 to 63"),
         Stop::NoChunk => text.words(": no free chunk is large enough"),
         Stop::Fuel => text.words(": as many instructions are done as --fuel says"),
         Stop::Threads => text.words(": 65,535 threads live"),
+    }
+}
+
+/// Appends why a call on a resource is a trap.
+fn put_resource(text: &mut Text, world: &World, standing: Standing) {
+    match called_at(world, standing.sp, standing.pc) {
+        Some(
+            Called {
+                first: Some(resource),
+                ..
+            },
+        ) => put_unusable(text, world, resource),
+        _ => text.words(": a resource that isn't there, or an amount out of range"),
+    }
+}
+
+/// Appends what is wrong with a resource: it has no units, as `--caps` gives it none, or the amount is out of range.
+fn put_unusable(text: &mut Text, world: &World, resource: u32) {
+    if resource >= 8 {
+        text.words(": a resource above 7")
+    } else if resource == 0 {
+        text.words(": resource 0, which are the chunks")
+    } else if world.cap(resource) == 0 {
+        let number = u64::from(resource);
+        text.form(
+            ": resource $ isn't there; `--caps $=N` gives it N units",
+            &[number, number],
+        )
+    } else {
+        text.words(": an amount out of range")
     }
 }
 

@@ -1,18 +1,18 @@
-use crate::history::numbers::WaitLength;
 use crate::places::Places;
 use crate::report::lines::WaitsPart;
 use crate::text::Text;
 use report_figures::{spread_of, total_of};
+use run_history::{WaitLength, longest_at};
 use std::alloc::{AllocError, Global};
 use std::collections::BTreeMap;
 
-/// Appends the table of waits by the place at which threads waited.
+/// Appends the rows of waits by the place at which threads waited.
 pub(crate) fn put_waits(alloc: Global, text: &mut Text, places: &Places, waits: &[WaitLength]) {
-    text.words("waits by place: count, total, median, 99th, greatest\n");
     match waits_by_site(alloc, waits) {
         Ok(mut sites) => {
             for (site, ticks) in &mut sites {
                 put_site_waits(text, places, *site, ticks.as_mut_slice());
+                put_longest(text, waits, *site);
             }
         }
         Err(AllocError) => text.lack(),
@@ -32,7 +32,7 @@ fn waits_by_site(
     Ok(sites)
 }
 
-/// Appends the line of a site; nothing where no wait was there.
+/// Appends the row of a site, up to its numbers; nothing where no wait was there.
 fn put_site_waits(text: &mut Text, places: &Places, site: u32, ticks: &mut [u64]) {
     let total = total_of(ticks).unwrap_or(u128::MAX);
     if let Some(spread) = spread_of(ticks) {
@@ -47,6 +47,15 @@ fn put_site_waits(text: &mut Text, places: &Places, site: u32, ticks: &mut [u64]
         places.put_site(text, site);
         text.words(": ");
         text.line(&part);
-        text.words("\n");
+    }
+}
+
+/// Appends who waited longest at a site, and until when, and ends its row.
+fn put_longest(text: &mut Text, waits: &[WaitLength], site: u32) {
+    if let Some(longest) = longest_at(waits, site) {
+        text.form(
+            " (thread $, until $)\n",
+            &[u64::from(longest.thread), longest.until],
+        );
     }
 }

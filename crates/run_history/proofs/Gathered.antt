@@ -1,0 +1,95 @@
+-- The lists and counts of what a log tells, when one entry more has told something.
+use Rattle.std.proofs.Common.{◌≡◌, ◌∙◌, ℕ, ◌+◌, ◌-◌, List, [], ◌∷◌, ◌++◌, Option, Some, None, ap, sym, refl, max, append_assoc, arith}
+use Rattle.schedule_log.specs.declared.entries.Item.TheVariants.{Arrive, Data}
+use Rattle.run_history.specs.declared.happenings.Happening.{Happening}
+use Rattle.run_history.specs.declared.happenings.Happening.TheVariants.{Came, Lost, Started, Waited, Put, Ran, Nothing}
+use Rattle.run_history.specs.Happenings.{answered_at, clocks_in, most_held, arrivals_from, requests_dropped, drops_request}
+use Rattle.std.specs.Prelude.{count_by, cond}
+use Rattle.std.proofs.lemmas.List.Sums.{sum_by-append}
+use Rattle.run_history.specs.declared.answers.Answers.{Answers}
+use Rattle.run_history.specs.declared.numbers.WaitLength.{WaitLength}
+use Rattle.run_history.specs.Answers.{with_answer, answers_from}
+use Rattle.run_history.specs.declared.numbers.Numbers.{Numbers}
+use Rattle.run_history.specs.Numbers.{is_event, take_of, takes, wait_lengths, IsNumbersOf, IsOneMore}
+
+-- lists that grow at their end
+pub takes-append : (told more : List Happening) → takes (told ++ more) ≡ takes told ++ takes more
+takes-append [] more = refl
+takes-append (Came clock item ∷ told) more = takes-append told more
+takes-append (Lost clock item ∷ told) more = takes-append told more
+takes-append (Started thread clock ∷ told) more = takes-append told more
+takes-append (Waited wait ∷ told) more =
+    ap (λ rest. take_of wait wait.request ++ rest) (takes-append told more) ∙ sym (append_assoc (take_of wait wait.request) (takes told) (takes more))
+takes-append (Put thread value ∷ told) more = takes-append told more
+takes-append (Ran segment free ∷ told) more = takes-append told more
+takes-append (Nothing ∷ told) more = takes-append told more
+
+pub wait_lengths-append : (told more : List Happening) → wait_lengths (told ++ more) ≡ wait_lengths told ++ wait_lengths more
+wait_lengths-append [] more = refl
+wait_lengths-append (Came clock item ∷ told) more = wait_lengths-append told more
+wait_lengths-append (Lost clock item ∷ told) more = wait_lengths-append told more
+wait_lengths-append (Started thread clock ∷ told) more = wait_lengths-append told more
+wait_lengths-append (Waited wait ∷ told) more =
+    ap (λ (rest : List WaitLength). record { site = wait.site; thread = wait.thread; ticks = wait.until - wait.since; until = wait.until } ∷ rest) (wait_lengths-append told more)
+wait_lengths-append (Put thread value ∷ told) more = wait_lengths-append told more
+wait_lengths-append (Ran segment free ∷ told) more = wait_lengths-append told more
+wait_lengths-append (Nothing ∷ told) more = wait_lengths-append told more
+
+pub answered_at-append : (request : ℕ) (told more : List Happening) → answered_at request (told ++ more) ≡ answered_at request told ++ answered_at request more
+answered_at-append request [] more = refl
+answered_at-append request (Came clock item ∷ told) more = answered_at-append request told more
+answered_at-append request (Lost clock item ∷ told) more = answered_at-append request told more
+answered_at-append request (Started thread clock ∷ told) more = answered_at-append request told more
+answered_at-append request (Waited wait ∷ told) more = answered_at-append request told more
+answered_at-append request (Put thread value ∷ told) more = answered_at-append request told more
+answered_at-append request (Ran segment free ∷ told) more =
+    ap (λ rest. clocks_in request segment ++ rest) (answered_at-append request told more) ∙ sym (append_assoc (clocks_in request segment) (answered_at request told) (answered_at request more))
+answered_at-append request (Nothing ∷ told) more = answered_at-append request told more
+
+-- answers at clocks, and then at more
+pub answers_from-append : (before : Option Answers) (clocks more : List ℕ) → answers_from before (clocks ++ more) ≡ answers_from (answers_from before clocks) more
+answers_from-append before [] more = refl
+answers_from-append before (at ∷ clocks) more = answers_from-append (Some (with_answer before at)) clocks more
+
+-- the most chunks of two stretches are the more of both
+pub most_held-append : (chunks : ℕ) (told more : List Happening) → most_held chunks (told ++ more) ≡ max (most_held chunks told) (most_held chunks more)
+most_held-append chunks [] more = omega arith
+most_held-append chunks (Came clock item ∷ told) more = most_held-append chunks told more
+most_held-append chunks (Lost clock item ∷ told) more = most_held-append chunks told more
+most_held-append chunks (Started thread clock ∷ told) more = most_held-append chunks told more
+most_held-append chunks (Waited wait ∷ told) more = most_held-append chunks told more
+most_held-append chunks (Put thread value ∷ told) more = most_held-append chunks told more
+most_held-append chunks (Ran segment free ∷ told) more = omega (arith, most_held-append chunks told more)
+most_held-append chunks (Nothing ∷ told) more = most_held-append chunks told more
+
+pub arrivals_from-append : (line : ℕ) (told more : List Happening) → arrivals_from line (told ++ more) ≡ arrivals_from line told ++ arrivals_from (line + count_by is_event told) more
+arrivals_from-append line [] more = ap (λ n. arrivals_from n more) (omega arith)
+arrivals_from-append line (Came clock (Arrive value) ∷ told) more =
+    let one = sum_by-append (λ x. cond (is_event x) 1 0) (Came clock (Arrive value) ∷ []) told in
+    ap (λ rest. line ∷ rest) (arrivals_from-append (line + 1) told more ∙ ap (λ n. arrivals_from (line + 1) told ++ arrivals_from n more) (omega (arith, one)))
+arrivals_from-append line (Came clock (Data channel value) ∷ told) more =
+    let one = sum_by-append (λ x. cond (is_event x) 1 0) (Came clock (Data channel value) ∷ []) told in
+    arrivals_from-append (line + 1) told more ∙ ap (λ n. arrivals_from (line + 1) told ++ arrivals_from n more) (omega arith)
+arrivals_from-append line (Lost clock item ∷ told) more =
+    let one = sum_by-append (λ x. cond (is_event x) 1 0) (Lost clock item ∷ []) told in
+    arrivals_from-append (line + 1) told more ∙ ap (λ n. arrivals_from (line + 1) told ++ arrivals_from n more) (omega arith)
+arrivals_from-append line (Started thread clock ∷ told) more = arrivals_from-append line told more
+arrivals_from-append line (Waited wait ∷ told) more = arrivals_from-append line told more
+arrivals_from-append line (Put thread value ∷ told) more = arrivals_from-append line told more
+arrivals_from-append line (Ran segment free ∷ told) more = arrivals_from-append line told more
+arrivals_from-append line (Nothing ∷ told) more = arrivals_from-append line told more
+
+-- what a log tells and one entry more
+pub numbers_more : (chunks : ℕ) (before : List Happening) (told : Happening) (old new : Numbers) → IsNumbersOf chunks before old → IsOneMore chunks told old new → IsNumbersOf chunks (before ++ told ∷ []) new
+numbers_more chunks before told old new was more = record {
+  events = more.events ∙ (ap (λ n. n + count_by is_event (told ∷ [])) was.events ∙ sym (sum_by-append (λ x. cond (is_event x) 1 0) before (told ∷ [])));
+  arrivals = more.arrivals ∙ (ap (λ l. l ++ arrivals_from old.events (told ∷ [])) was.arrivals ∙ (ap (λ n. arrivals_from 0 before ++ arrivals_from n (told ∷ [])) (let at : old.events ≡ 0 + count_by is_event before = omega (arith, was.events) in at) ∙ sym (arrivals_from-append 0 before (told ∷ []))));
+  dropped = more.dropped ∙ (ap (λ n. n + requests_dropped (told ∷ [])) was.dropped ∙ sym (sum_by-append (λ x. cond (drops_request x) 1 0) before (told ∷ [])));
+  takes = more.takes ∙ (ap (λ l. l ++ takes (told ∷ [])) was.takes ∙ sym (takes-append before (told ∷ [])));
+  answers = λ request. more.answers request
+      ∙ (ap (λ a. answers_from a (answered_at request (told ∷ []))) (was.answers request)
+      ∙ (sym (answers_from-append None (answered_at request before) (answered_at request (told ∷ [])))
+      ∙ ap (answers_from None) (sym (answered_at-append request before (told ∷ [])))));
+  waits = more.waits ∙ (ap (λ l. l ++ wait_lengths (told ∷ [])) was.waits ∙ sym (wait_lengths-append before (told ∷ [])));
+  held = more.held ∙ (ap (λ n. max n (most_held chunks (told ∷ []))) was.held ∙ sym (most_held-append chunks before (told ∷ [])));
+}

@@ -1,0 +1,3 @@
+mod EmptyPlaces
+pub mod Gathered
+pub mod Readings

@@ -1,0 +1,10 @@
+pub mod Answers
+pub mod Happenings
+pub mod Known
+pub mod Longest
+pub mod Numbers
+pub mod Parts
+pub mod Queues
+pub mod Spells
+pub mod Takes
+pub mod Unasked

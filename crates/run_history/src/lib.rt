@@ -1,0 +1,47 @@
+// A run, read from the entries of its log.
+//
+// In: the entries of a log, one after another. Out: for each entry what happened there (`Happening`): what came or was dropped,
+// the wait that a choice ends, the segment that a line ends, with the request that its thread serves. A `History` keeps what is
+// known of each thread and of the segment under way, so its memory grows with the number of threads and not with the log. Its
+// clauses are over `with_entry` and `happening` (specs/Known.antt), and over whole logs `happenings` and the lists and counts of
+// specs/Happenings.antt.
+//
+// The numbers of a run (`Numbers`), gathered from what its entries tell, one after another: which requests came, were dropped and
+// were taken, when each was answered, how long each wait was at which site, and how many chunks were held at most. They keep what
+// the spreads of latencies and waits need: a few numbers for each request and each wait. Their clauses are over `IsNumbersOf` and
+// `IsOneMore` (specs/Numbers.antt). `numbers_of` reads a whole log once for them, and a `Watch` looks on, as with the wait at `take`
+// that each thread went past last (`Takes`, over specs/Takes.antt), and with what threads put that took no request (`Unasked`, over
+// specs/Unasked.antt). How long a request was queued is read off the numbers (`queued_of`, over specs/Queues.antt), and so is the
+// longest wait at a site (`longest_at`, over specs/Longest.antt). The parts of one request's time (`Parts`) are over specs/Parts.antt.
+//
+// How often the gate was closed, and for how long (`Spells`), is told by what each entry of a log tells and the marks of the gate. A
+// log tells the use of chunks alone, so this is of a run that has no other resource. `Spells::start` and `Spells::with` are over
+// `at_start` and `with_happening` (specs/Spells.antt), whose gate and pressure are those of `resource_monitor`.
+#![tactic(auto)]
+
+mod answers;
+mod choices;
+mod happenings;
+mod history;
+mod longest;
+mod numbers;
+mod parts;
+mod queues;
+mod reading;
+mod spells;
+mod takes;
+mod threads;
+mod unasked;
+
+pub use answers::Answers;
+pub use happenings::{Happening, Segment, Wait};
+pub use history::{History, HistoryError};
+pub use longest::longest_at;
+pub use numbers::{Numbers, WaitLength};
+pub use parts::{Part, Parts};
+pub use queues::{Queued, queued_of};
+pub use reading::{ReadError, Reading, Watch, numbers_of};
+pub use spells::{Marks, Spells};
+pub use takes::Takes;
+pub use threads::{Standing, Thread};
+pub use unasked::Unasked;

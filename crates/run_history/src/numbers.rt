@@ -1,0 +1,191 @@
+ghost use Rattle.std.specs.Prelude.{◌≡◌, ℕ, ◌<◌, OnOk, length};
+ghost use Rattle.run_history.specs.Answers.{answers_at};
+
+use crate::answers::{Answers, one_more};
+use crate::happenings::{Happening, Segment, Wait};
+use crate::history::HistoryError;
+use schedule_log::Item;
+use std::alloc::{AllocError, Global};
+
+/// How long a wait at a site was.
+#[derive(Clone, Copy)]
+pub struct WaitLength {
+    pub site: u32,
+    /// The thread that waited.
+    pub thread: u32,
+    /// In ticks.
+    pub ticks: u64,
+    /// The clock at which it ended.
+    pub until: u64,
+}
+
+/// The numbers of a run so far.
+#[derive(Drop)]
+pub struct Numbers {
+    /// How many events of the trace came or were dropped.
+    pub events: u64,
+    /// The places in the trace, from 0, of the requests that came, in order. The request of number i in the order of takes is
+    /// the one at place i here: requests are taken the oldest first.
+    pub arrivals: Vec<u64>,
+    /// How many requests were dropped.
+    pub dropped: u64,
+    /// The waits that took a request, in order.
+    pub takes: Vec<Wait>,
+    /// When requests were answered: at the place of a request's number, where it was. Behind the last that was answered there are no
+    /// places.
+    pub answers: Vec<Option<Answers>>,
+    /// All waits, in order.
+    pub waits: Vec<WaitLength>,
+    /// The most chunks that were held after a segment.
+    pub most_held: u32,
+}
+
+impl Numbers {
+    ghost use Rattle.std.specs.Prelude.{◌≡◌, ℕ, ◌++◌, ◌∷◌, [], List, OnOk};
+    ghost use Rattle.run_history.specs.declared.happenings.Happening.{Happening};
+    ghost use Rattle.run_history.specs.declared.happenings.Happening.TheVariants.{Came, Lost, Waited, Ran};
+    ghost use Rattle.run_history.specs.Happenings.{clocks_in};
+    ghost use Rattle.run_history.specs.Answers.{answers_from, answers_at};
+    ghost use Rattle.run_history.specs.Numbers.{IsNumbersOf, IsOneMore, KeepsOthers};
+
+    /// The numbers before the first entry. It takes no memory.
+    pub fn new(alloc: Global) -> Numbers
+        ensures { (chunks : ℕ) → IsNumbersOf chunks [] result }
+    {
+        Numbers {
+            events: 0,
+            arrivals: Vec::new(alloc),
+            dropped: 0,
+            takes: Vec::new(alloc),
+            answers: Vec::new(alloc),
+            waits: Vec::new(alloc),
+            most_held: 0,
+        }
+    }
+
+    /// What one entry more tells, of a run with so many chunks. After a refusal nothing is said of the numbers.
+    pub fn add(&mut self, told: Happening, chunks: u32) -> Result<(), HistoryError>
+        ensures { OnOk result (IsOneMore chunks told self.old self.new) }
+    {
+        match told {
+            Happening::Came { item, .. } => self.come(item),
+            Happening::Lost { item, .. } => self.lose(item),
+            Happening::Started { .. } => Ok(()),
+            Happening::Waited(wait) => self.wait(wait),
+            Happening::Put { .. } => Ok(()),
+            Happening::Ran { segment, free } => self.rest(segment, chunks, free),
+            Happening::Nothing => Ok(()),
+        }
+    }
+
+    /// An event came.
+    fn come(&mut self, item: Item) -> Result<(), HistoryError>
+        ensures { (chunks clock : ℕ) → OnOk result (IsOneMore chunks (Came clock item) self.old self.new) }
+    {
+        let line = self.events;
+        let Some(events) = line.checked_add(1) else {
+            return Err(HistoryError::Count);
+        };
+        self.events = events;
+        match item {
+            Item::Arrive { .. } => match self.arrivals.push(line) {
+                Ok(()) => Ok(()),
+                Err(_) => Err(HistoryError::Memory),
+            },
+            Item::Data { .. } => Ok(()),
+        }
+    }
+
+    /// An event was dropped.
+    fn lose(&mut self, item: Item) -> Result<(), HistoryError>
+        ensures { (chunks clock : ℕ) → OnOk result (IsOneMore chunks (Lost clock item) self.old self.new) }
+    {
+        let Some(events) = self.events.checked_add(1) else {
+            return Err(HistoryError::Count);
+        };
+        self.events = events;
+        match item {
+            Item::Arrive { .. } => match self.dropped.checked_add(1) {
+                Some(dropped) => {
+                    self.dropped = dropped;
+                    Ok(())
+                }
+                None => Err(HistoryError::Count),
+            },
+            Item::Data { .. } => Ok(()),
+        }
+    }
+
+    /// A wait is over.
+    fn wait(&mut self, wait: Wait) -> Result<(), HistoryError>
+        ensures { (chunks : ℕ) → OnOk result (IsOneMore chunks (Waited wait) self.old self.new) }
+    {
+        let Some(ticks) = wait.until.checked_sub(wait.since) else {
+            return Err(HistoryError::Count);
+        };
+        let length = WaitLength {
+            site: wait.site,
+            thread: wait.thread,
+            ticks,
+            until: wait.until,
+        };
+        let Ok(()) = self.waits.push(length) else {
+            return Err(HistoryError::Memory);
+        };
+        match wait.request {
+            None => Ok(()),
+            Some(_) => match self.takes.push(wait) {
+                Ok(()) => Ok(()),
+                Err(_) => Err(HistoryError::Memory),
+            },
+        }
+    }
+
+    /// A segment is over, with so many chunks free.
+    fn rest(&mut self, segment: Segment, chunks: u32, free: u32) -> Result<(), HistoryError>
+        ensures { OnOk result (IsOneMore chunks (Ran segment free) self.old self.new) }
+    {
+        match self.answer(segment) {
+            Ok(()) => {
+                self.most_held = self.most_held.max(chunks.saturating_sub(free));
+                Ok(())
+            }
+            Err(error) => Err(error),
+        }
+    }
+
+    /// The answers of a segment.
+    fn answer(&mut self, segment: Segment) -> Result<(), HistoryError>
+        ensures answers { (request : ℕ) → OnOk result (answers_at self.new.answers.items request ≡ answers_from (answers_at self.old.answers.items request) (clocks_in request segment)) }
+        ensures others { OnOk result (KeepsOthers self.old self.new) }
+    {
+        if segment.puts == 0 {
+            return Ok(());
+        }
+        let Some(request) = segment.request else {
+            return Ok(());
+        };
+        let place = request as usize;
+        let Ok(()) = make_places(&mut self.answers, place) else {
+            return Err(HistoryError::Memory);
+        };
+        match one_more(self.answers[place], segment.ended) {
+            Some(answers) => {
+                self.answers[place] = Some(answers);
+                Ok(())
+            }
+            None => Err(HistoryError::Count),
+        }
+    }
+}
+
+/// Makes places for the answers to all requests up to this one.
+fn make_places(answers: &mut Vec<Option<Answers>>, place: usize) -> Result<(), AllocError>
+    ensures same { (request : ℕ) → OnOk result (answers_at answers.new.items request ≡ answers_at answers.old.items request) }
+    ensures there { OnOk result (place < length answers.new.items) }
+{
+    while answers.len() <= place {
+        answers.push(None)?;
+    }
+    Ok(())
+}
