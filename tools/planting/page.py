@@ -1,0 +1,28 @@
+"""The made part of docs/MUTANTS.md."""
+from planting import bugs
+from repository import pages
+
+REFUSED = ("refused", "named", "limit")
+
+
+def table():
+    """A row for each crate, then each bug that no proof refuses."""
+    known, all_bugs = bugs.results(), bugs.all_bugs()
+    rows, left = [], []
+    for crate in sorted({it.crate for it in all_bugs}):
+        own = [it for it in all_bugs if it.crate == crate]
+        came = {it.name: bugs.result_of(it, known) for it in own}
+        tried = [it for it in own if came[it.name]]
+        proof = [it for it in tried if came[it.name].came in REFUSED]
+        past = [it for it in tried if it not in proof]
+        by_test = [it for it in past if it.test]
+        rows.append(pages.row(f"`{crate}`", *map(str, (len(own), len(tried), len(proof), len(by_test), len(past) - len(by_test)))))
+        left += [pages.row(f"`{crate}`", it.name, it.what, it.free or (f"`{it.test}` refuses it" if it.test else "open")) for it in past]
+    total = [sum(int(row.split(" | ")[at].rstrip(" |")) for row in rows) for at in range(1, 6)]
+    lines = ["## Bugs written by hand", "", *pages.table("Crate", "bugs", "tried", "refused by proof", "by a test", "survived"), *rows, pages.row("all", *map(str, total)), ""]
+    if left:
+        lines += ["## What no proof refuses", "", *pages.table("Crate", "Bug", "What it changes", "Why it is free, or what refuses it"), *left, ""]
+    planted = [it for it in known.values() if it.came == "planted"]
+    if planted:
+        lines += ["## Wrong bodies by `rt plant`", "", *pages.table("Crate", "What it came to"), *[pages.row(f"`{it.crate}`", it.line) for it in planted], ""]
+    return "\n".join(lines)
