@@ -8,12 +8,12 @@ use Rattle.ready_tree.specs.Nodes.{doubled, IsLevel, IsWhole, IsNode, AreJoined,
 
 -- ---- levels
 
-doubled_more : (times n : ℕ) → doubled times (2 * n) ≡ 2 * doubled times n
+pub doubled_more : (times n : ℕ) → doubled times (2 * n) ≡ 2 * doubled times n
 unfolding doubled
 doubled_more zero n = refl
 doubled_more (suc times) n = doubled_more times (2 * n)
 
-doubled_least : (times n : ℕ) → n ≤ doubled times n
+pub doubled_least : (times n : ℕ) → n ≤ doubled times n
 unfolding doubled
 doubled_least zero n = omega arith
 doubled_least (suc times) n = let h : 2 * n ≤ doubled times (2 * n) = doubled_least times (2 * n) in omega arith
@@ -68,7 +68,7 @@ halves : (j : ℕ) → (j ≡ 2 * (j / 2)) ⊎ (j ≡ 2 * (j / 2) + 1)
 halves j = grind arith
 
 -- what isn't met above isn't met below
-none_below : (bounds : Bounds) (nodes : List Needs) (i j : ℕ) → IsNode nodes i → (j ≡ 2 * i) ⊎ (j ≡ 2 * i + 1) →
+pub none_below : (bounds : Bounds) (nodes : List Needs) (i j : ℕ) → IsNode nodes i → (j ≡ 2 * i) ⊎ (j ≡ 2 * i + 1) →
     is_some_met bounds (node_at nodes i) ≡ false → is_some_met bounds (node_at nodes j) ≡ false
 none_below bounds nodes i j is (inl e) none =
     rw e (or_none_left (is_some_met bounds (node_at nodes (2 * i))) (is_some_met bounds (node_at nodes (2 * i + 1))) (is_some_met bounds (node_at nodes i)) (is.met bounds) none)

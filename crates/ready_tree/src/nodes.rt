@@ -1,6 +1,6 @@
 // The tree above the blocks: node i stands above its children 2 * i and 2 * i + 1, and the leaves, one for each block, are the
 // second half of the nodes.
-ghost use Rattle.std.specs.Prelude.{◌≡◌, ℕ, ◌+◌, ◌*◌, ◌/◌, ◌<◌, ◌≤◌, ◌^◌, length, false, IfOk};
+ghost use Rattle.std.specs.Prelude.{◌≡◌, ◌≢◌, ℕ, ◌+◌, ◌*◌, ◌/◌, ◌<◌, ◌≤◌, ◌^◌, length, false, IfOk};
 ghost use Rattle.ready_tree.specs.Needs.{is_some_met};
 ghost use Rattle.ready_tree.specs.Nodes.{AreJoined, AreJoinedBut, IsLevel, node_at, IsBlank};
 
@@ -38,7 +38,7 @@ pub(crate) fn blank_nodes(alloc: Global, places: usize) -> Result<Vec<Needs>, Al
 }
 
 /// The needs of a node.
-fn needs_at(nodes: &[Needs], node: usize) -> Needs
+pub(crate) fn needs_at(nodes: &[Needs], node: usize) -> Needs
     requires { node < length nodes.now }
     ensures { result ≡ node_at nodes.now node }
 {
@@ -60,6 +60,19 @@ pub(crate) fn renew_above(nodes: &mut [Needs], changed: usize)
         let right = needs_at(nodes, 2 * node + 1);
         nodes[node] = left.join(&right);
     }
+}
+
+/// Puts other needs at a leaf, and brings the nodes above it up to date.
+pub(crate) fn set_leaf(nodes: &mut [Needs], leaf: usize, needs: &Needs)
+    requires joined { AreJoined nodes.old }
+    requires behind { length nodes.old / 2 ≤ leaf }
+    requires there { leaf < length nodes.old }
+    ensures joined { AreJoined nodes.new }
+    ensures leaf { node_at nodes.new leaf ≡ needs.now }
+    ensures others { (other : ℕ) → length nodes.old / 2 ≤ other → other ≢ leaf → node_at nodes.new other ≡ node_at nodes.old other }
+{
+    nodes[leaf] = *needs;
+    renew_above(nodes, leaf);
 }
 
 /// The first leaf below which a need is met, where there is one. Whichever it is, none before it has one.
