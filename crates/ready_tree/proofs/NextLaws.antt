@@ -7,7 +7,7 @@ use Rattle.ready_tree.specs.declared.subtrees.Subtree.{Subtree}
 use Rattle.ready_tree.specs.Needs.{is_some_met}
 use Rattle.ready_tree.specs.Next.{NoneBetween, IsReached, IsNextLeaf, IsNextSubtree}
 use Rattle.ready_tree.specs.Nodes.{doubled, AreJoined, IsLevel, node_at}
-use Rattle.ready_tree.proofs.NodeLaws.{doubled_least, doubled_more, more_leaves, none_below}
+use Rattle.ready_tree.proofs.NodeLaws.{doubled_least, doubled_more, more_leaves, none_below, one_leaf}
 
 doubled_mono : (times m n : ℕ) → m ≤ n → doubled times m ≤ doubled times n
 unfolding doubled
@@ -196,3 +196,10 @@ module _ (bounds : Bounds) (nodes : List Needs) (joined : AreJoined nodes) where
   after_up subtree room even is none =
       let from : subtree.level ≤ subtree.node = is.from in
       (refl, reached_up (record subtree { node = subtree.node + 1 }) (reached_right subtree is room none) (halved subtree.level (omega arith) is.power) (omega arith))
+
+  -- all leaves are below the root
+  pub reached_root : IsReached bounds nodes (record { first = length nodes / 2; level = 1; node = 1 })
+  reached_root =
+      let level = joined.whole.level in
+      let leaves : length nodes / 2 ≡ doubled level.above 1 = level.same in
+      record { above = level.above; leaves = leaves; power = one_leaf; some = omega arith; from = omega arith; to = omega arith; at = omega arith; before = record { none = λ leaf from to. absurd (omega arith) } }

@@ -7,7 +7,8 @@ ghost use Rattle.ready_tree.specs.Trees.{Covers, CoversAll, IsAboveIf, IsAboveBu
 use crate::bounds::Bounds;
 use crate::entries::Entry;
 use crate::needs::Needs;
-use crate::nodes::{BLOCK, blank_nodes, first_leaf, needs_at, renew_above};
+use crate::nodes::{BLOCK, blank_nodes, needs_at, renew_above};
+use crate::subtrees::first_leaf;
 use cap_word::ThreadId;
 use std::alloc::{AllocError, Global};
 

@@ -1,5 +1,5 @@
-// The search for the next leaf at which a need is met: it climbs past subtrees in which none is, and goes down the first in
-// which one is.
+// The search for a leaf at which a need is met: it climbs past subtrees in which none is, and goes down the first in which one
+// is. From the root it only goes down.
 ghost use Rattle.std.specs.Prelude.{◌≡◌, ℕ, ◌-◌, ◌*◌, ◌/◌, ◌<◌, ◌≤◌, ◌^◌, List, length, false, IfSome};
 ghost use Rattle.ready_tree.specs.declared.bounds.Bounds.{Bounds as BoundsOf};
 ghost use Rattle.ready_tree.specs.declared.needs.Needs.{Needs as NeedsOf};
@@ -80,4 +80,19 @@ pub(crate) fn first_leaf_in(nodes: &[Needs], bounds: &Bounds, subtree: Subtree) 
         }
     }
     half.node
+}
+
+/// The first leaf below which a need is met, where there is one. Whichever it is, none before it has one.
+pub(crate) fn first_leaf(nodes: &[Needs], bounds: &Bounds) -> usize
+    requires { AreJoined nodes.now }
+    ensures behind { length nodes.now / 2 ≤ result }
+    ensures there { result < length nodes.now }
+    ensures before { (leaf : ℕ) → length nodes.now / 2 ≤ leaf → leaf < result → is_some_met bounds.now (node_at nodes.now leaf) ≡ false }
+{
+    let root = Subtree {
+        first: nodes.len() / 2,
+        level: 1,
+        node: 1,
+    };
+    first_leaf_in(nodes, bounds, root)
 }
