@@ -1,3 +1,4 @@
 pub mod NeedLaws
+pub mod NextLaws
 pub mod NodeLaws
 pub mod PlaceLaws

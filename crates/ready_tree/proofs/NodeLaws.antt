@@ -1,5 +1,5 @@
--- The tree: a changed node concerns the one above it alone, and a search goes down from the root.
-use Rattle.std.proofs.Common.{◌≡◌, ◌≢◌, ℕ, zero, suc, ◌+◌, ◌*◌, ◌/◌, ◌<◌, ◌≤◌, ◌⊎◌, inl, inr, Bool, true, false, ◌||◌, List, length, replicate, refl, ◌∙◌, ap, arith, slice_set}
+-- The tree: a changed node concerns the one above it alone.
+use Rattle.std.proofs.Common.{◌≡◌, ◌≢◌, ℕ, zero, suc, ◌+◌, ◌*◌, ◌/◌, ◌<◌, ◌≤◌, ◌⊎◌, inl, inr, Bool, true, false, ◌||◌, List, length, replicate, refl, arith, slice_set}
 use Rattle.std.proofs.lemmas.List.{get_or-set_same, get_or-set_other, length-set, length-replicate, get_or-replicate}
 use Rattle.ready_tree.specs.declared.bounds.Bounds.{Bounds}
 use Rattle.ready_tree.specs.declared.needs.Needs.{Needs}
@@ -8,12 +8,12 @@ use Rattle.ready_tree.specs.Nodes.{doubled, IsLevel, IsWhole, IsNode, AreJoined,
 
 -- ---- levels
 
-doubled_more : (times n : ℕ) → doubled times (2 * n) ≡ 2 * doubled times n
+pub doubled_more : (times n : ℕ) → doubled times (2 * n) ≡ 2 * doubled times n
 unfolding doubled
 doubled_more zero n = refl
 doubled_more (suc times) n = doubled_more times (2 * n)
 
-doubled_least : (times n : ℕ) → n ≤ doubled times n
+pub doubled_least : (times n : ℕ) → n ≤ doubled times n
 unfolding doubled
 doubled_least zero n = omega arith
 doubled_least (suc times) n = let h : 2 * n ≤ doubled times (2 * n) = doubled_least times (2 * n) in omega arith
@@ -30,30 +30,6 @@ pub one_leaf : IsLevel 1 1
 unfolding doubled
 one_leaf = record { above = 0; same = refl }
 
-pub record IsNext (leaves first : ℕ) : Type 0 where
-  pub level : IsLevel leaves (first * 2)
-  pub room : first * 2 ≤ leaves
-
-next_at : (leaves first above : ℕ) → 1 ≤ first → first < leaves → leaves ≡ doubled above first → IsNext leaves first
-unfolding doubled
-next_at leaves first zero some below same = absurd (omega arith)
-next_at leaves first (suc above) some below same =
-    let twice : 2 * first ≡ first * 2 = omega arith in
-    let e : leaves ≡ doubled above (first * 2) = same ∙ ap (doubled above) twice in
-    let h : first * 2 ≤ doubled above (first * 2) = doubled_least above (first * 2) in
-    record { level = record { above = above; same = e }; room = omega arith }
-
--- the level below one that isn't the leaves'
-pub next_level : (leaves first : ℕ) → 1 ≤ first → first < leaves → IsLevel leaves first → IsNext leaves first
-next_level leaves first some below level = next_at leaves first level.above some below level.same
-
--- a level is no further than the leaves'
-pub level_least : (leaves first : ℕ) → IsLevel leaves first → first ≤ leaves
-level_least leaves first level =
-    let h : first ≤ doubled level.above first = doubled_least level.above first in
-    let e : leaves ≡ doubled level.above first = level.same in
-    omega arith
-
 -- ---- a search
 
 or_none_left : (a b c : Bool) → c ≡ (a || b) → c ≡ false → a ≡ false
@@ -64,43 +40,13 @@ or_none_right : (a b c : Bool) → c ≡ (a || b) → c ≡ false → b ≡ fals
 or_none_right true b c e n = absurd (cc)
 or_none_right false b c e n = cc
 
-halves : (j : ℕ) → (j ≡ 2 * (j / 2)) ⊎ (j ≡ 2 * (j / 2) + 1)
-halves j = grind arith
-
 -- what isn't met above isn't met below
-none_below : (bounds : Bounds) (nodes : List Needs) (i j : ℕ) → IsNode nodes i → (j ≡ 2 * i) ⊎ (j ≡ 2 * i + 1) →
+pub none_below : (bounds : Bounds) (nodes : List Needs) (i j : ℕ) → IsNode nodes i → (j ≡ 2 * i) ⊎ (j ≡ 2 * i + 1) →
     is_some_met bounds (node_at nodes i) ≡ false → is_some_met bounds (node_at nodes j) ≡ false
 none_below bounds nodes i j is (inl e) none =
     rw e (or_none_left (is_some_met bounds (node_at nodes (2 * i))) (is_some_met bounds (node_at nodes (2 * i + 1))) (is_some_met bounds (node_at nodes i)) (is.met bounds) none)
 none_below bounds nodes i j is (inr e) none =
     rw e (or_none_right (is_some_met bounds (node_at nodes (2 * i))) (is_some_met bounds (node_at nodes (2 * i + 1))) (is_some_met bounds (node_at nodes i)) (is.met bounds) none)
-
--- of a level, no node before this one is met
-pub record NoneBefore (bounds : Bounds) (nodes : List Needs) (first node : ℕ) : Type 0 where
-  pub none : (j : ℕ) → first ≤ j → j < node → is_some_met bounds (node_at nodes j) ≡ false
-
--- one level down, before the left child
-pub none_before_left : (bounds : Bounds) (nodes : List Needs) (first node : ℕ) → AreJoined nodes → 1 ≤ first → node ≤ length nodes / 2 → NoneBefore bounds nodes first node →
-    NoneBefore bounds nodes (first * 2) (2 * node)
-none_before_left bounds nodes first node a some below before = record {
-  none = λ j from to.
-      none_below bounds nodes (j / 2) j (a.node (j / 2) (omega arith) (omega arith)) (halves j) (before.none (j / 2) (omega arith) (omega arith));
-}
-
-last_or_before : (j n : ℕ) → j < n + 1 → (j ≡ n) ⊎ (j < n)
-last_or_before j n h = grind arith
-
-none_at : (bounds : Bounds) (nodes : List Needs) (first node j : ℕ) → NoneBefore bounds nodes first node → is_some_met bounds (node_at nodes node) ≡ false → first ≤ j →
-    (j ≡ node) ⊎ (j < node) → is_some_met bounds (node_at nodes j) ≡ false
-none_at bounds nodes first node j before none from (inl e) = rw e none
-none_at bounds nodes first node j before none from (inr h) = before.none j from h
-
--- one further
-pub none_before_next : (bounds : Bounds) (nodes : List Needs) (first node : ℕ) → NoneBefore bounds nodes first node → is_some_met bounds (node_at nodes node) ≡ false →
-    NoneBefore bounds nodes first (node + 1)
-none_before_next bounds nodes first node before none = record {
-  none = λ j from to. none_at bounds nodes first node j before none from (last_or_before j node to);
-}
 
 -- ---- a change
 

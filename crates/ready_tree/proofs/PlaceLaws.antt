@@ -8,10 +8,11 @@ use Rattle.ready_tree.specs.declared.bounds.Bounds.{Bounds}
 use Rattle.ready_tree.specs.declared.entries.Entry.{Entry}
 use Rattle.ready_tree.specs.declared.needs.Needs.{Needs}
 use Rattle.ready_tree.specs.Needs.{is_some_met}
-use Rattle.ready_tree.specs.Nodes.{AreJoined, AreJoinedBut, node_at, no_needs}
+use Rattle.ready_tree.specs.Nodes.{doubled, AreJoined, AreJoinedBut, node_at, no_needs}
 use Rattle.ready_tree.specs.Entries.{entries_of, place_at, may_go}
-use Rattle.ready_tree.specs.Trees.{Covers, HasPlaces, IsAbove, IsAboveBut, IsAboveIf, IsBlankIf}
-use Rattle.ready_tree.proofs.NodeLaws.{leaf_set}
+use Rattle.ready_tree.specs.Trees.{Covers, CoversAll, HasPlaces, IsAbove, IsAboveBut, IsAboveIf, IsBlankIf}
+use Rattle.ready_tree.proofs.NextLaws.{unmet_below}
+use Rattle.ready_tree.proofs.NodeLaws.{doubled_more, leaf_set}
 
 -- ---- what isn't met below a node that isn't
 
@@ -186,3 +187,32 @@ more_full places i kept now there full is =
     let e : length (entries_of (take (i + 1) places)) ≡ length (entries_of (take i places)) + length (entries_of (place_at places i ∷ [])) =
     ap length (entries_more places i there) ∙ length-append (entries_of (take i places)) (entries_of (place_at places i ∷ [])) in
     omega arith
+
+-- ---- all threads
+
+-- what covers each place covers each thread
+pub covers_entries : (needs : Needs) (places : List (Option Entry)) → ((place : ℕ) → place < length places → Covers needs (place_at places place)) → CoversAll needs (entries_of places)
+covers_entries needs [] covers = tt
+covers_entries needs (None ∷ places) covers = covers_entries needs places (λ place there. covers (suc place) (omega arith))
+covers_entries needs (Some entry ∷ places) covers = (covers 0 (omega arith), covers_entries needs places (λ place there. covers (suc place) (omega arith)))
+
+met_above : (a b : Bool) → (b ≡ false → a ≡ false) → a ≡ true → b ≡ true
+met_above a true down met = refl
+met_above a false down met = let e : a ≡ false = down refl in absurd (cc)
+
+-- the root covers all
+pub root_covers : (nodes : List Needs) (places : List (Option Entry)) → IsAbove nodes places → (place : ℕ) → place < length places → Covers (node_at nodes 1) (place_at places place)
+unfolding doubled
+root_covers nodes places above place there =
+    let level = above.joined.whole.level in
+    let leaf = length nodes / 2 + place / 16 in
+    let leaves : length nodes / 2 ≡ doubled level.above 1 = level.same in
+    let even : length nodes ≡ 2 * (length nodes / 2) = above.joined.whole.even in
+    let all : doubled level.above (1 + 1) ≡ 2 * doubled level.above 1 = doubled_more level.above 1 in
+    let fits : length places ≤ 16 * (length nodes / 2) = above.fits in
+    record {
+      met = λ bounds met.
+          met_above (is_some_met bounds (node_at nodes leaf)) (is_some_met bounds (node_at nodes 1))
+          (unmet_below bounds nodes above.joined level.above 1 leaf (omega arith) (omega arith) (omega arith) (omega arith))
+          ((above.covers place there).met bounds met);
+    }

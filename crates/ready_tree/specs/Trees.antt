@@ -1,5 +1,6 @@
 -- The tree above the blocks of places.
-use Rattle.std.specs.Prelude.{ℕ, ◌≡◌, ◌≢◌, ◌+◌, ◌*◌, ◌/◌, ◌<◌, ◌≤◌, true, Option, List, length}
+use Rattle.std.specs.Prelude.{ℕ, ◌≡◌, ◌≢◌, ◌+◌, ◌*◌, ◌/◌, ◌<◌, ◌≤◌, true, Option, Some, List, length}
+use Rattle.std.specs.List.{AllByRecursion}
 use Rattle.ready_tree.specs.declared.bounds.Bounds.{Bounds}
 use Rattle.ready_tree.specs.declared.entries.Entry.{Entry}
 use Rattle.ready_tree.specs.declared.needs.Needs.{Needs}
@@ -10,6 +11,10 @@ use Rattle.ready_tree.specs.Entries.{entries_of, place_at, may_go}
 -- where the need of who is at the place is met, the need of some thread may be
 pub record Covers (needs : Needs) (place : Option Entry) : Type 0 where
   pub met : (bounds : Bounds) → may_go bounds place ≡ true → is_some_met bounds needs ≡ true
+
+-- so of each thread
+abbrev pub CoversAll : Needs → List Entry → Type 0
+CoversAll needs entries = AllByRecursion (λ entry. Covers needs (Some entry)) entries
 
 -- the tree stands above the blocks of these places
 pub record IsAbove (nodes : List Needs) (places : List (Option Entry)) : Type 0 where

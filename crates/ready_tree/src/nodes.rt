@@ -1,10 +1,8 @@
 // The tree above the blocks: node i stands above its children 2 * i and 2 * i + 1, and the leaves, one for each block, are the
 // second half of the nodes.
-ghost use Rattle.std.specs.Prelude.{◌≡◌, ℕ, ◌+◌, ◌*◌, ◌/◌, ◌<◌, ◌≤◌, ◌^◌, length, false, IfOk};
-ghost use Rattle.ready_tree.specs.Needs.{is_some_met};
+ghost use Rattle.std.specs.Prelude.{◌≡◌, ◌≢◌, ℕ, ◌+◌, ◌*◌, ◌/◌, ◌<◌, ◌≤◌, ◌^◌, length, IfOk};
 ghost use Rattle.ready_tree.specs.Nodes.{AreJoined, AreJoinedBut, IsLevel, node_at, IsBlank};
 
-use crate::bounds::Bounds;
 use crate::needs::Needs;
 use std::alloc::{AllocError, Global};
 
@@ -38,7 +36,7 @@ pub(crate) fn blank_nodes(alloc: Global, places: usize) -> Result<Vec<Needs>, Al
 }
 
 /// The needs of a node.
-fn needs_at(nodes: &[Needs], node: usize) -> Needs
+pub(crate) fn needs_at(nodes: &[Needs], node: usize) -> Needs
     requires { node < length nodes.now }
     ensures { result ≡ node_at nodes.now node }
 {
@@ -62,23 +60,15 @@ pub(crate) fn renew_above(nodes: &mut [Needs], changed: usize)
     }
 }
 
-/// The first leaf below which a need is met, where there is one. Whichever it is, none before it has one.
-pub(crate) fn first_leaf(nodes: &[Needs], bounds: &Bounds) -> usize
-    requires { AreJoined nodes.now }
-    ensures behind { length nodes.now / 2 ≤ result }
-    ensures there { result < length nodes.now }
-    ensures before { (leaf : ℕ) → length nodes.now / 2 ≤ leaf → leaf < result → is_some_met bounds.now (node_at nodes.now leaf) ≡ false }
+/// Puts other needs at a leaf, and brings the nodes above it up to date.
+pub(crate) fn set_leaf(nodes: &mut [Needs], leaf: usize, needs: &Needs)
+    requires joined { AreJoined nodes.old }
+    requires behind { length nodes.old / 2 ≤ leaf }
+    requires there { leaf < length nodes.old }
+    ensures joined { AreJoined nodes.new }
+    ensures leaf { node_at nodes.new leaf ≡ needs.now }
+    ensures others { (other : ℕ) → length nodes.old / 2 ≤ other → other ≢ leaf → node_at nodes.new other ≡ node_at nodes.old other }
 {
-    let leaves = nodes.len() / 2;
-    let mut level = 1;
-    let mut node = 1;
-    while level < leaves {
-        level *= 2;
-        node = if bounds.meet_some(&needs_at(nodes, 2 * node)) {
-            2 * node
-        } else {
-            2 * node + 1
-        };
-    }
-    node
+    nodes[leaf] = *needs;
+    renew_above(nodes, leaf);
 }

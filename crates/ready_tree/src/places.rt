@@ -2,12 +2,13 @@
 ghost use Rattle.std.specs.Prelude.{◌≡◌, ℕ, ◌+◌, ◌*◌, ◌/◌, ◌<◌, ◌≤◌, ◌^◌, ◌++◌, ◌∷◌, [], None, Some, Option, false, length, position, slice_set, IfOk, OnOk, OnErr};
 ghost use Rattle.ready_tree.specs.declared.entries.Entry.{Entry};
 ghost use Rattle.ready_tree.specs.Entries.{entries_of, place_at, may_go, is_of};
-ghost use Rattle.ready_tree.specs.Trees.{Covers, IsAboveIf, IsAboveButIf, HasRoom, IsBlankIf, IsGathered};
+ghost use Rattle.ready_tree.specs.Trees.{Covers, CoversAll, IsAboveIf, IsAboveButIf, HasRoom, IsBlankIf, IsGathered};
 
 use crate::bounds::Bounds;
 use crate::entries::Entry;
 use crate::needs::Needs;
-use crate::nodes::{BLOCK, blank_nodes, first_leaf, renew_above};
+use crate::nodes::{BLOCK, blank_nodes, needs_at, renew_above};
+use crate::subtrees::first_leaf;
 use cap_word::ThreadId;
 use std::alloc::{AllocError, Global};
 
@@ -77,6 +78,18 @@ fn with(needs: &Needs, place: &Option<Entry>) -> Needs
     }
 }
 
+/// What those at the places from one on and before another wait for.
+fn needs_between(places: &[Option<Entry>], start: usize, end: usize) -> Needs
+    requires { end ≤ length places.now }
+    ensures { (other : ℕ) → start ≤ other → other < end → Covers result (place_at places.now other) }
+{
+    let mut needs = Needs::NONE;
+    for other in start..end {
+        needs = with(&needs, &places[other]);
+    }
+    needs
+}
+
 /// What those of the block of a place wait for.
 fn needs_of_block(places: &[Option<Entry>], place: usize) -> Needs
     requires { place < length places.now }
@@ -84,11 +97,18 @@ fn needs_of_block(places: &[Option<Entry>], place: usize) -> Needs
 {
     let start = place / BLOCK * BLOCK;
     let end = places.len().min(start + BLOCK);
-    let mut needs = Needs::NONE;
-    for other in start..end {
-        needs = with(&needs, &places[other]);
+    needs_between(places, start, end)
+}
+
+/// What those at the places wait for. Where there is a tree it looks at none of them.
+pub(crate) fn needs_of_all(places: &[Option<Entry>], nodes: &[Needs]) -> Needs
+    requires { IsAboveIf nodes.now places.now }
+    ensures { CoversAll result (entries_of places.now) }
+{
+    if nodes.is_empty() {
+        return needs_between(places, 0, places.len());
     }
-    needs
+    needs_at(nodes, 1)
 }
 
 /// Brings the tree up to date after a change at a place.

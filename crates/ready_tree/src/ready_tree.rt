@@ -1,10 +1,11 @@
 ghost use Rattle.std.specs.Prelude.{◌≡◌, ◌<◌, ◌++◌, ◌∷◌, [], None, length, position, slice_set, OnOk, OnErr};
 ghost use Rattle.ready_tree.specs.Entries.{entries_of, place_at, may_go, is_of};
+ghost use Rattle.ready_tree.specs.Trees.{CoversAll};
 
 use crate::bounds::Bounds;
 use crate::entries::Entry;
 use crate::needs::Needs;
-use crate::places::{append, empty, first_met, first_of, make_room, renew, skipped};
+use crate::places::{append, empty, first_met, first_of, make_room, needs_of_all, renew, skipped};
 use cap_word::ThreadId;
 use std::alloc::{AllocError, Global};
 use std::marker::Model;
@@ -82,6 +83,13 @@ impl ReadyTree {
     {
         let start = skipped(&self.places, &self.nodes, bounds);
         first_met(&self.places, start, bounds)
+    }
+
+    /// What some of the threads wait for. Where there is a tree it looks at no thread.
+    pub fn needs(&self) -> Needs
+        ensures { CoversAll result (entries_of self.now) }
+    {
+        needs_of_all(&self.places, &self.nodes)
     }
 
     /// The first place of a thread. It looks at each place before that.

@@ -1,6 +1,6 @@
 -- A search through the queues finds the lawful choice.
 use Rattle.std.proofs.Common.{◌≡◌, ◌≢◌, ℕ, suc, Bool, true, false, IsSome, ℤ, Option, Some, None, find, Contains, IfSome, position, List, [], ◌∷◌, refl, sym, ap, ◌∙◌, subst, arith, rules, ⊎_elim}
-use Rattle.std.specs.BTreeMap.{BTreeMap, get, is_at}
+use Rattle.std.specs.BTreeMap.{BTreeMap, is_at}
 use Rattle.std.specs.Map.{lookup}
 use Rattle.std.specs.Ordering.{nat_cmp}
 use Rattle.std.proofs.lemmas.Bool.{cases_eq}
@@ -17,7 +17,7 @@ use Rattle.scheduler.specs.Queues.{queue_in, places_in, places_of, threads_of, p
 use Rattle.blocking_graph.specs.declared.edges.EdgeLine.{EdgeLine}
 use Rattle.resource_monitor.specs.Monitor.{MonitorState}
 use Rattle.scheduler.specs.Scores.{comes_before, score, score_by}
-use Rattle.scheduler.specs.Search.{IsBestBut, IsFound, IsNoBetter, IsRankOf, is_rank_below, is_rank_below_best, choice_of}
+use Rattle.scheduler.specs.Search.{IsBestOf, IsFound, IsPassed, IsNoBetter, IsRankOf, is_rank_below, is_rank_below_best, choice_of}
 use Rattle.scheduler.proofs.OrderLemmas.{comes_before-self, comes_before-asym, comes_before-total, comes_before-cotrans}
 
 -- a test is true or false
@@ -40,17 +40,19 @@ not_there : (node : ℕ) (queue : List (Option Entry)) (rest : List (ℕ × List
     lookup (is_at (nat_cmp other)) rest ≡ None → lookup (is_at (nat_cmp other)) ((node, queue) ∷ rest) ≡ None
 not_there node queue rest other ne none = rw (not_at other node (λ e. ne (sym e))) none
 
+-- one queue more was looked at
+pub passed_before : (node : ℕ) (queue : List (Option Entry)) (left rest : List (ℕ × List (Option Entry))) → left ≡ (node, queue) ∷ rest → (other : ℕ) → IsPassed rest other → node ≢ other → IsPassed left other
+passed_before node queue left rest next other none ne = subst (λ es. lookup (is_at (nat_cmp other)) es ≡ None) (sym next) (not_there node queue rest other ne none)
+
 module _ (eligible : ThreadId → Bool) (score : ℕ → ℤ) (last : ℕ → ℕ) (queues : BTreeMap ℕ (List (Option Entry))) where
   -- ---- before any node was looked at
 
-  pub IsBestBut-none : IsBestBut eligible score last queues queues.entries None
-  IsBestBut-none = record {
-    ranked = tt;
-    first = tt;
-    place = tt;
-    least = λ node some none.
-        not_none (find eligible (queue_in queues node)) (ap (λ (o : Option (List (Option Entry))). find eligible (threads_of (entries_of (places_of o)))) none) some;
-  }
+  pub IsBestOf-none : (seen : ℕ → Type 0) → ((node : ℕ) → IsSome (find eligible (queue_in queues node)) → seen node → ⊥) → IsBestOf eligible score last queues seen None
+  IsBestOf-none seen none = record { ranked = tt; first = tt; place = tt; least = none }
+
+  pub none_passed : (node : ℕ) → IsSome (find eligible (queue_in queues node)) → IsPassed queues.entries node → ⊥
+  none_passed node some none =
+      not_none (find eligible (queue_in queues node)) (ap (λ (o : Option (List (Option Entry))). find eligible (threads_of (entries_of (places_of o)))) none) some
 
   -- ---- one node more
 
@@ -69,63 +71,55 @@ module _ (eligible : ThreadId → Bool) (score : ℕ → ℤ) (last : ℕ → �
   no_better_passed None rank ranked own below = absurd (let e : true ≡ false = below in cc)
   no_better_passed (Some b) rank ranked own below = sym (below_by_rank rank b.rank own ranked) ∙ below
 
-  module _ (node : ℕ) (queue : List (Option Entry)) (left rest : List (ℕ × List (Option Entry))) (best : Option Candidate) (rank : Rank)
-      (there : get nat_cmp queues node ≡ Some queue) (next : left ≡ (node, queue) ∷ rest) (at : IsBestBut eligible score last queues left best)
+  -- `more` are the nodes seen so far and this one
+  module _ (node : ℕ) (seen more : ℕ → Type 0) (best : Option Candidate) (rank : Rank) (at : IsBestOf eligible score last queues seen best)
+      (before : (other : ℕ) → IsSome (find eligible (queue_in queues other)) → more other → node ≢ other → seen other)
       (own : IsRankOf score last rank) (of_node : rank.node ≡ node) where
-    same_find : find eligible (queue_in queues node) ≡ find eligible (threads_of (entries_of queue))
-    same_find = ap (λ (o : Option (List (Option Entry))). find eligible (threads_of (entries_of (places_of o)))) there
-
-    same_place : position (passes_at eligible) (places_in queues node) ≡ position (passes_at eligible) queue
-    same_place = ap (λ (o : Option (List (Option Entry))). position (passes_at eligible) (places_of o)) there
-
-    before : (other : ℕ) → IsSome (find eligible (queue_in queues other)) → lookup (is_at (nat_cmp other)) rest ≡ None → node ≢ other → IsNoBetter score last best other
-    before other some none ne =
-        at.least other some (subst (λ es. lookup (is_at (nat_cmp other)) es ≡ None) (sym next) (not_there node queue rest other ne none))
-
-    pub IsBestBut-taken : (found : Found) → is_rank_below_best rank best ≡ true → IsFound eligible queue found →
-        IsBestBut eligible score last queues rest (Some (record { rank = rank; place = found.place; thread = found.thread }))
-    IsBestBut-taken found below is = record {
+    pub IsBestOf-taken : (found : Found) → is_rank_below_best rank best ≡ true → IsFound eligible (places_in queues node) found →
+        IsBestOf eligible score last queues more (Some (record { rank = rank; place = found.place; thread = found.thread }))
+    IsBestOf-taken found below is = record {
       ranked = own;
-      first = ap (λ (n : ℕ). find eligible (queue_in queues n)) of_node ∙ same_find ∙ is.thread;
-      place = ap (λ (n : ℕ). position (passes_at eligible) (places_in queues n)) of_node ∙ same_place ∙ is.place;
-      least = λ other some none.
+      first = ap (λ (n : ℕ). find eligible (queue_in queues n)) of_node ∙ is.thread;
+      place = ap (λ (n : ℕ). position (passes_at eligible) (places_in queues n)) of_node ∙ is.place;
+      least = λ other some now.
           ⊎_elim
           (λ same. subst (λ n. comes_before score last n rank.node ≡ false) (of_node ∙ same) (comes_before-self score last rank.node))
-          (λ ne. no_better_new best rank other at.ranked own below (before other some none ne))
+          (λ ne. no_better_new best rank other at.ranked own below (at.least other some (before other some now ne)))
           (cases_eq node other);
     }
 
-    pub IsBestBut-passed : is_rank_below_best rank best ≡ false → IsBestBut eligible score last queues rest best
-    IsBestBut-passed below = record {
+    pub IsBestOf-passed : is_rank_below_best rank best ≡ false → IsBestOf eligible score last queues more best
+    IsBestOf-passed below = record {
       ranked = at.ranked;
       first = at.first;
       place = at.place;
-      least = λ other some none.
+      least = λ other some now.
           ⊎_elim
           (λ same. subst (λ n. IsNoBetter score last best n) (of_node ∙ same) (no_better_passed best rank at.ranked own below))
-          (λ ne. before other some none ne)
+          (λ ne. at.least other some (before other some now ne))
           (cases_eq node other);
     }
 
-    pub IsBestBut-ineligible : find eligible (threads_of (entries_of queue)) ≡ None → IsBestBut eligible score last queues rest best
-    IsBestBut-ineligible nobody = record {
+    pub IsBestOf-ineligible : find eligible (queue_in queues node) ≡ None → IsBestOf eligible score last queues more best
+    IsBestOf-ineligible nobody = record {
       ranked = at.ranked;
       first = at.first;
       place = at.place;
-      least = λ other some none.
+      least = λ other some now.
           ⊎_elim
-          (λ same. absurd (not_none (find eligible (queue_in queues other)) (ap (λ (n : ℕ). find eligible (queue_in queues n)) (sym same) ∙ same_find ∙ nobody) some))
-          (λ ne. before other some none ne)
+          (λ same. absurd (not_none (find eligible (queue_in queues other)) (ap (λ (n : ℕ). find eligible (queue_in queues n)) (sym same) ∙ nobody) some))
+          (λ ne. at.least other some (before other some now ne))
           (cases_eq node other);
     }
 
-  -- ---- when no node is left
+  -- ---- when each node with an eligible thread was seen
 
-  pub IsLawfulChoice-best : (best : Option Candidate) → IsBestBut eligible score last queues [] best → IsLawfulChoice (queue_in queues) eligible score last (choice_of best)
-  IsLawfulChoice-best None at = λ node. none_if (find eligible (queue_in queues node)) (λ some. at.least node some refl)
-  IsLawfulChoice-best (Some b) at = record {
+  pub IsLawfulChoice-best : (seen : ℕ → Type 0) (best : Option Candidate) → ((node : ℕ) → IsSome (find eligible (queue_in queues node)) → seen node) → IsBestOf eligible score last queues seen best →
+      IsLawfulChoice (queue_in queues) eligible score last (choice_of best)
+  IsLawfulChoice-best seen None all at = λ node. none_if (find eligible (queue_in queues node)) (λ some. at.least node some (all node some))
+  IsLawfulChoice-best seen (Some b) all at = record {
     first = at.first;
-    least = λ other ne some. comes_before-total score last other b.rank.node ne (at.least other some refl);
+    least = λ other ne some. comes_before-total score last other b.rank.node ne (at.least other some (all other some));
   }
 
 -- what `find` gives is an element

@@ -1,4 +1,5 @@
 pub mod ChoiceLemmas
+pub mod CoverLemmas
 pub mod FindLemmas
 pub mod OrderLemmas
 pub mod QueueLemmas

@@ -14,7 +14,7 @@ use Rattle.ready_tree.specs.Entries.{entries_of}
 use Rattle.scheduler.specs.declared.choices.Choice.{Choice}
 use Rattle.scheduler.specs.LawfulChoice.{IsLawfulChoice}
 use Rattle.scheduler.specs.Queues.{entries_in, queue_in, queues_of, places_of, threads_of, without_entry}
-use Rattle.scheduler.specs.State.{SchedulerState, IsJoined, IsNoted, IsTold, IsTaken, IsKept}
+use Rattle.scheduler.specs.State.{SchedulerState, IsJoined, IsNoted, IsTold, IsTaken}
 use Rattle.scheduler.proofs.QueueLemmas.{without_threads}
 
 -- ---- the queue of a node is the one that is kept of it
@@ -70,14 +70,14 @@ placed_joined old new less more node longer lt placed nodes other some =
     (λ ne. let before : other < less = placed other (nodes other ne some) in omega arith)
     (cases_eq other node)
 
-pub told_of : (queues new_queues : BTreeMap ℕ (List (Option Entry))) (old new : List ℕ) (count node : ℕ) (entry : Entry) → IsKept queues old count →
+pub told_of : (queues new_queues : BTreeMap ℕ (List (Option Entry))) (old new : List ℕ) (count node : ℕ) (entry : Entry) → ((other : ℕ) → IsSome (get nat_cmp queues other) → other < length old) →
     length old ≤ length new → node < length new →
     entries_in new_queues node ≡ entries_in queues node ++ entry ∷ [] → ((other : ℕ) → other ≢ node → entries_in new_queues other ≡ entries_in queues other) →
     ((other : ℕ) → other ≢ node → IsSome (get nat_cmp new_queues other) → IsSome (get nat_cmp queues other)) →
     IsTold (state_of queues old count) (state_of new_queues new count) node entry
-told_of queues new_queues old new count node entry kept longer lt queue others nodes =
-    let before = entries_are queues (length old) kept.placed in
-    let after = entries_are new_queues (length new) (placed_joined queues new_queues (length old) (length new) node longer lt kept.placed nodes) in
+told_of queues new_queues old new count node entry placed longer lt queue others nodes =
+    let before = entries_are queues (length old) placed in
+    let after = entries_are new_queues (length new) (placed_joined queues new_queues (length old) (length new) node longer lt placed nodes) in
     record {
       queue = after node ∙ queue ∙ ap (λ (q : List Entry). q ++ entry ∷ []) (sym (before node));
       others = λ other ne. after other ∙ others other ne ∙ sym (before other);
@@ -100,14 +100,14 @@ unjoined_of queues new_queues old new count same each =
 
 -- ---- a choice's thread left its queue, and its node's last was set
 
-pub taken_of : (choice : Choice) (queues new_queues : BTreeMap ℕ (List (Option Entry))) (lasts new : List ℕ) (count more : ℕ) → IsKept queues lasts count → length new ≡ length lasts →
+pub taken_of : (choice : Choice) (queues new_queues : BTreeMap ℕ (List (Option Entry))) (lasts new : List ℕ) (count more : ℕ) → ((other : ℕ) → IsSome (get nat_cmp queues other) → other < length lasts) → length new ≡ length lasts →
     entries_in new_queues choice.node ≡ without_entry choice.thread (entries_in queues choice.node) →
     ((other : ℕ) → other ≢ choice.node → entries_in new_queues other ≡ entries_in queues other) →
     ((other : ℕ) → IsSome (get nat_cmp new_queues other) → IsSome (get nat_cmp queues other)) →
     IsTaken (state_of queues lasts count) (state_of new_queues new more) choice
-taken_of choice queues new_queues lasts new count more kept long queue others nodes =
-    let before = entries_are queues (length lasts) kept.placed in
-    let after = entries_are new_queues (length new) (λ other some. let placed : other < length lasts = kept.placed other (nodes other some) in omega arith) in
+taken_of choice queues new_queues lasts new count more placed long queue others nodes =
+    let before = entries_are queues (length lasts) placed in
+    let after = entries_are new_queues (length new) (λ other some. let below : other < length lasts = placed other (nodes other some) in omega arith) in
     record {
       queue = after choice.node ∙ queue ∙ ap (λ (q : List Entry). without_entry choice.thread q) (sym (before choice.node));
       others = λ other ne. after other ∙ others other ne ∙ sym (before other);

@@ -1,4 +1,5 @@
 pub mod LawfulChoice
+pub mod NodeQueues
 pub mod Queues
 pub mod Scores
 pub mod Search

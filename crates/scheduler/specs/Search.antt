@@ -42,14 +42,18 @@ abbrev pub IsNoBetter : (ℕ → ℤ) → (ℕ → ℕ) → Option Candidate →
 IsNoBetter score last None node = ⊥
 IsNoBetter score last (Some best) node = comes_before score last node best.rank.node ≡ false
 
--- the best of the nodes that aren't among those left: its thread is the first eligible one of its queue, and no node
--- with an eligible thread comes before it
-pub record IsBestBut (eligible : ThreadId → Bool) (score : ℕ → ℤ) (last : ℕ → ℕ) (queues : BTreeMap ℕ (List (Option Entry)))
-    (left : List (ℕ × List (Option Entry))) (best : Option Candidate) : Type 0 where
+-- the best of the nodes that were seen: its thread is the first eligible one of its queue, and no such node with an
+-- eligible thread comes before it
+pub record IsBestOf (eligible : ThreadId → Bool) (score : ℕ → ℤ) (last : ℕ → ℕ) (queues : BTreeMap ℕ (List (Option Entry)))
+    (seen : ℕ → Type 0) (best : Option Candidate) : Type 0 where
   pub ranked : IfSome best (λ candidate. IsRankOf score last candidate.rank)
   pub first : IfSome best (λ candidate. find eligible (queue_in queues candidate.rank.node) ≡ Some candidate.thread)
   pub place : IfSome best (λ candidate. position (passes_at eligible) (places_in queues candidate.rank.node) ≡ Some candidate.place)
-  pub least : (node : ℕ) → IsSome (find eligible (queue_in queues node)) → lookup (is_at (nat_cmp node)) left ≡ None → IsNoBetter score last best node
+  pub least : (node : ℕ) → IsSome (find eligible (queue_in queues node)) → seen node → IsNoBetter score last best node
+
+-- a node isn't among the queues left
+abbrev pub IsPassed : List (ℕ × List (Option Entry)) → ℕ → Type 0
+IsPassed left node = lookup (is_at (nat_cmp node)) left ≡ None
 
 -- the choice of a candidate, if there is one
 abbrev pub choice_of : Option Candidate → Option Choice

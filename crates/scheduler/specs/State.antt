@@ -7,6 +7,8 @@ use Rattle.cap_word.specs.declared.threads.ThreadId.{ThreadId}
 use Rattle.ready_tree.specs.declared.entries.Entry.{Entry}
 use Rattle.ready_tree.specs.declared.needs.Need.{Need}
 use Rattle.scheduler.specs.declared.choices.Choice.{Choice}
+use Rattle.ready_tree.specs.declared.needs.Needs.{Needs}
+use Rattle.scheduler.specs.NodeQueues.{AreCovered}
 use Rattle.scheduler.specs.Queues.{without, without_entry, threads_of}
 
 -- by the numbers of the nodes, their queues and the choices that last took them, and the number of choices so far
@@ -62,7 +64,8 @@ pub record IsTaken (old new : SchedulerState) (choice : Choice) : Type 0 where
 abbrev pub AreKnown : (ThreadId → Need → Type 0) → SchedulerState → Type 0
 AreKnown vouches scheduler = (node : ℕ) → AllByRecursion (λ entry. vouches entry.thread entry.need) (entries_at scheduler node)
 
--- what a scheduler keeps of its queues: each of their nodes has a place for its last choice
-pub record IsKept (queues : BTreeMap ℕ (List (Option Entry))) (lasts : List ℕ) (count : ℕ) : Type 0 where
+-- what a scheduler keeps of its queues: each of their nodes has a place for its last choice, and the tree covers them
+pub record IsKept (queues : BTreeMap ℕ (List (Option Entry))) (above : List Needs) (lasts : List ℕ) (count : ℕ) : Type 0 where
+  pub covered : AreCovered queues above
   pub placed : (node : ℕ) → IsSome (get nat_cmp queues node) → node < length lasts
   pub counted : count ≤ 2 ^ 40

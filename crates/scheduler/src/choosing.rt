@@ -3,13 +3,15 @@ ghost use Rattle.std.specs.BTreeMap.{get};
 ghost use Rattle.std.specs.Ordering.{nat_cmp};
 ghost use Rattle.cap_word.specs.declared.threads.ThreadId.{ThreadId as ThreadIdOf};
 ghost use Rattle.scheduler.specs.LawfulChoice.{is_eligible, IsLawfulChoice};
+ghost use Rattle.scheduler.specs.NodeQueues.{AreCovered};
 ghost use Rattle.scheduler.specs.Queues.{AreExact, entries_in, passes_at, places_in, queue_in};
 ghost use Rattle.scheduler.specs.Scores.{score};
 ghost use Rattle.scheduler.specs.Search.{choice_of, is_rank_below_best};
 
 use crate::choices::Choice;
-use crate::finding::{first_met, first_of};
-use crate::queues::NodeQueues;
+use crate::finding::first_of;
+use crate::node_queues::NodeQueues;
+use crate::queues::Queues;
 use crate::scores::{Rank, is_below, pressures_of, rank_of};
 use blocking_graph::Graph;
 use cap_word::{Ready, ThreadId};
@@ -49,7 +51,7 @@ pub(crate) fn as_choice(best: Option<Candidate>) -> Option<Choice>
 
 /// The lawful choice, by asking. A node that ranks after the best so far isn't asked for a thread.
 pub(crate) fn best_of<C: Measure, R: Ready>(
-    queues: &NodeQueues,
+    queues: &Queues,
     lasts: &[u64],
     graph: &Graph,
     monitor: &Monitor<C>,
@@ -75,7 +77,7 @@ pub(crate) fn best_of<C: Measure, R: Ready>(
     best
 }
 
-/// The lawful choice where the needs say which threads may go on. A node at which none may isn't ranked.
+/// The lawful choice where the needs say which threads may go on. A node at which none may isn't looked at.
 pub(crate) fn best_met<C: Measure>(
     queues: &NodeQueues,
     lasts: &[u64],
@@ -83,15 +85,18 @@ pub(crate) fn best_met<C: Measure>(
     monitor: &Monitor<C>,
     bounds: &Bounds,
 ) -> Option<Candidate>
-    requires { (node : ℕ) → IsSome (get nat_cmp queues.now node) → node < length lasts.now }
-    ensures lawful { (test : ThreadIdOf → Bool) → ((node : ℕ) → AreExact bounds.now test (entries_in queues.now node)) → IsLawfulChoice (queue_in queues.now) test (score monitor.now graph.now.edges) (slice_index lasts.now) (choice_of result) }
-    ensures place { (test : ThreadIdOf → Bool) → ((node : ℕ) → AreExact bounds.now test (entries_in queues.now node)) → IfSome result (λ candidate. position (passes_at test) (places_in queues.now candidate.rank.node) ≡ Some candidate.place) }
+    requires covered { AreCovered queues.now.queues queues.now.above }
+    requires placed { (node : ℕ) → IsSome (get nat_cmp queues.now.queues node) → node < length lasts.now }
+    ensures lawful { (test : ThreadIdOf → Bool) → ((node : ℕ) → AreExact bounds.now test (entries_in queues.now.queues node)) → IsLawfulChoice (queue_in queues.now.queues) test (score monitor.now graph.now.edges) (slice_index lasts.now) (choice_of result) }
+    ensures place { (test : ThreadIdOf → Bool) → ((node : ℕ) → AreExact bounds.now test (entries_in queues.now.queues node)) → IfSome result (λ candidate. position (passes_at test) (places_in queues.now.queues candidate.rank.node) ≡ Some candidate.place) }
 {
     let pressures = pressures_of(monitor);
     let mut best: Option<Candidate> = None;
-    for (node, queue) in queues {
-        if let Some(found) = first_met(queue, bounds) {
-            let rank = rank_of(lasts, graph, &pressures, *node);
+    let mut from = 0;
+    while let Some(node) = queues.next(from, bounds) {
+        from = node as usize + 1;
+        if let Some(found) = queues.first_at(node, bounds) {
+            let rank = rank_of(lasts, graph, &pressures, node);
             if is_below_best(&rank, &best) {
                 best = Some(Candidate {
                     rank,

@@ -14,6 +14,7 @@ mod choices;
 mod choosing;
 mod eligibility;
 mod finding;
+mod node_queues;
 mod queues;
 mod scheduler;
 mod scores;

@@ -2,15 +2,16 @@ ghost use Rattle.std.specs.Prelude.{◌≡◌, ◌≢◌, ◌≤◌, ◌<◌, �
 ghost use Rattle.std.specs.BTreeMap.{get};
 ghost use Rattle.std.specs.Ordering.{nat_cmp};
 ghost use Rattle.ready_tree.specs.Entries.{entries_of, is_of};
-ghost use Rattle.scheduler.specs.Queues.{without_entry, places_in, entries_in};
+ghost use Rattle.ready_tree.specs.Trees.{CoversAll};
+ghost use Rattle.scheduler.specs.Queues.{places_in, entries_in};
 
 use crate::choices::Choice;
-use ready_tree::{Entry, ReadyTree};
+use ready_tree::{Entry, Needs, ReadyTree};
 use std::alloc::{AllocError, Global};
 use std::collections::BTreeMap;
 
 /// The queues of the nodes at which threads wait.
-pub(crate) type NodeQueues = BTreeMap<u32, ReadyTree>;
+pub(crate) type Queues = BTreeMap<u32, ReadyTree>;
 
 /// Makes a place for the last choice of a node, which is 0 so far.
 pub(crate) fn make_place(lasts: &mut Vec<u64>, node: u32) -> Result<(), AllocError>
@@ -38,7 +39,7 @@ fn queue_of_one(alloc: Global, entry: Entry) -> Result<ReadyTree, AllocError>
 
 /// Puts a thread at the end of a node's queue.
 pub(crate) fn join(
-    queues: &mut NodeQueues,
+    queues: &mut Queues,
     alloc: Global,
     node: u32,
     entry: Entry,
@@ -59,7 +60,7 @@ pub(crate) fn join(
 }
 
 /// Takes the thread at a place out of a node's queue. A queue that is then empty goes, and its memory.
-pub(crate) fn leave_at(queues: &mut NodeQueues, node: u32, place: usize)
+pub(crate) fn leave_at(queues: &mut Queues, node: u32, place: usize)
     requires { place < length (places_in queues.old node) }
     ensures queue { entries_in queues.new node ≡ entries_of (slice_set (places_in queues.old node) place None) }
     ensures others { (other : ℕ) → other ≢ node → entries_in queues.new other ≡ entries_in queues.old other }
@@ -76,19 +77,18 @@ pub(crate) fn leave_at(queues: &mut NodeQueues, node: u32, place: usize)
 }
 
 /// The place of a thread in a node's queue. It looks at each place before that.
-fn place_in(queues: &NodeQueues, choice: &Choice) -> Option<usize>
+pub(crate) fn place_in(queues: &Queues, choice: &Choice) -> Option<usize>
     ensures { result ≡ position (is_of choice.now.thread) (places_in queues.now choice.now.node) }
 {
     queues.get(&choice.node)?.place_of(choice.thread)
 }
 
-/// Takes the choice's thread out of its node's queue.
-pub(crate) fn leave(queues: &mut NodeQueues, choice: &Choice)
-    ensures queue { entries_in queues.new choice.now.node ≡ without_entry choice.now.thread (entries_in queues.old choice.now.node) }
-    ensures others { (other : ℕ) → other ≢ choice.now.node → entries_in queues.new other ≡ entries_in queues.old other }
-    ensures nodes { (other : ℕ) → IsSome (get nat_cmp queues.new other) → IsSome (get nat_cmp queues.old other) }
+/// What some of the threads at a node wait for.
+pub(crate) fn needs_in(queues: &Queues, node: u32) -> Needs
+    ensures { CoversAll result (entries_in queues.now node) }
 {
-    if let Some(place) = place_in(queues, choice) {
-        leave_at(queues, choice.node, place);
+    match queues.get(&node) {
+        Some(queue) => queue.needs(),
+        None => Needs::NONE,
     }
 }

@@ -5,13 +5,13 @@ ghost use Rattle.scheduler.specs.Scores.{score};
 use crate::choices::Choice;
 use crate::choosing::{as_choice, best_met, best_of};
 use crate::finding::bounds_at_gate;
-use crate::queues::{NodeQueues, join, leave, leave_at, make_place};
+use crate::node_queues::NodeQueues;
+use crate::queues::make_place;
 use blocking_graph::Graph;
 use cap_word::{Ready, ThreadId};
 use ready_tree::{Bounded, Entry, Need};
 use resource_monitor::{Measure, Monitor};
 use std::alloc::{AllocError, Global};
-use std::collections::BTreeMap;
 use std::marker::Model;
 
 /// The threads that wait at the nodes of the blocking graph. What it means is the queue of each node, the
@@ -30,9 +30,9 @@ impl Model for Scheduler {
 
     ghost Value = { SchedulerState };
 
-    ghost view = { λ s. record { queues = queues_of s.queues (length s.lasts.items); lasts = s.lasts.items; noted = s.noted } };
+    ghost view = { λ s. record { queues = queues_of s.queues.queues (length s.lasts.items); lasts = s.lasts.items; noted = s.noted } };
 
-    ghost invariant = { λ s. IsKept s.queues s.lasts.items s.noted };
+    ghost invariant = { λ s. IsKept s.queues.queues s.queues.above s.lasts.items s.noted };
 }
 
 impl Scheduler {
@@ -43,7 +43,7 @@ impl Scheduler {
         ensures { result ≡ started }
     {
         Scheduler {
-            queues: BTreeMap::new(alloc),
+            queues: NodeQueues::new(alloc),
             lasts: Vec::new(alloc),
             noted: 0,
         }
@@ -67,7 +67,7 @@ impl Scheduler {
         let places = self.lasts.len();
         make_place(&mut self.lasts, node)?;
         let alloc = *self.lasts.allocator();
-        match join(&mut self.queues, alloc, node, Entry { thread, need }) {
+        match self.queues.join(alloc, node, Entry { thread, need }) {
             Ok(()) => Ok(()),
             Err(refusal) => {
                 self.lasts.truncate(places);
@@ -90,13 +90,13 @@ impl Scheduler {
         ensures queued { IfSome result (λ choice. Contains (queue_of self.now choice.node) choice.thread) }
         ensures lawful { IsLawfulChoice (queue_of self.now) (is_eligible (R.is_ready ready.now) (R.at_accept ready.now) (R.any_elsewhere ready.now) monitor.now.is_open) (score monitor.now graph.now.edges) (last_of self.now) result }
     {
-        let best = best_of(&self.queues, self.lasts.as_slice(), graph, monitor, ready);
+        let best = best_of(&self.queues.queues, self.lasts.as_slice(), graph, monitor, ready);
         as_choice(best)
     }
 
     /// The choice that `choose` makes, which is noted then. No thread is asked: the needs that were told say who may go on, and
-    /// the world vouches for them. Each node with waiting threads costs a search of as many steps as the tree above its queue is
-    /// high, and each node with an eligible thread a score. It takes no memory.
+    /// the world vouches for them. A node at which no thread is eligible isn't looked at; each of the others costs two searches, of
+    /// as many steps as the tree above the nodes and the tree above its queue are high, and a score. It takes no memory.
     pub fn take_choice<C: Measure, W: Bounded>(
         &mut self,
         graph: &Graph,
@@ -117,7 +117,7 @@ impl Scheduler {
         let Some(candidate) = best else {
             return None;
         };
-        leave_at(&mut self.queues, candidate.rank.node, candidate.place);
+        self.queues.leave_at(candidate.rank.node, candidate.place);
         self.noted += 1;
         self.lasts[candidate.rank.node as usize] = self.noted;
         Some(Choice {
@@ -132,7 +132,7 @@ impl Scheduler {
         requires room { self.old.noted < 2 ^ 40 }
         ensures { IsNoted self.old self.new choice.now }
     {
-        leave(&mut self.queues, choice);
+        self.queues.leave(choice);
         self.noted += 1;
         self.lasts[choice.node as usize] = self.noted;
     }

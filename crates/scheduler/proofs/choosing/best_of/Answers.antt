@@ -1,12 +1,16 @@
-use Rattle.std.proofs.Common.{◌≡◌, Some, IsSome, slice_index, sym, ◌∙◌, subst, rules}
+use Rattle.std.proofs.Common.{◌≡◌, Some, IsSome, Option, List, [], slice_index, refl, sym, ap, ◌∙◌, subst, find, rules}
 use Rattle.std.specs.BTreeMap.{get}
 use Rattle.std.specs.Cmp.{nat_cmp_total}
 use Rattle.std.specs.Map.Iter.{deref_pair}
 use Rattle.std.specs.Ordering.{nat_cmp}
-use Rattle.std.proofs.lemmas.Map.Iter.{btree_map_turn, rest_more}
+use Rattle.std.proofs.lemmas.Map.Iter.{btree_map_turn, rest_all, rest_more}
+use Rattle.ready_tree.specs.declared.entries.Entry.{Entry}
+use Rattle.ready_tree.specs.Entries.{entries_of}
 use Rattle.scheduler.specs.LawfulChoice.{is_eligible}
+use Rattle.scheduler.specs.Queues.{places_of, threads_of}
 use Rattle.scheduler.specs.Scores.{score}
-use Rattle.scheduler.proofs.ChoiceLemmas.{IsBestBut-taken, IsBestBut-passed, IsBestBut-ineligible, ranked}
+use Rattle.scheduler.specs.Search.{IsFound, IsPassed}
+use Rattle.scheduler.proofs.ChoiceLemmas.{IsBestOf-taken, IsBestOf-passed, IsBestOf-ineligible, IsLawfulChoice-best, passed_before, ranked}
 use Rattle.scheduler.proofs.choosing.best_of.Goals as goal
 
 pub rank_of-rank-requires-clause-there : goal.rank_of-rank-requires-clause-there
@@ -26,10 +30,12 @@ loop-node-preserved-in-Some-first_of g c =
     let eligible = is_eligible (g.R.Ready.is_ready c.args.ready.now) (g.R.Ready.at_accept c.args.ready.now) (g.R.Ready.any_elsewhere c.args.ready.now) c.args.monitor.now.is_open in
     let own = ranked c.args.monitor.now c.args.graph.now.edges (slice_index c.args.lasts.now) c.pressures_of-pressures.result c.rank_of-rank.result
     (c.pressures_of-pressures.ensures.scores c.args.graph.now.edges) c.rank_of-rank.ensures.rank in
-    IsBestBut-taken eligible (score c.args.monitor.now c.args.graph.now.edges) (slice_index c.args.lasts.now) c.args.queues.now c.in-Some.node.now c.in-Some.queue.now
-    c.loop-node.node-iterator c.next.new.self c.loop-node.best c.rank_of-rank.result turn.1 next c.loop-node.invariant own c.rank_of-rank.ensures.node
+    let before = passed_before c.in-Some.node.now c.in-Some.queue.now c.loop-node.node-iterator c.next.new.self next in
+    let first = rw (c.gate.ensures, c.in-Some-first_of.is) at c.first_of.ensures in
+    IsBestOf-taken eligible (score c.args.monitor.now c.args.graph.now.edges) (slice_index c.args.lasts.now) c.args.queues.now c.in-Some.node.now
+    (IsPassed c.loop-node.node-iterator) (IsPassed c.next.new.self) c.loop-node.best c.rank_of-rank.result c.loop-node.invariant (λ other some now ne. before other now ne) own c.rank_of-rank.ensures.node
     c.in-Some-first_of.found (sym c.is_below_best.ensures ∙ c.if-is_below_best.true)
-    (rw (c.gate.ensures, c.in-Some-first_of.is) at c.first_of.ensures)
+    (subst (λ (places : List (Option Entry)). IsFound eligible places c.in-Some-first_of.found) (sym (ap places_of turn.1)) first)
 
 pub loop-node-preserved-in_default : goal.loop-node-preserved-in_default
 loop-node-preserved-in_default g c =
@@ -40,9 +46,11 @@ loop-node-preserved-in_default g c =
     let eligible = is_eligible (g.R.Ready.is_ready c.args.ready.now) (g.R.Ready.at_accept c.args.ready.now) (g.R.Ready.any_elsewhere c.args.ready.now) c.args.monitor.now.is_open in
     let own = ranked c.args.monitor.now c.args.graph.now.edges (slice_index c.args.lasts.now) c.pressures_of-pressures.result c.rank_of-rank.result
     (c.pressures_of-pressures.ensures.scores c.args.graph.now.edges) c.rank_of-rank.ensures.rank in
-    IsBestBut-ineligible eligible (score c.args.monitor.now c.args.graph.now.edges) (slice_index c.args.lasts.now) c.args.queues.now c.in-Some.node.now c.in-Some.queue.now
-    c.loop-node.node-iterator c.next.new.self c.loop-node.best c.rank_of-rank.result turn.1 next c.loop-node.invariant own c.rank_of-rank.ensures.node
-    (rw (c.gate.ensures, c.in_default.is) at c.first_of.ensures)
+    let before = passed_before c.in-Some.node.now c.in-Some.queue.now c.loop-node.node-iterator c.next.new.self next in
+    let nobody = rw (c.gate.ensures, c.in_default.is) at c.first_of.ensures in
+    IsBestOf-ineligible eligible (score c.args.monitor.now c.args.graph.now.edges) (slice_index c.args.lasts.now) c.args.queues.now c.in-Some.node.now
+    (IsPassed c.loop-node.node-iterator) (IsPassed c.next.new.self) c.loop-node.best c.rank_of-rank.result c.loop-node.invariant (λ other some now ne. before other now ne) own c.rank_of-rank.ensures.node
+    (ap (λ (o : Option (List (Option Entry))). find eligible (threads_of (entries_of (places_of o)))) turn.1 ∙ nobody)
 
 pub loop-node-preserved : goal.loop-node-preserved
 loop-node-preserved g c =
@@ -53,6 +61,14 @@ loop-node-preserved g c =
     let eligible = is_eligible (g.R.Ready.is_ready c.args.ready.now) (g.R.Ready.at_accept c.args.ready.now) (g.R.Ready.any_elsewhere c.args.ready.now) c.args.monitor.now.is_open in
     let own = ranked c.args.monitor.now c.args.graph.now.edges (slice_index c.args.lasts.now) c.pressures_of-pressures.result c.rank_of-rank.result
     (c.pressures_of-pressures.ensures.scores c.args.graph.now.edges) c.rank_of-rank.ensures.rank in
-    IsBestBut-passed eligible (score c.args.monitor.now c.args.graph.now.edges) (slice_index c.args.lasts.now) c.args.queues.now c.in-Some.node.now c.in-Some.queue.now
-    c.loop-node.node-iterator c.next.new.self c.loop-node.best c.rank_of-rank.result turn.1 next c.loop-node.invariant own c.rank_of-rank.ensures.node
+    let before = passed_before c.in-Some.node.now c.in-Some.queue.now c.loop-node.node-iterator c.next.new.self next in
+    IsBestOf-passed eligible (score c.args.monitor.now c.args.graph.now.edges) (slice_index c.args.lasts.now) c.args.queues.now c.in-Some.node.now
+    (IsPassed c.loop-node.node-iterator) (IsPassed c.next.new.self) c.loop-node.best c.rank_of-rank.result c.loop-node.invariant (λ other some now ne. before other now ne) own c.rank_of-rank.ensures.node
     (sym c.is_below_best.ensures ∙ c.if-is_below_best.false)
+
+pub returns : goal.returns
+returns g c =
+    let eligible = is_eligible (g.R.Ready.is_ready c.args.ready.now) (g.R.Ready.at_accept c.args.ready.now) (g.R.Ready.any_elsewhere c.args.ready.now) c.args.monitor.now.is_open in
+    let ended = rest_all deref_pair c.loop-node.node-iterator c.next.new.self c.next.result c.in-None.is c.next.ensures.steps in
+    IsLawfulChoice-best eligible (score c.args.monitor.now c.args.graph.now.edges) (slice_index c.args.lasts.now) c.args.queues.now (IsPassed []) c.loop-node.best (λ node some. refl)
+    (rw ended at c.loop-node.invariant)
