@@ -79,23 +79,13 @@ pub fn budget_is_due()
         IsWordList words (Budget source image certificate) → HoldBytes before.files → (outcome : Outcome) × IsDue words before outcome }
 {}
 
-/// Of the words of `audit` it can't be that no outcome is due, whatever the files and the trace are. No law finds the outcome: the audit
-/// does. It does nothing: the law is the contract.
+/// Of the words of `audit` an outcome is due, whatever the files and the trace are. It does nothing: the law is the contract.
 pub fn audit_is_due()
     ensures { (words : List (List ℕ)) (before : Outside) (source log : List ℕ) (options : AuditOptions) →
-        IsWordList words (Audit source log options) → ¬ ((outcome : Outcome) → ¬ IsDue words before outcome) }
+        IsWordList words (Audit source log options) → (outcome : Outcome) × IsDue words before outcome }
 {}
 
-/// Of every list of words an outcome is due, whatever the files and the trace are, unless the words ask for an audit. It does nothing:
-/// the law is the contract.
+/// Of every list of words an outcome is due, whatever the files and the trace are. It does nothing: the law is the contract.
 pub fn outcome_is_due()
-    ensures { (words : List (List ℕ)) (before : Outside) → HoldBytes before.files →
-        ((source log : List ℕ) (options : AuditOptions) → ¬ IsWordList words (Audit source log options)) →
-        (outcome : Outcome) × IsDue words before outcome }
-{}
-
-/// Of every list of words it can't be that no outcome is due, whatever the files and the trace are. It does nothing: the law is the
-/// contract.
-pub fn never_is_none_due()
-    ensures { (words : List (List ℕ)) (before : Outside) → HoldBytes before.files → ¬ ((outcome : Outcome) → ¬ IsDue words before outcome) }
+    ensures { (words : List (List ℕ)) (before : Outside) → HoldBytes before.files → (outcome : Outcome) × IsDue words before outcome }
 {}

@@ -1,0 +1,10 @@
+pub mod Deciding
+pub mod Searching
+pub mod TraceLines
+pub mod Points
+pub mod Happenings
+pub mod Segments
+pub mod Lines
+pub mod Beyond
+pub mod Found
+pub mod OneVerdict
