@@ -158,7 +158,7 @@ module _ (first : Held) (rule : Rule) (monitor : MonitorState) (left_first taken
 pub run_memory : (first : Held) (rule : Rule) (monitor : MonitorState) (left taken : Option (List ℕ)) (reads writes : ℕ) → IsSound first.accepted → (g : Setup) → IsAtStartBy rule g first monitor → IsRunEnd g first left taken taken reads reads writes writes (failure_end Failure.Memory)
 run_memory first rule monitor left taken reads writes sound g at = (
   fell_leads g first monitor at sound left taken taken first (bytes_of (settled left)) (settled_told left) (start_of g (bytes_of (settled left)) first.machine) [] nowhere 0 (omega arith)
-      (Appends-nil taken) (no_acts (setting_of g) first.machine first.machine refl) (has_run 0 refl) refl (start_sound g first monitor at sound),
+      (few_bytes [] (omega arith)) (Appends-nil taken) (no_acts (setting_of g) first.machine first.machine refl) (has_run 0 refl) refl (start_sound g first monitor at sound),
   refl,
   refl,
 )

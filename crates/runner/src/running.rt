@@ -8,7 +8,7 @@ ghost use Rattle.run_course.specs.Rules.{HasNothing, rule_of};
 ghost use Rattle.stride_rule.specs.State.{new_rule};
 
 use crate::closing::write_end;
-use crate::ends::{RunEnd, end_of, failed_end};
+use crate::ends::{RunEnd, StrideEnd, end_of, failed_end};
 use crate::stepping::step;
 use cap_io::{Sink, Source};
 use resource_monitor::{Measure, Monitor};
@@ -64,7 +64,7 @@ pub fn run_stride<S: Source, K: Sink, C: Measure + Drop>(
     monitor: Monitor<C>,
     trace: &mut S,
     out: &mut K,
-) -> RunEnd
+) -> StrideEnd
     requires start { (g : Setup) × IsAtStartBy (by_stride rule.tickets) g world.old monitor }
     requires fresh { rule ≡ new_rule rule.tickets }
     ensures answer { (g : Setup) → IsAtStartBy (by_stride rule.tickets) g world.old monitor →
