@@ -116,23 +116,25 @@ dropped n l inside =
     omega (arith, parts, whole, first)
 
 pub held_at : (done more later rest whole : List Entry) (count : ℕ) → whole ≡ done ++ rest → rest ≡ more ++ later → count ≤ length (log_text (done ++ more)) → length (log_text (done ++ more)) ≤ count + (4096 + last_line (done ++ more)) →
-    HeldBack done rest (take count (log_text whole))
+    (back : HeldBack done rest (take count (log_text whole))) × (back.more ≡ more)
 held_at done more later rest whole count whole_is rest_is inside most =
     let put = log_text (done ++ more) in
     let text : log_text whole ≡ put ++ log_text later =
     ap log_text (whole_is ∙ (ap (λ (l : List Entry). done ++ l) rest_is ∙ sym (append_assoc done more later))) ∙ text_append (done ++ more) later in
-    let size = dropped count put inside in
-    record {
-      more = more;
-      later = later;
-      rest_is = rest_is;
-      held = drop count put;
-      text = ap (λ (l : List ℕ). take count l ++ drop count put) text ∙ (ap (λ (l : List ℕ). l ++ drop count put) (take-append-le count put (log_text later) inside) ∙ take-append-drop count put);
-      most = omega (arith, size, most);
-    }
+    let size = dropped count put inside in (
+      record {
+        more = more;
+        later = later;
+        rest_is = rest_is;
+        held = drop count put;
+        text = ap (λ (l : List ℕ). take count l ++ drop count put) text ∙ (ap (λ (l : List ℕ). l ++ drop count put) (take-append-le count put (log_text later) inside) ∙ take-append-drop count put);
+        most = omega (arith, size, most);
+      },
+      refl,
+    )
 
 -- nothing but the entries done was put
-pub held_done : (done rest whole : List Entry) (count : ℕ) → whole ≡ done ++ rest → count ≤ length (log_text done) → length (log_text done) ≤ count + (4096 + last_line done) → HeldBack done rest (take count (log_text whole))
+pub held_done : (done rest whole : List Entry) (count : ℕ) → whole ≡ done ++ rest → count ≤ length (log_text done) → length (log_text done) ≤ count + (4096 + last_line done) → (back : HeldBack done rest (take count (log_text whole))) × (back.more ≡ [])
 held_done done rest whole count whole_is inside most =
     held_at done [] rest rest whole count whole_is refl (subst (λ (l : List Entry). count ≤ length (log_text l)) (sym (append-nil done)) inside)
     (subst (λ (l : List Entry). length (log_text l) ≤ count + (4096 + last_line l)) (sym (append-nil done)) most)

@@ -108,7 +108,7 @@ module _ (g : Setup) (first : Held) {rule : Rule} (monitor : MonitorState) (at :
   good_on bytes entries stop end lawful = good g bytes entries stop end (scoped g first monitor at sound) (valid g first monitor at sound) (well g first monitor at sound) (fuel_most g first monitor at sound) lawful
 
   -- the log of a run that stops in a world, beside another of the run
-  log_at : (left : Option (List ℕ)) (held : Held) (bytes : List ℕ) → IfSome left (λ its. its ≡ bytes) → (entries : List Entry) (stop : StopLine) (end : World) → IsLawfulLog g bytes entries stop end →
+  abbrev log_at : (left : Option (List ℕ)) (held : Held) (bytes : List ℕ) → IfSome left (λ its. its ≡ bytes) → (entries : List Entry) (stop : StopLine) (end : World) → IsLawfulLog g bytes entries stop end →
       ActsTo (setting_of g) first.machine held.machine → stretches.IsSound (checked_of g) held.machine → HasLog g left end held.machine
   log_at left held bytes told entries stop end lawful acts sound_now = record {
     bytes = bytes;
@@ -140,6 +140,7 @@ module _ (g : Setup) (first : Held) {rule : Rule} (monitor : MonitorState) (at :
   fell_leads left taken written held b told state entries leads count part most writes acts way ticked in_place =
       let whole : HasOneLog g b = one_log g (scoped g first monitor at sound) (valid g first monitor at sound) (well g first monitor at sound) (fuel_most g first monitor at sound) b in
       let rest = begins_each g b first.machine entries whole.entries state whole.stop whole.end (starts g first monitor at sound) leads whole.lawful in
+      let back = held_done entries rest.0 whole.entries count rest.1 part most in
       record {
         end = whole.end;
         log = log_at left held b told whole.entries whole.stop whole.end whole.lawful acts in_place;
@@ -147,8 +148,8 @@ module _ (g : Setup) (first : Held) {rule : Rule} (monitor : MonitorState) (at :
         part = longer entries rest.0 whole.entries count rest.1 part;
         writes = subst (λ (l : List ℕ). Appends taken written l) (sym (begins entries rest.0 whole.entries count rest.1 part)) writes;
         on_run = record { done = entries; rest = rest.0; joined = rest.1; state = state; leads = leads; way = way; clock = ticked };
-        back = held_done entries rest.0 whole.entries count rest.1 part most;
-        at_end = inl refl;
+        back = back.0;
+        at_end = inl back.1;
       }
 
 -- ---- a run so far
@@ -253,7 +254,7 @@ module _ (g : Setup) (first : Held) (left_first taken_first : Option (List ℕ))
         entries_are = refl;
       }
 
-      on_run : IsOnRun g its_bytes first.machine whole after.machine
+      abbrev on_run : IsOnRun g its_bytes first.machine whole after.machine
       on_run = record { done = so_far.entries; rest = ending g so_far.state stop; joined = refl; state = so_far.state; leads = so_far.leads has; way = halts.way; clock = halts.clock }
 
       end_is : log_text (end_lines after.setting.caps new.graph.edges stop) ≡ log_text (ending g so_far.state stop)
@@ -262,7 +263,7 @@ module _ (g : Setup) (first : Held) (left_first taken_first : Option (List ℕ))
       acted : ActsTo (setting_of g) first.machine after.machine
       acted = acts_on (setting_of g) first.machine so_far.state.machine after.machine so_far.acts halts.acts
 
-      log_now : HasLog g left_first after.machine after.machine
+      abbrev log_now : HasLog g left_first after.machine after.machine
       log_now = log_at g first monitor at sound left_first after its_bytes told_first whole stop after.machine lawful acted halts.sound
 
       pub comes_to : (written : Option (List ℕ)) → Appends mid.taken written (mid.held ++ log_text (end_lines after.setting.caps new.graph.edges stop)) → IsFitText (log_text (end_lines after.setting.caps new.graph.edges stop)) →
@@ -288,8 +289,8 @@ module _ (g : Setup) (first : Held) (left_first taken_first : Option (List ℕ))
           let reach = c.reach in
           let least = c.most in
           let last = last_on so_far.entries c.more in
-          held_at so_far.entries c.more c.later (ending g so_far.state stop) whole count refl c.lines_are (omega (arith, both, reach)) (omega (arith, both, least, beyond, last)))
-          (λ (within : count ≤ length (log_text so_far.entries)). held_done so_far.entries (ending g so_far.state stop) whole count refl within (omega (arith, most)))
+          (held_at so_far.entries c.more c.later (ending g so_far.state stop) whole count refl c.lines_are (omega (arith, both, reach)) (omega (arith, both, least, beyond, last))).0)
+          (λ (within : count ≤ length (log_text so_far.entries)). (held_done so_far.entries (ending g so_far.state stop) whole count refl within (omega (arith, most))).0)
           (cases_lt (length (log_text so_far.entries)) count)
 
       pub stops_short : (written : Option (List ℕ)) → TakesPrefix mid.taken written (mid.held ++ log_text (end_lines after.setting.caps new.graph.edges stop)) → FellShort g after left_first taken_first written
