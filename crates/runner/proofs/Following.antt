@@ -39,7 +39,7 @@ use Rattle.schedule_log.specs.declared.entries.Entry.{Entry}
 use Rattle.schedule_log.specs.declared.entries.StopLine.{StopLine}
 use Rattle.thread_core.specs.Worlds.{Held, IsThread}
 use Rattle.run_course.proofs.Acting.{acts_on}
-use Rattle.run_course.proofs.Joined.{grows_on, grows_none, part_on, whole_on}
+use Rattle.run_course.proofs.Joined.{grows_on, grows_none, whole_on}
 use Rattle.run_course.proofs.FitTexts.{fit_on, no_line, text_append}
 use Rattle.run_course.proofs.Parts.{no_acts, by_none}
 use Rattle.run_course.proofs.Started.{scoped, valid, starts, well, fuel_most}

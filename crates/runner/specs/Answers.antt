@@ -1,5 +1,5 @@
 -- What a run answers.
-use Rattle.std.specs.Prelude.{ℕ, ◌≡◌, ◌≤◌, List, [], length, take, Option, IfSome, Some}
+use Rattle.std.specs.Prelude.{ℕ, ◌≡◌, ◌≤◌, ◌⊎◌, List, [], length, take, Option, IfSome, Some}
 use Rattle.std.specs.Io.KnownBytes.{Appends}
 use Rattle.cap_word.specs.declared.stops.Stop.TheVariants as cut
 use Rattle.cap_word.specs.declared.threads.ThreadId.{ThreadId}

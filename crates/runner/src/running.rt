@@ -36,7 +36,8 @@ use thread_core::World;
 /// - `Memory` where there was no memory for what is kept, or in the sink.
 ///
 /// At the first seven the log is written whole, and the world is as it was at the stop. At the last three a beginning of the
-/// log is written, and the world is one of those that its run comes through.
+/// log is written: of the lines of what was done all but at most the buffer's 4,096 bytes and a line. The world is one of those
+/// that the log's run comes through.
 pub fn run<S: Source, K: Sink, C: Measure + Drop>(
     alloc: Global,
     world: &mut World,
