@@ -11,7 +11,7 @@ use Rattle.command_outcomes.specs.declared.faults.Fault.TheVariants.{Read, Write
 use Rattle.command_outcomes.specs.declared.stops.Cause.TheVariants as cause
 use Rattle.command_outcomes.specs.FaultLines.{fault_status}
 use Rattle.command_outcomes.specs.Outcome.{Outcome}
-use Rattle.command_outcomes.specs.Prefixes.{TakesPrefix}
+use Rattle.schedule_log.specs.Writing.{TakesPrefix}
 use Rattle.command_outcomes.specs.Done.{Outside, WhereTold, AreStored, AreCutShort, IsCutShort, NoneCounted, IsDone, IsTold, status_of, line_of}
 use Rattle.capriccio_commands.specs.Due.{IsDue}
 use Rattle.thread_core.specs.Worlds.{Held}

@@ -11,7 +11,7 @@ use Rattle.command_outcomes.specs.declared.faults.Fault.TheVariants.{Read, Write
 use Rattle.command_outcomes.specs.FaultLines.{fault_status, fault_line}
 use Rattle.command_outcomes.specs.Outcome.{Outcome}
 use Rattle.command_outcomes.specs.Done.{Outside, WhereTold, IsRisen}
-use Rattle.command_outcomes.specs.Prefixes.{TakesPrefix}
+use Rattle.schedule_log.specs.Writing.{TakesPrefix}
 use Rattle.capriccio_commands.specs.Due.{IsDue}
 
 -- a count of faults of the files, the trace or the output is greater than before

@@ -29,7 +29,7 @@ use Rattle.capriccio_commands.specs.declared.summaries.Tally.{Tally}
 module _ (g : Setup) (held : Held) (left taken taken' : Option (List ℕ)) (reads reads' writes writes' : ℕ) (r : Result Ended LastStep) where
   came-fits : (answer : RunEnd) (ended : Ended) → CameTo g held left taken taken' answer → r ≡ Ok ended → OnOk r (TakesFit taken taken')
   came-fits answer ended came is =
-      subst (λ (a : Result Ended LastStep). OnOk a (TakesFit taken taken')) (sym is) (record { text = log_text came.entries; fits = came.fits; writes = came.writes })
+      subst (λ (a : Result Ended LastStep). OnOk a (TakesFit taken taken')) (sym is) (record { text = log_text came.log.entries; fits = came.fits; writes = came.writes })
 
   no-log : (stop : LastStep) → r ≡ Err stop → OnOk r (TakesFit taken taken')
   no-log stop is = subst (λ (a : Result Ended LastStep). OnOk a (TakesFit taken taken')) (sym is) tt

@@ -22,7 +22,7 @@ use Rattle.command_outcomes.specs.declared.ended.Ended.{Ended}
 use Rattle.command_outcomes.specs.Outcome.{Outcome, Ran, NoMore}
 use Rattle.command_outcomes.specs.CauseLines.{refusal}
 use Rattle.command_outcomes.specs.Done.{Outside, WhereTold, AreStored, IsRisen, IsTraceLeft, IsLast}
-use Rattle.command_outcomes.specs.Prefixes.{TakesPrefix}
+use Rattle.schedule_log.specs.Writing.{TakesPrefix}
 use Rattle.command_files.specs.Loads.{IsSourceText}
 use Rattle.command_outcomes.specs.Steps.{IsStop, IsPrinted, EndsAs, RunEnds}
 use Rattle.command_outcomes.proofs.Ending.{kept-are-stored, refused-at-once, memory-at-once}

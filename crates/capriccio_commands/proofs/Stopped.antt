@@ -3,12 +3,11 @@ use Rattle.std.proofs.Common.{◌≡◌, ℕ, List, Option, Some, None, Result, 
 use Rattle.std.specs.Prelude.{IfSome}
 use Rattle.cap_io.specs.Files.{KeepsFiles}
 use Rattle.cap_word.specs.declared.stops.Stop.TheVariants as cut
-use Rattle.lawful_log.specs.Good.{IsGoodLog, checked_of}
-use Rattle.lawful_log.specs.Lawful.{IsLawfulLog}
+use Rattle.lawful_log.specs.Good.{checked_of}
 use Rattle.lawful_log.specs.Setup.{Setup}
 use Rattle.machine_world.specs.Stretches.{IsSound}
 use Rattle.machine_world.specs.Threads.{World}
-use Rattle.runner.specs.Answers.{IsEndAt, CameTo, FellShort, IsRunEnd}
+use Rattle.runner.specs.Answers.{HasLog, IsEndAt, CameTo, IsRunEnd}
 use Rattle.runner.specs.declared.ends.RunEnd.{RunEnd}
 use Rattle.runner.specs.declared.ends.RunEnd.TheVariants as end
 use Rattle.schedule_log.specs.declared.entries.Entry.{Entry}
@@ -20,7 +19,7 @@ use Rattle.command_outcomes.specs.declared.stops.Stop.TheVariants.{Failed}
 use Rattle.command_outcomes.specs.declared.ended.Ended.{Ended}
 use Rattle.command_outcomes.specs.Outcome.{Outcome}
 use Rattle.command_outcomes.specs.Done.{Outside, IsWhole, IsCutInOut, NoneCounted, TraceCounted, WriteCounted, IsReachable, IsWorldOf}
-use Rattle.pair_commands.specs.Runs.{IsAccepted, IsRun, IsRunOfSome, RunsOn, run_outcome, stop_status}
+use Rattle.pair_commands.specs.Runs.{IsAccepted, IsRun, RunsOn, run_outcome, stop_status}
 use Rattle.command_outcomes.specs.Steps.{EndsAs}
 use Rattle.capriccio_commands.specs.Closings.{IsClosed}
 use Rattle.command_outcomes.proofs.Ending.{kept-are-stored}
@@ -47,12 +46,16 @@ end-is (StopLine.Cut number cut.NoChunk cost free) answer h = sym (ap end-status
 end-is (StopLine.Cut number cut.Fuel cost free) answer h = sym (ap end-status h.2)
 end-is (StopLine.Cut number cut.Threads cost free) answer h = sym (ap end-status h.2)
 
-is-run : (g : Setup) (left : Option (List ℕ)) (entries : List Entry) (stop : StopLine) (w : World) → IfSome left (λ bytes. IsLawfulLog g bytes entries stop w) → IfSome left (λ bytes. IsGoodLog g entries) → IfSome left (λ bytes. IsRun g bytes entries stop w)
-is-run g None entries stop w h k = tt
-is-run g (Some bytes) entries stop w h k = record { lawful = h; good = k }
+-- what holds of the bytes that the trace could have had holds of its own, where it tells them
+if-told : (g : Setup) (left : Option (List ℕ)) (bytes : List ℕ) → IfSome left (λ its. its ≡ bytes) → (entries : List Entry) (stop : StopLine) (w : World) → IsRun g bytes entries stop w → IfSome left (λ its. IsRun g its entries stop w)
+if-told g None bytes told entries stop w run = tt
+if-told g (Some its) bytes told entries stop w run = subst (λ (b : List ℕ). IsRun g b entries stop w) (sym told) run
 
-is-run-of-some : (g : Setup) (left : Option (List ℕ)) (bytes : List ℕ) → IfSome left (λ its. its ≡ bytes) → (entries : List Entry) (stop : StopLine) (w : World) → IsLawfulLog g bytes entries stop w → IsGoodLog g entries → IsRunOfSome g left entries stop w
-is-run-of-some g left bytes told entries stop w h k = record { bytes = bytes; told = told; run = record { lawful = h; good = k } }
+-- the outcome that is due beside the log of a run
+log-due : (g : Setup) (left : Option (List ℕ)) (end world : World) → IsAccepted g → (log : HasLog g left end world) → RunsOn left g (run_outcome g log.entries log.stop end)
+log-due g left end world ok log =
+    let run : IsRun g log.bytes log.entries log.stop end = record { lawful = log.lawful; good = log.good } in
+    (ok, log.entries, log.stop, end, if-told g left log.bytes log.told log.entries log.stop end run, refl, record { bytes = log.bytes; told = log.told; run = run })
 
 -- the run came to its stop
 at-stop : (g : Setup) (before after : Outside) (held : Held) (answer : RunEnd) (r : Result Ended Stop) → IsAccepted g → KeepsFiles before.files after.files → after.loads ≡ before.loads → after.stores ≡ before.stores →
@@ -60,16 +63,13 @@ at-stop : (g : Setup) (before after : Outside) (held : Held) (answer : RunEnd) (
     r ≡ Ok (record { status = end-status answer; last = Some held }) → EndsAs (RunsOn before.left g) before after r
 at-stop g before after held answer r ok files loads stores of came reads writes is =
     let given : Ended = record { status = end-status answer; last = Some held } in
-    let outcome : Outcome = run_outcome g came.entries came.stop held.machine in
-    let due : RunsOn before.left g outcome = (ok, came.entries, came.stop, held.machine, is-run g before.left came.entries came.stop held.machine came.lawful came.good, refl, is-run-of-some g before.left came.bytes came.told came.entries came.stop held.machine came.lawful_of came.good_of) in
+    let log = came.log in
+    let outcome : Outcome = run_outcome g log.entries log.stop held.machine in
+    let due : RunsOn before.left g outcome = log-due g before.left held.machine held.machine ok log in
     let whole : IsWhole outcome before after = record { files = kept-are-stored before.files after.files files; trace = tt; out = came.writes } in
     let none : NoneCounted before after = record { loads = loads; stores = stores; reads = reads; writes = writes } in
-    let ends : EndsAs (RunsOn before.left g) before after (Ok given) = (outcome, (due, whole, none), end-is came.stop answer came.end_is, refl, of (record { start = came.start; starts = came.starts; actions = came.actions; leads = came.machine }) came.sound) in
+    let ends : EndsAs (RunsOn before.left g) before after (Ok given) = (outcome, (due, whole, none), end-is log.stop answer came.end_is, refl, of (record { start = log.start; starts = log.starts; actions = log.actions; leads = log.machine }) log.sound) in
     subst (λ (a : Result Ended Stop). EndsAs (RunsOn before.left g) before after a) (sym is) ends
-
--- what was written of a run that could not go on is a beginning of what is due
-short-due : (g : Setup) (left taken taken' : Option (List ℕ)) (held : Held) → IsAccepted g → (short : FellShort g held left taken taken') → RunsOn left g (run_outcome g short.entries short.stop short.end)
-short-due g left taken taken' held ok short = (ok, short.entries, short.stop, short.end, is-run g left short.entries short.stop short.end short.lawful short.good, refl, is-run-of-some g left short.bytes short.told short.entries short.stop short.end short.lawful_of short.good_of)
 
 pub closed : (g : Setup) (before after : Outside) (held : Held) (answer : RunEnd) (r : Result Ended Stop) → IsAccepted g → KeepsFiles before.files after.files → after.loads ≡ before.loads → after.stores ≡ before.stores →
     (IsReachable g held.machine → IsSound (checked_of g) held.machine → IsWorldOf (record { setup = g; end = held.machine }) held) → IsRunEnd g held before.left before.taken after.taken before.reads after.reads before.writes after.writes answer →
@@ -83,24 +83,24 @@ closed g before after held (end.Fuel thread) r ok files loads stores of h is = a
 closed g before after held (end.Threads thread) r ok files loads stores of h is = at-stop g before after held (end.Threads thread) r ok files loads stores of h.0 h.1 h.2 is
 closed g before after held end.ReadFault r ok files loads stores of h is =
     let short = h.0 in let risen = h.1 in
-    let outcome : Outcome = run_outcome g short.entries short.stop short.end in
+    let outcome : Outcome = run_outcome g short.log.entries short.log.stop short.end in
     let cut-short : IsCutInOut outcome before after = record { files = kept-are-stored before.files after.files files; trace = tt; out = (short.count, short.part, short.writes) } in
     let counted : TraceCounted before after = record { loads = loads; stores = stores; reads = record { rose = risen.rose; never_falls = risen.never_falls }; writes = h.2 } in
     let ends : EndsAs (RunsOn before.left g) before after (Err (Failed Read)) =
-    inr (outcome, refl, short-due g before.left before.taken after.taken held ok short, cut-short, counted) in
+    inr (outcome, refl, log-due g before.left short.end held.machine ok short.log, cut-short, counted) in
     subst (λ (a : Result Ended Stop). EndsAs (RunsOn before.left g) before after a) (sym is) ends
 closed g before after held end.WriteFault r ok files loads stores of h is =
     let short = h.0 in let risen = h.2 in
-    let outcome : Outcome = run_outcome g short.entries short.stop short.end in
+    let outcome : Outcome = run_outcome g short.log.entries short.log.stop short.end in
     let cut-short : IsCutInOut outcome before after = record { files = kept-are-stored before.files after.files files; trace = tt; out = (short.count, short.part, short.writes) } in
     let counted : WriteCounted before after = record { loads = loads; stores = stores; reads = h.1; writes = record { rose = risen.rose; never_falls = risen.never_falls } } in
     let ends : EndsAs (RunsOn before.left g) before after (Err (Failed Write)) =
-    (outcome, short-due g before.left before.taken after.taken held ok short, inr (cut-short, counted)) in
+    (outcome, log-due g before.left short.end held.machine ok short.log, inr (cut-short, counted)) in
     subst (λ (a : Result Ended Stop). EndsAs (RunsOn before.left g) before after a) (sym is) ends
 closed g before after held end.Memory r ok files loads stores of h is =
     let short = h.0 in
-    let outcome : Outcome = run_outcome g short.entries short.stop short.end in
+    let outcome : Outcome = run_outcome g short.log.entries short.log.stop short.end in
     let cut-short : IsCutInOut outcome before after = record { files = kept-are-stored before.files after.files files; trace = tt; out = (short.count, short.part, short.writes) } in
     let ends : EndsAs (RunsOn before.left g) before after (Err (Failed Memory)) =
-    inl (inr (outcome, short-due g before.left before.taken after.taken held ok short, inr cut-short), record { loads = loads; stores = stores; reads = h.1; writes = h.2 }) in
+    inl (inr (outcome, log-due g before.left short.end held.machine ok short.log, inr cut-short), record { loads = loads; stores = stores; reads = h.1; writes = h.2 }) in
     subst (λ (a : Result Ended Stop). EndsAs (RunsOn before.left g) before after a) (sym is) ends

@@ -15,7 +15,7 @@ use Rattle.machine_world.specs.Runs.{Action, after_actions}
 use Rattle.machine_world.specs.Stretches.{IsSound}
 use Rattle.machine_world.specs.Threads.{World}
 use Rattle.thread_core.specs.Worlds.{Held}
-use Rattle.command_outcomes.specs.Prefixes.{TakesPrefix}
+use Rattle.buffered_writer.specs.Writing.{TakesPrefix}
 
 -- what a shelf, a trace and the output tell at a moment: the files and the counts of faults of loads and of stores, the bytes
 -- left of the trace and its count, and the bytes that the output took and its count

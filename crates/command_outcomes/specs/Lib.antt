@@ -1,4 +1,3 @@
-pub mod Prefixes
 pub mod FaultLines
 pub mod Outcome
 pub mod CauseLines

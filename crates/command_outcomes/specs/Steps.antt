@@ -13,7 +13,7 @@ use Rattle.command_outcomes.specs.declared.faults.Fault.TheVariants.{Read, Write
 use Rattle.command_outcomes.specs.Outcome.{Outcome, NoMore}
 use Rattle.command_outcomes.specs.CauseLines.{most_bytes, refusal}
 use Rattle.command_outcomes.specs.Done.{Outside, WhereTold, AreStored, AreCutShort, IsRisen, IsDone, IsTold, IsLast}
-use Rattle.command_outcomes.specs.Prefixes.{TakesPrefix}
+use Rattle.buffered_writer.specs.Writing.{TakesPrefix}
 use Rattle.command_outcomes.specs.FaultLines.{fault_status, fault_line}
 
 -- a step over values stops: it refuses, where that is due, or finds no memory

@@ -53,10 +53,11 @@ grows_on old mid new s t first then_ = record {
   whole = Appends-trans (joined old) (joined mid) (joined new) s t first.whole then_.whole;
   part = part_on old mid new.taken s t first then_.part;
   fits = fit_on s t first.fits then_.fits;
+  buffered = λ few. then_.buffered (first.buffered few);
 }
 
 pub grows_none : (now : Output) → Grows now now []
-grows_none now = record { whole = Appends-nil (joined now); part = part_none now []; fits = fit_none }
+grows_none now = record { whole = Appends-nil (joined now); part = part_none now []; fits = fit_none; buffered = λ few. few }
 
 -- ---- results
 

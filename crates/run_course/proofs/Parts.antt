@@ -208,6 +208,7 @@ no_part g state left held taken of onward = record {
   new = state;
   entries = [];
   leads = λ t. nowhere;
+  few = omega arith;
   writes = part_none taken (log_text []);
   acts = onward.acts;
   way = onward.way;
@@ -231,6 +232,7 @@ part_of g state new left k held taken written entry (Err failure) allowed acts t
   new = new;
   entries = entry ∷ [];
   leads = λ told. by_entry (allowed told) nowhere;
+  few = omega arith;
   writes = subst (λ (l : List ℕ). TakesPart taken written l) (sym (one_line entry)) puts;
   acts = acts_on (setting_of g) state.machine new.machine held.machine acts (acts_now g new k held left stands);
   way = way_now g new k held left stands;

@@ -1,5 +1,5 @@
 -- What a run has put out of its log, through a writer with a buffer.
-use Rattle.std.specs.Prelude.{◌≡◌, ℕ, List, [], ◌++◌, Option, MatchResult, Result}
+use Rattle.std.specs.Prelude.{◌≡◌, ℕ, ◌≤◌, List, [], ◌++◌, length, Option, MatchResult, Result}
 use Rattle.std.specs.Io.KnownBytes.{Appends, append_known}
 use Rattle.std.specs.List.{AllByRecursion}
 use Rattle.schedule_log.specs.EntryRanges.{FitsEntry}
@@ -33,11 +33,16 @@ pub record IsFitText (text : List ℕ) : Type 0 where
   pub fit : AllByRecursion FitsEntry fitting
   pub text_is : text ≡ log_text fitting
 
+-- no more is held than a writer's buffer has room for
+abbrev pub IsBuffered : Output → Type 0
+IsBuffered now = length now.held ≤ 4096
+
 -- what was taken and then what is held grew by the text, whose entries fit their types
 pub record Grows (old new : Output) (text : List ℕ) : Type 0 where
   pub whole : Appends (joined old) (joined new) text
   pub part : TakesPart old new text
   pub fits : IsFitText text
+  pub buffered : IsBuffered old → IsBuffered new
 
 -- a text went through the writer, or the sink took a beginning of what was held and of it
 abbrev pub PutsText : {E : Type 0} → Output → Output → List ℕ → Result (Unit {0}) E → Type 0

@@ -1,5 +1,5 @@
 -- What a step of a run comes to.
-use Rattle.std.specs.Prelude.{◌≡◌, ℕ, List, Option, None, Some, Result, Ok, Err}
+use Rattle.std.specs.Prelude.{◌≡◌, ℕ, ◌≤◌, List, length, Option, None, Some, Result, Ok, Err}
 use Rattle.lawful_log.specs.Good.{checked_of}
 use Rattle.lawful_log.specs.Lawful.{Leads}
 use Rattle.lawful_log.specs.Setup.{Setup, setting_of}
@@ -62,12 +62,13 @@ pub record HaltsAt (g : Setup) (state : State) (before : Rest) (k : Kept) (held 
   pub thread : HasThread held halt
   pub writes : written ≡ taken
 
--- the run can't go on: the sink took a beginning of what was held and of entries that are allowed, and the machine has made
--- some steps
+-- the run can't go on: the sink took a beginning of what was held and of at most one entry, which is allowed, and the machine has
+-- made some steps
 pub record FailsIn (g : Setup) (state : State) (before : Rest) (held : Held) (taken written : Output) : Type 0 where
   pub new : State
   pub entries : List Entry
   pub leads : HasBytes before → Leads g state entries new
+  pub few : length entries ≤ 1
   pub writes : TakesPart taken written (log_text entries)
   pub acts : ActsTo (setting_of g) state.machine held.machine
   pub way : IsOnWay (setting_of g) new.machine held.machine

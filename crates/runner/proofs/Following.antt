@@ -1,7 +1,8 @@
 -- A run so far beside its log, and how it ends.
-use Rattle.std.proofs.Common.{◌≡◌, ℕ, zero, suc, ◌+◌, ◌≤◌, List, [], ◌∷◌, ◌++◌, length, take, map, Option, Some, None, refl, sym, ap, ◌∙◌, subst, arith, length-append}
+use Rattle.std.proofs.Common.{◌≡◌, ℕ, zero, suc, ◌+◌, ◌-◌, ◌<◌, ◌≤◌, inl, inr, List, [], ◌∷◌, ◌++◌, length, take, map, Option, Some, None, refl, sym, ap, ◌∙◌, subst, arith, length-append, ⊎_elim}
 use Rattle.std.specs.Prelude.{IfSome}
 use Rattle.std.specs.Io.KnownBytes.{Appends}
+use Rattle.std.proofs.lemmas.Bool.{cases_lt}
 use Rattle.blocking_graph.specs.declared.edges.EdgeLine.{EdgeLine}
 use Rattle.log_laws.proofs.Good.{good}
 use Rattle.choice_rules.specs.Policy.{Rule}
@@ -17,7 +18,9 @@ use Rattle.log_laws.specs.One.{HasOneLog}
 use Rattle.log_laws.proofs.Starting.{one_log}
 use Rattle.resource_monitor.specs.Monitor.{MonitorState}
 use Rattle.run_course.specs.Starts.{IsAtStartBy}
-use Rattle.runner.specs.Answers.{IsEndAt, IsOfThread, CameTo, FellShort}
+use Rattle.runner.specs.Answers.{HasLog, IsEndAt, IsOfThread, CameTo, FellShort}
+use Rattle.runner.specs.HeldBack.{HeldBack, last_line}
+use Rattle.runner.proofs.Backs.{Sends, covers, few_bytes, held_at, held_done, last_on, sends_on, text_bytes}
 use Rattle.run_course.specs.declared.ends.Halt.{Halt}
 use Rattle.cap_word.specs.declared.stops.Stop.{Stop}
 use Rattle.cap_word.specs.declared.threads.ThreadId.{ThreadId}
@@ -36,7 +39,7 @@ use Rattle.schedule_log.specs.declared.entries.Entry.{Entry}
 use Rattle.schedule_log.specs.declared.entries.StopLine.{StopLine}
 use Rattle.thread_core.specs.Worlds.{Held, IsThread}
 use Rattle.run_course.proofs.Acting.{acts_on}
-use Rattle.run_course.proofs.Joined.{grows_on, grows_none, part_on, whole_on}
+use Rattle.run_course.proofs.Joined.{grows_on, grows_none, whole_on}
 use Rattle.run_course.proofs.FitTexts.{fit_on, no_line, text_append}
 use Rattle.run_course.proofs.Parts.{no_acts, by_none}
 use Rattle.run_course.proofs.Started.{scoped, valid, starts, well, fuel_most}
@@ -98,43 +101,28 @@ told_bytes (Told left) (Some its) knows has = cc
 told_bytes (Made bytes) None knows has = tt
 told_bytes (Made bytes) (Some its) knows has = absurd (cc)
 
--- what holds of these bytes
-if_told : (P : List ℕ → Type 0) (left : Option (List ℕ)) (bytes : List ℕ) → IfSome left (λ its. its ≡ bytes) → P bytes → IfSome left P
-if_told P None bytes told p = tt
-if_told P (Some its) bytes told p = subst P (sym told) p
-
 -- ---- a run that fell short
 
 module _ (g : Setup) (first : Held) {rule : Rule} (monitor : MonitorState) (at : IsAtStartBy rule g first monitor) (sound : IsSound first.accepted) where
   good_on : (bytes : List ℕ) (entries : List Entry) (stop : StopLine) (end : World) → IsLawfulLog g bytes entries stop end → IsGoodLog g entries
   good_on bytes entries stop end lawful = good g bytes entries stop end (scoped g first monitor at sound) (valid g first monitor at sound) (well g first monitor at sound) (fuel_most g first monitor at sound) lawful
 
-  -- a part of a log was written
-  pub fell_at : (left taken written : Option (List ℕ)) (held : Held) (bytes : List ℕ) → IfSome left (λ its. its ≡ bytes) → (entries : List Entry) (stop : StopLine) (end : World) → IsLawfulLog g bytes entries stop end → (count : ℕ) → count ≤ length (log_text entries) →
-      Appends taken written (take count (log_text entries)) → ActsTo (setting_of g) first.machine held.machine → stretches.IsSound (checked_of g) held.machine → IsOnRun g bytes first.machine entries held.machine → FellShort g held left taken written
-  fell_at left taken written held bytes told entries stop end lawful count part writes acts sound_now on_run =
-      let good_now = good_on bytes entries stop end lawful in
-      record {
-        entries = entries;
-        stop = stop;
-        end = end;
-        lawful = if_told (λ b. IsLawfulLog g b entries stop end) left bytes told lawful;
-        good = if_told (λ b. IsGoodLog g entries) left bytes told good_now;
-        bytes = bytes;
-        told = told;
-        lawful_of = lawful;
-        good_of = good_now;
-        count = count;
-        part = part;
-        writes = writes;
-        start = first.machine;
-        starts = starts g first monitor at sound;
-        actions = acts.actions;
-        machine = acts.leads;
-        sound = sound_now;
-        on_run = if_told (λ b. IsOnRun g b first.machine entries held.machine) left bytes told on_run;
-        on_run_of = on_run;
-      }
+  -- the log of a run that stops in a world, beside another of the run
+  abbrev log_at : (left : Option (List ℕ)) (held : Held) (bytes : List ℕ) → IfSome left (λ its. its ≡ bytes) → (entries : List Entry) (stop : StopLine) (end : World) → IsLawfulLog g bytes entries stop end →
+      ActsTo (setting_of g) first.machine held.machine → stretches.IsSound (checked_of g) held.machine → HasLog g left end held.machine
+  log_at left held bytes told entries stop end lawful acts sound_now = record {
+    bytes = bytes;
+    told = told;
+    entries = entries;
+    stop = stop;
+    lawful = lawful;
+    good = good_on bytes entries stop end lawful;
+    start = first.machine;
+    starts = starts g first monitor at sound;
+    actions = acts.actions;
+    machine = acts.leads;
+    sound = sound_now;
+  }
 
   longer : (a rest whole : List Entry) (count : ℕ) → whole ≡ a ++ rest → count ≤ length (log_text a) → count ≤ length (log_text whole)
   longer a rest whole count e part =
@@ -147,14 +135,22 @@ module _ (g : Setup) (first : Held) {rule : Rule} (monitor : MonitorState) (at :
 
   -- a part of entries was written that are allowed from the start: they begin the lawful log
   pub fell_leads : (left taken written : Option (List ℕ)) (held : Held) (bytes : List ℕ) → IfSome left (λ its. its ≡ bytes) → (state : State) (entries : List Entry) → Leads g (start_of g bytes first.machine) entries state → (count : ℕ) → count ≤ length (log_text entries) →
-      Appends taken written (take count (log_text entries)) → ActsTo (setting_of g) first.machine held.machine → IsOnWay (setting_of g) state.machine held.machine → HasTicked state.machine held.machine → stretches.IsSound (checked_of g) held.machine →
-      FellShort g held left taken written
-  fell_leads left taken written held b told state entries leads count part writes acts way ticked in_place =
+      length (log_text entries) ≤ count + (4096 + last_line entries) → Appends taken written (take count (log_text entries)) → ActsTo (setting_of g) first.machine held.machine → IsOnWay (setting_of g) state.machine held.machine → HasTicked state.machine held.machine →
+      stretches.IsSound (checked_of g) held.machine → FellShort g held left taken written
+  fell_leads left taken written held b told state entries leads count part most writes acts way ticked in_place =
       let whole : HasOneLog g b = one_log g (scoped g first monitor at sound) (valid g first monitor at sound) (well g first monitor at sound) (fuel_most g first monitor at sound) b in
       let rest = begins_each g b first.machine entries whole.entries state whole.stop whole.end (starts g first monitor at sound) leads whole.lawful in
-      fell_at left taken written held b told whole.entries whole.stop whole.end whole.lawful count (longer entries rest.0 whole.entries count rest.1 part)
-      (subst (λ (l : List ℕ). Appends taken written l) (sym (begins entries rest.0 whole.entries count rest.1 part)) writes) acts in_place
-      (record { done = entries; rest = rest.0; joined = rest.1; state = state; leads = leads; way = way; clock = ticked })
+      let back = held_done entries rest.0 whole.entries count rest.1 part most in
+      record {
+        end = whole.end;
+        log = log_at left held b told whole.entries whole.stop whole.end whole.lawful acts in_place;
+        count = count;
+        part = longer entries rest.0 whole.entries count rest.1 part;
+        writes = subst (λ (l : List ℕ). Appends taken written l) (sym (begins entries rest.0 whole.entries count rest.1 part)) writes;
+        on_run = record { done = entries; rest = rest.0; joined = rest.1; state = state; leads = leads; way = way; clock = ticked };
+        back = back.0;
+        at_end = inl back.1;
+      }
 
 -- ---- a run so far
 
@@ -199,11 +195,28 @@ module _ (g : Setup) (first : Held) (left_first taken_first : Option (List ℕ))
   }
 
   -- what the sink took of what is held and of the text of more entries, from the start
-  part_from : (last : Option (List ℕ)) (more : List Entry) → TakesPrefix now.taken last (now.held ++ log_text more) → TakesPrefix taken_first last (log_text (so_far.entries ++ more))
-  part_from last more part = subst (λ (l : List ℕ). TakesPrefix taken_first last l) (sym (text_append so_far.entries more)) (part_on (unheld taken_first) now last (log_text so_far.entries) (log_text more) so_far.writes part)
+  sends_from : (last : Option (List ℕ)) (more : List Entry) (part : TakesPrefix now.taken last (now.held ++ log_text more)) → Sends taken_first last (log_text (so_far.entries ++ more)) part.0 (length (now.held ++ log_text more))
+  sends_from last more part = subst (λ (l : List ℕ). Sends taken_first last l part.0 (length (now.held ++ log_text more))) (sym (text_append so_far.entries more))
+      (sends_on taken_first now.taken last now.held (log_text so_far.entries) (log_text more) part.0 so_far.writes.whole so_far.writes.part part.1 part.2)
+
+  -- no more is held than the buffer has room for
+  buffered_now : length now.held ≤ 4096
+  buffered_now = so_far.writes.buffered (omega arith)
+
+  held_bytes : (more : List Entry) → length (now.held ++ log_text more) ≡ length now.held + length (log_text more)
+  held_bytes more = length-append now.held (log_text more)
 
   whole_from : (last : Option (List ℕ)) (more : List Entry) → Appends now.taken last (now.held ++ log_text more) → Appends taken_first last (log_text (so_far.entries ++ more))
   whole_from last more whole = subst (λ (l : List ℕ). Appends taken_first last l) (sym (text_append so_far.entries more)) (whole_on (unheld taken_first) now last (log_text so_far.entries) (log_text more) so_far.writes whole)
+
+  -- of the entries so far and at most one more all was written but what the buffer has room for and a line
+  few_held : (more : List Entry) (count sent : ℕ) → length more ≤ 1 → length (log_text (so_far.entries ++ more)) + sent ≤ count + length (now.held ++ log_text more) → length (log_text (so_far.entries ++ more)) ≤ count + (4096 + last_line (so_far.entries ++ more))
+  few_held more count sent few left =
+      let held = buffered_now in
+      let size = held_bytes more in
+      let line = few_bytes more few in
+      let last = last_on so_far.entries more in
+      omega (arith, left, held, size, line, last)
 
   -- ---- its end
 
@@ -217,10 +230,10 @@ module _ (g : Setup) (first : Held) (left_first taken_first : Option (List ℕ))
     -- a step fails
     pub fails_now : (after : Held) (then_ : Output) → FailsIn g so_far.state left after now then_ → FellShort g after left_first taken_first then_.taken
     fails_now after then_ fails =
-        let part = part_from then_.taken fails.entries fails.writes in
+        let sends = sends_from then_.taken fails.entries fails.writes in
         fell_leads g first monitor at sound left_first taken_first then_.taken after its_bytes told_first fails.new (so_far.entries ++ fails.entries)
         (leads_append g (start_of g its_bytes first.machine) so_far.state fails.new so_far.entries fails.entries (so_far.leads has) (fails.leads has))
-        part.0 part.1 part.2 (acts_on (setting_of g) first.machine so_far.state.machine after.machine so_far.acts fails.acts) fails.way fails.clock fails.sound
+        sends.count sends.inside (few_held fails.entries sends.count fails.writes.0 fails.few sends.left) sends.writes (acts_on (setting_of g) first.machine so_far.state.machine after.machine so_far.acts fails.acts) fails.way fails.clock fails.sound
 
     -- it stops
     module _ (halt : Halt) (new : Kept) (after : Held) (mid : Output) (halts : HaltsAt g so_far.state left new after halt now mid) where
@@ -241,10 +254,7 @@ module _ (g : Setup) (first : Held) (left_first taken_first : Option (List ℕ))
         entries_are = refl;
       }
 
-      good_now : IsGoodLog g whole
-      good_now = good_on g first monitor at sound its_bytes whole stop after.machine lawful
-
-      on_run : IsOnRun g its_bytes first.machine whole after.machine
+      abbrev on_run : IsOnRun g its_bytes first.machine whole after.machine
       on_run = record { done = so_far.entries; rest = ending g so_far.state stop; joined = refl; state = so_far.state; leads = so_far.leads has; way = halts.way; clock = halts.clock }
 
       end_is : log_text (end_lines after.setting.caps new.graph.edges stop) ≡ log_text (ending g so_far.state stop)
@@ -253,32 +263,52 @@ module _ (g : Setup) (first : Held) (left_first taken_first : Option (List ℕ))
       acted : ActsTo (setting_of g) first.machine after.machine
       acted = acts_on (setting_of g) first.machine so_far.state.machine after.machine so_far.acts halts.acts
 
+      abbrev log_now : HasLog g left_first after.machine after.machine
+      log_now = log_at g first monitor at sound left_first after its_bytes told_first whole stop after.machine lawful acted halts.sound
+
       pub comes_to : (written : Option (List ℕ)) → Appends mid.taken written (mid.held ++ log_text (end_lines after.setting.caps new.graph.edges stop)) → IsFitText (log_text (end_lines after.setting.caps new.graph.edges stop)) →
           CameTo g after left_first taken_first written (halt_end halt)
       comes_to written puts fits = record {
-        entries = whole;
-        stop = stop;
-        lawful = if_told (λ b. IsLawfulLog g b whole stop after.machine) left_first its_bytes told_first lawful;
-        good = if_told (λ b. IsGoodLog g whole) left_first its_bytes told_first good_now;
-        bytes = its_bytes;
-        told = told_first;
-        lawful_of = lawful;
-        good_of = good_now;
+        log = log_now;
         end_is = end_at halt (free_count after.machine.areas.pool);
         thread = thread_at after halt halts.thread;
         writes = whole_from written (ending g so_far.state stop)
             (subst (λ (l : List ℕ). Appends now.taken written (now.held ++ l)) end_is (subst (λ (o : Output). Appends o.taken written (o.held ++ log_text (end_lines after.setting.caps new.graph.edges stop))) halts.writes puts));
         fits = subst IsFitText (sym (text_append so_far.entries (ending g so_far.state stop)))
             (fit_on (log_text so_far.entries) (log_text (ending g so_far.state stop)) so_far.writes.fits (subst IsFitText end_is fits));
-        start = first.machine;
-        starts = starts g first monitor at sound;
-        actions = acted.actions;
-        machine = acted.leads;
-        sound = halts.sound;
       }
+
+      -- what was put is the entries so far, or some of the end too
+      back_by : (count : ℕ) → count ≤ length (log_text whole) → length (log_text so_far.entries) ≤ count + 4096 → HeldBack so_far.entries (ending g so_far.state stop) (take count (log_text whole))
+      back_by count part most =
+          let size = text_bytes so_far.entries (ending g so_far.state stop) in
+          ⊎_elim
+          (λ (beyond : length (log_text so_far.entries) < count).
+          let c = covers (ending g so_far.state stop) (count - length (log_text so_far.entries)) (omega (arith, size, part, beyond)) in
+          let both = text_bytes so_far.entries c.more in
+          let reach = c.reach in
+          let least = c.most in
+          let last = last_on so_far.entries c.more in
+          (held_at so_far.entries c.more c.later (ending g so_far.state stop) whole count refl c.lines_are (omega (arith, both, reach)) (omega (arith, both, least, beyond, last))).0)
+          (λ (within : count ≤ length (log_text so_far.entries)). (held_done so_far.entries (ending g so_far.state stop) whole count refl within (omega (arith, most))).0)
+          (cases_lt (length (log_text so_far.entries)) count)
 
       pub stops_short : (written : Option (List ℕ)) → TakesPrefix mid.taken written (mid.held ++ log_text (end_lines after.setting.caps new.graph.edges stop)) → FellShort g after left_first taken_first written
       stops_short written puts =
-          let part = part_from written (ending g so_far.state stop)
-          (subst (λ (l : List ℕ). TakesPrefix now.taken written (now.held ++ l)) end_is (subst (λ (o : Output). TakesPrefix o.taken written (o.held ++ log_text (end_lines after.setting.caps new.graph.edges stop))) halts.writes puts)) in
-          fell_at g first monitor at sound left_first taken_first written after its_bytes told_first whole stop after.machine lawful part.0 part.1 part.2 acted halts.sound on_run
+          let part : TakesPrefix now.taken written (now.held ++ log_text (ending g so_far.state stop)) =
+          subst (λ (l : List ℕ). TakesPrefix now.taken written (now.held ++ l)) end_is (subst (λ (o : Output). TakesPrefix o.taken written (o.held ++ log_text (end_lines after.setting.caps new.graph.edges stop))) halts.writes puts) in
+          let sends = sends_from written (ending g so_far.state stop) part in
+          let left = sends.left in
+          let held = buffered_now in
+          let size = held_bytes (ending g so_far.state stop) in
+          let both = text_bytes so_far.entries (ending g so_far.state stop) in
+          record {
+            end = after.machine;
+            log = log_now;
+            count = sends.count;
+            part = sends.inside;
+            writes = sends.writes;
+            on_run = on_run;
+            back = back_by sends.count sends.inside (omega (arith, left, held, size, both));
+            at_end = inr (refl, refl);
+          }

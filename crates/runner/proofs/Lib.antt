@@ -1,3 +1,4 @@
+pub mod Backs
 pub mod Waited
 pub mod Waking
 pub mod Following

@@ -114,6 +114,7 @@ from_before g state before here k held left taken written (Err failure) told is 
   new = is.new;
   entries = is.entries;
   leads = λ t. is.leads (told t);
+  few = is.few;
   writes = is.writes;
   acts = is.acts;
   way = is.way;

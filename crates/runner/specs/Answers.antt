@@ -1,10 +1,10 @@
 -- What a run answers.
-use Rattle.std.specs.Prelude.{ℕ, ◌≡◌, ◌≤◌, List, length, take, Option, IfSome, Some}
+use Rattle.std.specs.Prelude.{ℕ, ◌≡◌, ◌≤◌, ◌⊎◌, List, [], length, take, Option, IfSome, Some}
 use Rattle.std.specs.Io.KnownBytes.{Appends}
 use Rattle.cap_word.specs.declared.stops.Stop.TheVariants as cut
 use Rattle.cap_word.specs.declared.threads.ThreadId.{ThreadId}
 use Rattle.lawful_log.specs.Good.{IsGoodLog, checked_of}
-use Rattle.lawful_log.specs.Lawful.{IsLawfulLog}
+use Rattle.lawful_log.specs.Lawful.{IsLawfulLog, ending}
 use Rattle.lawful_log.specs.Setup.{Setup, setting_of, start_machine}
 use Rattle.machine_world.specs.Runs.{Action, after_actions}
 use Rattle.machine_world.specs.Stretches.{IsSound}
@@ -16,6 +16,7 @@ use Rattle.thread_core.specs.Worlds.{Held, IsThread}
 use Rattle.run_course.specs.Counts.{HasRisen}
 use Rattle.run_course.specs.Output.{IsFitText}
 use Rattle.run_course.specs.Ways.{IsOnRun}
+use Rattle.runner.specs.HeldBack.{HeldBack}
 use Rattle.runner.specs.declared.ends.RunEnd.{RunEnd}
 use Rattle.runner.specs.declared.ends.RunEnd.TheVariants as end
 
@@ -37,54 +38,42 @@ IsOfThread after (end.Fuel thread) = IsThread after thread
 IsOfThread after (end.Threads thread) = IsThread after thread
 IsOfThread after answer = Unit {0}
 
--- a run that came to its stop: the whole of its log was written, the log is good, and the world is as it was at the stop; some
--- actions lead from its start to it, and in it every live thread is in place and the chunks are partitioned. Of a trace that
--- doesn't tell its bytes that is so for some bytes: it could have had them. Each line of what was written is read back as an
--- entry: it is the text of entries that fit their types.
-pub record CameTo (g : Setup) (after : Held) (left taken taken' : Option (List ℕ)) (answer : RunEnd) : Type 0 where
-  pub entries : List Entry
-  pub stop : StopLine
-  pub lawful : IfSome left (λ bytes. IsLawfulLog g bytes entries stop after.machine)
-  pub good : IfSome left (λ bytes. IsGoodLog g entries)
-  -- the log is lawful on these bytes, which are the trace's own where it tells them
+-- The log of a run that stops in the world `end`, beside a world of the run. The log is lawful and good. Some actions lead from
+-- the run's start to the world, in which every live thread is in place and the chunks are partitioned. The trace has these bytes
+-- where it tells its bytes; where it doesn't, it could have had them.
+pub record HasLog (g : Setup) (left : Option (List ℕ)) (end world : World) : Type 0 where
   pub bytes : List ℕ
   pub told : IfSome left (λ its. its ≡ bytes)
-  pub lawful_of : IsLawfulLog g bytes entries stop after.machine
-  pub good_of : IsGoodLog g entries
-  pub end_is : IsEndAt stop answer
-  pub thread : IsOfThread after answer
-  pub writes : Appends taken taken' (log_text entries)
-  pub fits : IsFitText (log_text entries)
+  pub entries : List Entry
+  pub stop : StopLine
+  pub lawful : IsLawfulLog g bytes entries stop end
+  pub good : IsGoodLog g entries
   pub start : World
   pub starts : start_machine g ≡ Some start
   pub actions : List Action
-  pub machine : after_actions (setting_of g) actions start ≡ Some after.machine
-  pub sound : IsSound (checked_of g) after.machine
+  pub machine : after_actions (setting_of g) actions start ≡ Some world
+  pub sound : IsSound (checked_of g) world
 
--- a run that could not go on: a beginning of its log was written, the whole of which is good, and the world is on that log's
--- run; some actions lead from its start to it, and it is sound too. Of a trace that doesn't tell its bytes that is so for some
--- bytes: it could have had them.
+-- A run that came to its stop: the whole of its log was written, and the world is as it was at the stop. Each line of what was
+-- written is read back as an entry: it is the text of entries that fit their types.
+pub record CameTo (g : Setup) (after : Held) (left taken taken' : Option (List ℕ)) (answer : RunEnd) : Type 0 where
+  pub log : HasLog g left after.machine after.machine
+  pub end_is : IsEndAt log.stop answer
+  pub thread : IsOfThread after answer
+  pub writes : Appends taken taken' (log_text log.entries)
+  pub fits : IsFitText (log_text log.entries)
+
+-- A run that could not go on: a prefix of its log was written, and the world is on that log's run. What was put is the text of
+-- the entries done; only where the run has come to its stop, lines of the log's end may have been put too.
 pub record FellShort (g : Setup) (after : Held) (left taken taken' : Option (List ℕ)) : Type 0 where
-  pub entries : List Entry
-  pub stop : StopLine
   pub end : World
-  pub lawful : IfSome left (λ bytes. IsLawfulLog g bytes entries stop end)
-  pub good : IfSome left (λ bytes. IsGoodLog g entries)
-  -- the whole of the log is lawful on these bytes, which are the trace's own where it tells them
-  pub bytes : List ℕ
-  pub told : IfSome left (λ its. its ≡ bytes)
-  pub lawful_of : IsLawfulLog g bytes entries stop end
-  pub good_of : IsGoodLog g entries
+  pub log : HasLog g left end after.machine
   pub count : ℕ
-  pub part : count ≤ length (log_text entries)
-  pub writes : Appends taken taken' (take count (log_text entries))
-  pub start : World
-  pub starts : start_machine g ≡ Some start
-  pub actions : List Action
-  pub machine : after_actions (setting_of g) actions start ≡ Some after.machine
-  pub sound : IsSound (checked_of g) after.machine
-  pub on_run : IfSome left (λ bytes. IsOnRun g bytes start entries after.machine)
-  pub on_run_of : IsOnRun g bytes start entries after.machine
+  pub part : count ≤ length (log_text log.entries)
+  pub writes : Appends taken taken' (take count (log_text log.entries))
+  pub on_run : IsOnRun g log.bytes log.start log.entries after.machine
+  pub back : HeldBack on_run.done on_run.rest (take count (log_text log.entries))
+  pub at_end : (back.more ≡ []) ⊎ ((end ≡ after.machine) × (on_run.rest ≡ ending g on_run.state log.stop))
 
 abbrev pub IsRunEnd : Setup → (after : Held) → (left taken taken' : Option (List ℕ)) → (reads reads' writes writes' : ℕ) → RunEnd → Type 0
 IsRunEnd g after left taken taken' reads reads' writes writes' end.ReadFault = FellShort g after left taken taken' × HasRisen reads reads' × (writes' ≡ writes)

@@ -1,3 +1,4 @@
 pub mod Ends
 pub mod Answers
 pub mod Waits
+pub mod HeldBack

@@ -30,6 +30,9 @@ pub enum RunEnd {
     Memory,
 }
 
+/// How a run by strides ended: as one by the graph.
+pub type StrideEnd = RunEnd;
+
 /// The end of a run that stops here.
 pub(crate) fn end_of(halt: Halt) -> RunEnd
     ensures { result ≡ halt_end halt }

@@ -13,5 +13,5 @@ mod running;
 mod stepping;
 mod waiting;
 
-pub use ends::RunEnd;
+pub use ends::{RunEnd, StrideEnd};
 pub use running::{run, run_stride};

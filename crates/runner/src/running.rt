@@ -8,7 +8,7 @@ ghost use Rattle.run_course.specs.Rules.{HasNothing, rule_of};
 ghost use Rattle.stride_rule.specs.State.{new_rule};
 
 use crate::closing::write_end;
-use crate::ends::{RunEnd, end_of, failed_end};
+use crate::ends::{RunEnd, StrideEnd, end_of, failed_end};
 use crate::stepping::step;
 use cap_io::{Sink, Source};
 use resource_monitor::{Measure, Monitor};
@@ -36,7 +36,8 @@ use thread_core::World;
 /// - `Memory` where there was no memory for what is kept, or in the sink.
 ///
 /// At the first seven the log is written whole, and the world is as it was at the stop. At the last three a beginning of the
-/// log is written, and the world is one of those that its run comes through.
+/// log is written: of the lines of what was done all but at most the buffer's 4,096 bytes and a line. The world is one of those
+/// that the log's run comes through.
 pub fn run<S: Source, K: Sink, C: Measure + Drop>(
     alloc: Global,
     world: &mut World,
@@ -64,7 +65,7 @@ pub fn run_stride<S: Source, K: Sink, C: Measure + Drop>(
     monitor: Monitor<C>,
     trace: &mut S,
     out: &mut K,
-) -> RunEnd
+) -> StrideEnd
     requires start { (g : Setup) × IsAtStartBy (by_stride rule.tickets) g world.old monitor }
     requires fresh { rule ≡ new_rule rule.tickets }
     ensures answer { (g : Setup) → IsAtStartBy (by_stride rule.tickets) g world.old monitor →
