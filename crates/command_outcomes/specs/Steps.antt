@@ -1,16 +1,14 @@
 -- What the steps of a command answer, by what is due.
-use Rattle.std.specs.Prelude.{ℕ, ◌≡◌, ◌≤◌, ◌⊎◌, List, [], length, Option, IfSome, Some, None, Result, Ok, Err}
-use Rattle.std.specs.Global.{Vec}
+use Rattle.std.specs.Prelude.{ℕ, ◌≡◌, ◌⊎◌, List, [], Option, None, Result, Ok, Err}
 use Rattle.std.specs.Io.KnownBytes.{Appends}
 use Rattle.cap_io.specs.Faults.{Rose}
 use Rattle.cap_io.specs.Files.{Files, KeepsFiles}
-use Rattle.command_outcomes.specs.declared.documents.Document.{Document}
 use Rattle.command_outcomes.specs.declared.stops.Stop.{Stop}
 use Rattle.command_outcomes.specs.declared.stops.Stop.TheVariants.{Refused, Failed}
 use Rattle.command_outcomes.specs.declared.faults.Fault.{Fault}
 use Rattle.command_outcomes.specs.declared.faults.Fault.TheVariants.{Read, Write, Memory}
-use Rattle.command_outcomes.specs.Outcome.{Outcome, NoMore}
-use Rattle.command_outcomes.specs.CauseLines.{most_bytes, refusal}
+use Rattle.command_outcomes.specs.Outcome.{Outcome}
+use Rattle.command_outcomes.specs.CauseLines.{refusal}
 use Rattle.command_outcomes.specs.Done.{Outside, WhereTold, AreStored, AreCutShort, IsRisen, IsDone, IsTold}
 use Rattle.command_outcomes.specs.Prefixes.{TakesPrefix}
 use Rattle.command_outcomes.specs.FaultLines.{fault_status, fault_line}

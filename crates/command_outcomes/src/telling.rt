@@ -1,5 +1,5 @@
 // What sinks take of a text and of a line.
-ghost use Rattle.std.specs.Prelude.{◌≡◌, ◌≢◌, []};
+ghost use Rattle.std.specs.Prelude.{◌≢◌, []};
 ghost use Rattle.command_outcomes.specs.Done.{IsTold};
 ghost use Rattle.command_outcomes.specs.Steps.{IsPrinted};
 
