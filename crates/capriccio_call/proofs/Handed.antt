@@ -9,6 +9,6 @@ use Rattle.capriccio_commands.specs.Ends.{IsEnd, IsLast}
 use Rattle.capriccio_call.specs.Handing.{without_world}
 
 pub ends-without : (due : Outcome → Type 0) (before after : Outside) (r : Result ℕ Stop) → EndsAs IsStatus due before after r → EndsAs IsEnd due before after (without_world r)
-ends-without due before after (Ok status) h = (h.0, h.1, h.2, h.3, subst (λ (ran : Option Ran). IsLast ran None) (sym h.4) tt)
+ends-without due before after (Ok status) h = (h.0, h.1, (h.2.0, h.2.1, subst (λ (ran : Option Ran). IsLast ran None) (sym h.2.2) tt))
 ends-without due before after (Err (Refused cause)) h = h
 ends-without due before after (Err (Failed fault)) h = h

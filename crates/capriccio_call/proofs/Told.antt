@@ -47,7 +47,7 @@ pub told-done : (due : Outside → Outcome → Type 0) (before after : Outside) 
     IsAnswerOf due before after old new faults faults' last given.status
 told-done due before after given last old new faults faults' exact h handed kept same =
     let told = inl (refl, append-nothing old new kept, same) in
-    (Ok h.0, h.1, exact (Ok h.0) h.1, told-again given.status h.0 old new faults faults' given.status h.2 h.3 told, subst (λ (world : Option Held). IsLast h.0.last world) (sym handed) h.4)
+    (Ok h.0, h.1, exact (Ok h.0) h.1, told-again given.status h.0 old new faults faults' given.status h.2.0 h.2.1 told, subst (λ (world : Option Held). IsLast h.0.last world) (sym handed) h.2.2)
 
 nothing-handed : (last : Option Held) → last ≡ None → IsLast None last
 nothing-handed last none = subst (λ (world : Option Held). IsLast None world) (sym none) tt

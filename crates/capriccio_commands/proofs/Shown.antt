@@ -98,7 +98,7 @@ served trace trace' g log ended h =
     let e = h None None 0 0 0 0 tt refl refl in
     let done = e.1 in
     let whole = done.1 in
-    record { outcome = e.0; is_due = done.0; status = e.2; last = e.4; log_is = whole.out }
+    record { outcome = e.0; is_due = done.0; status = e.2.0; last = e.2.2; log_is = whole.out }
 
 pub served-world : (trace : Option (List ℕ)) (g : Setup) (log : List ℕ) (ended : Ended) → IsServed (RunsOn trace g) log ended → (world : Held) × (ended.last ≡ Some world)
 served-world trace g log ended h =
@@ -197,9 +197,7 @@ shown-told due before after shown status is files left loads stores reads h =
     let out = subst (λ (text : List ℕ). Appends before.taken after.taken text) (sym is.text) h.1 in (
       is.outcome,
       (is.is_due, record { files = kept; trace = trace; out = out }, record { loads = loads; stores = stores; reads = reads; writes = h.2 }),
-      is.status ∙ sym h.0,
-      is.line,
-      is.last,
+      (is.status ∙ sym h.0, is.line, is.last),
     )
 
 pub shown-cut : (due : Outcome → Type 0) (before after : Outside) (shown : Shown) (stop : Stop) → IsShown due shown → KeepsFiles before.files after.files → Keeps before.left after.left → after.loads ≡ before.loads → after.stores ≡ before.stores → after.reads ≡ before.reads →

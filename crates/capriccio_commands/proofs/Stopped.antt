@@ -65,7 +65,7 @@ at-stop g before after held answer r ok files loads stores of came reads writes 
     let due : RunsOn before.left g outcome = (ok, came.entries, came.stop, held.machine, is-run g before.left came.entries came.stop held.machine came.lawful came.good, refl, is-run-of-some g before.left came.bytes came.told came.entries came.stop held.machine came.lawful_of came.good_of) in
     let whole : IsWhole outcome before after = record { files = kept-are-stored before.files after.files files; trace = tt; out = came.writes } in
     let none : NoneCounted before after = record { loads = loads; stores = stores; reads = reads; writes = writes } in
-    let ends : EndsAs IsEnd (RunsOn before.left g) before after (Ok given) = (outcome, (due, whole, none), end-is came.stop answer came.end_is, refl, of (record { start = came.start; starts = came.starts; actions = came.actions; leads = came.machine }) came.sound) in
+    let ends : EndsAs IsEnd (RunsOn before.left g) before after (Ok given) = (outcome, (due, whole, none), (end-is came.stop answer came.end_is, refl, of (record { start = came.start; starts = came.starts; actions = came.actions; leads = came.machine }) came.sound)) in
     subst (λ (a : Result Ended Stop). EndsAs IsEnd (RunsOn before.left g) before after a) (sym is) ends
 
 -- what was written of a run that could not go on is a beginning of what is due

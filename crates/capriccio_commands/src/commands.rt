@@ -96,8 +96,8 @@ pub fn demo<K: Sink>(alloc: Global, out: &mut K, number: u32) -> Result<Ended, S
         world,
     } = show_workload(alloc, number)?;
     match print(out, text.as_slice(), status) {
-        Ok(status) => Ok(Ended {
-            status,
+        Ok(told) => Ok(Ended {
+            status: told,
             last: Some(world),
         }),
         Err(stop) => {

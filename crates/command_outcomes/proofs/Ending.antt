@@ -89,7 +89,7 @@ stopped-reading hands_on due before after Memory reads files taken loads stores 
 pub printed-ends : (due : Outcome → Type 0) (before after : Outside) (o : Outcome) (r : Result ℕ Stop) → due o → o.line ≡ [] → o.last ≡ None → IsTraceLeft o.reads_trace before.left after.left → WhereTold (AreStored o.stores) before.files after.files → after.loads ≡ before.loads → after.stores ≡ before.stores → after.reads ≡ before.reads →
     IsPrinted o.status o.out before.taken after.taken before.writes after.writes r → EndsAs IsStatus due before after r
 printed-ends due before after o (Ok given) is line none trace files loads stores reads h =
-    (o, (is, record { files = files; trace = trace; out = h.1 }, record { loads = loads; stores = stores; reads = reads; writes = h.2 }), sym h.0, line, none)
+    (o, (is, record { files = files; trace = trace; out = h.1 }, record { loads = loads; stores = stores; reads = reads; writes = h.2 }), (sym h.0, line, none))
 printed-ends due before after o (Err (Refused cause)) is line none trace files loads stores reads h = absurd h
 printed-ends due before after o (Err (Failed Read)) is line none trace files loads stores reads h = absurd h
 printed-ends due before after o (Err (Failed Write)) is line none trace files loads stores reads h =

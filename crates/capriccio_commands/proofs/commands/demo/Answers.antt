@@ -19,8 +19,8 @@ returns-in-Ok g c = λ files loads stores left reads.
     let K = g.K.Sink in let a = c.args in let shown = c.in_ok-status.field-0 in
     let before : Outside = record { files = files; loads = loads; stores = stores; left = left; reads = reads; taken = K.taken a.out.now; writes = K.faults a.out.now } in
     let after : Outside = record { files = files; loads = loads; stores = stores; left = left; reads = reads; taken = K.taken c.print.new.out; writes = K.faults c.print.new.out } in
-    let printed = subst (λ (text : List ℕ). IsPrinted shown.status text before.taken after.taken before.writes after.writes (Ok c.in-Ok.status)) c.as_slice.ensures.value c.in-Ok.ensures in
-    shown-told (Demos a.number) before after shown c.in-Ok.status c.in_ok-status.ensures (files-keep files) (keeps-itself left) refl refl refl printed
+    let printed = subst (λ (text : List ℕ). IsPrinted shown.status text before.taken after.taken before.writes after.writes (Ok c.in-Ok.told)) c.as_slice.ensures.value c.in-Ok.ensures in
+    shown-told (Demos a.number) before after shown c.in-Ok.told c.in_ok-status.ensures (files-keep files) (keeps-itself left) refl refl refl printed
 
 pub returns : goal.returns
 returns g c = λ files loads stores left reads.
