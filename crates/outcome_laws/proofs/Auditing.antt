@@ -15,7 +15,7 @@ use Rattle.command_outcomes.specs.Outcome.{Outcome}
 use Rattle.command_audit.specs.Audits.{Audits, AuditsBytes, AuditsProgram, judged_outcome, reading_of}
 use Rattle.command_audit.specs.declared.judgements.Judgement.TheVariants as judgement
 use Rattle.log_verdicts.specs.Verdicts.{IsVerdict}
-use Rattle.capriccio_commands.specs.Due.{IsDue}
+use Rattle.capriccio_call.specs.Due.{IsDue}
 use Rattle.log_verdicts.specs.declared.verdicts.Verdict.{Verdict}
 use Rattle.log_verdicts.proofs.Found.{some_verdict}
 use Rattle.outcome_laws.proofs.Loading.{Some_due, source_due}
