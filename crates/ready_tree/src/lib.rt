@@ -19,5 +19,5 @@ mod ready_tree;
 pub use bounded::Bounded;
 pub use bounds::Bounds;
 pub use entries::Entry;
-pub use needs::Need;
+pub use needs::{Need, Needs};
 pub use ready_tree::ReadyTree;

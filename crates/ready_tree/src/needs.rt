@@ -24,7 +24,7 @@ impl Need {
 
 /// What some of several threads wait for.
 #[derive(Clone, Copy)]
-pub(crate) struct Needs {
+pub struct Needs {
     /// Whether one waits for nothing.
     pub nothing: bool,
     /// Whether one waits for an arrival.
