@@ -1,5 +1,6 @@
 pub mod OrderLemmas
 pub mod ClientLemmas
+pub mod RowLemmas
 pub mod SearchLemmas
 pub mod SpreadLemmas
 pub mod StateLemmas

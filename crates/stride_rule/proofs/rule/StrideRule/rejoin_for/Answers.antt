@@ -1,0 +1,22 @@
+use Rattle.std.proofs.Common.{subst, sym}
+use Rattle.stride_rule.specs.State.{IsKept}
+use Rattle.stride_rule.proofs.StateLemmas.{as_told, kept_after_segment_for}
+use Rattle.stride_rule.proofs.rule.StrideRule.rejoin_for.Goals as goal
+
+pub tell-requires : goal.tell-requires
+tell-requires c = record {
+  once = c.self.invariant.once;
+  there = (c.self.invariant.there c.args.thread.number (rw (← c.self.view_is) at c.requires));
+}
+
+pub invariant_of-self : goal.invariant_of-self
+invariant_of-self c =
+    let clients = c.tell.ensures.clients in
+    let needs = c.tell.ensures.needs in
+    subst IsKept (sym (as_told _ c.self.invariant c.args.thread.number c.args.need _ _ clients needs)) (kept_after_segment_for _ c.args.thread.number c.args.need c.self.invariant)
+
+pub returns : goal.returns
+returns c =
+    let clients = c.tell.ensures.clients in
+    let needs = c.tell.ensures.needs in
+    rw (← c.self.view_is) (as_told _ c.self.invariant c.args.thread.number c.args.need _ _ clients needs)
