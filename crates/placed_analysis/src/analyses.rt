@@ -27,7 +27,7 @@ pub fn put_analysis(
     }
 }
 
-/// Appends the place of the line `function I ..`, and the call of the line `site S CALLER KIND`.
+/// Appends the place of the line `function I ..`, or the call of the line `site S CALLER KIND` with what there is to tell of it.
 fn put_note(
     alloc: Global,
     text: &mut Text,
@@ -37,19 +37,28 @@ fn put_note(
     max_path: u32,
 ) {
     let mut fields = Fields::new(line, b' ');
-    let (Some(kind), Some(number)) = (fields.next(), fields.count()) else {
-        return;
-    };
-    if kind == b"function".as_slice() {
-        text.words(": ");
-        places.put_function_place(text, number);
-        return;
-    }
-    let Ok(site) = u32::try_from(number) else {
+    let (Some(kind), Some(number)) = (fields.next(), fields.word()) else {
         return;
     };
     text.words(": ");
-    places.put_site_text(text, site);
+    if kind == b"function".as_slice() {
+        places.put_function_place(text, number)
+    } else {
+        places.put_site_text(text, number);
+        put_reason(alloc, text, places, functions, number, fields, max_path)
+    }
+}
+
+/// Appends what a call through a table may call, and why a site is checkpointed, of whose line these fields are left.
+fn put_reason(
+    alloc: Global,
+    text: &mut Text,
+    places: &Places,
+    functions: &[Measure],
+    site: u32,
+    mut fields: Fields,
+    max_path: u32,
+) {
     let Ok(callees) = places.callees(alloc, site) else {
         text.lack();
         return;

@@ -18,11 +18,13 @@ fn put_note(text: &mut Text, places: &Places, line: &[u8]) {
         return;
     };
     if kind == b"chunks".as_slice() {
-        text.words(": enough for each thread that lives")
-    } else if kind == b"height".as_slice() {
-        if let Some(number) = fields.count() {
-            text.words(": at most so many more chunks in ");
-            places.put_function_place(text, number)
-        }
+        text.words(": as many for each thread that lives are enough");
+        return;
+    }
+    if let Some(function) = fields.word() {
+        text.words(": ");
+        places.put_function(text, function);
+        text.words(" at ");
+        places.put_function_place(text, function)
     }
 }

@@ -66,6 +66,7 @@ pub fn put_parts(
     let mut parts = Parts::new(alloc, asked.request);
     let read = read_parts(alloc, &mut parts, log, accepts, asked);
     put_listed(alloc, text, places, parts.parts.as_slice(), asked);
+    put_rest(text, end_of(parts.parts.as_slice(), queued.taken), asked.until);
     drop(parts);
     read
 }
@@ -87,6 +88,25 @@ fn read_parts(
         }
     }
     Ok(())
+}
+
+/// The clock at which the last of these parts ends, of a request that was taken at that clock.
+fn end_of(parts: &[Part], taken: u64) -> u64 {
+    match parts.last() {
+        Some(Part::Runs { ended, .. }) => *ended,
+        Some(Part::Waits { until, .. }) => *until,
+        None => taken,
+    }
+}
+
+/// Appends the time from then to the last answer, where another thread put it.
+fn put_rest(text: &mut Text, end: u64, until: Option<u64>) {
+    if let Some(clock) = until {
+        if end < clock {
+            let ticks = clock.saturating_sub(end);
+            text.form("  until another thread answers: $, $\n", &[ticks, clock])
+        }
+    }
 }
 
 /// Whether the last of these parts ends with the last answer.

@@ -169,12 +169,12 @@ fn add_lines(alloc: Global, lines: &mut Vec<u64>, edges: &[GraphEdge]) -> Result
     let mut last: u64 = 0;
     for edge in edges {
         let arrow = arrow_of(edge);
-        let taken = if arrow.goes_down {
-            &mut right
+        let middle = arrow.middle() / LINE;
+        let line = if arrow.goes_down {
+            take_line(&mut right, middle)?
         } else {
-            &mut left
+            take_line(&mut left, middle)?
         };
-        let line = take_line(taken, arrow.middle() / LINE)?;
         lines.push(line)?;
         last = last.max(line);
     }

@@ -87,7 +87,7 @@ impl Rows {
         let first = self.place_of(begins);
         let last = self.place_of(ends);
         if first >= last {
-            let ticks = ends.saturating_sub(begins).max(1);
+            let ticks = shown_ticks(ends.saturating_sub(begins), doing);
             return self.share(thread, first, first, ticks, doing);
         }
         let second = self.clock_of(first.saturating_add(1));
@@ -120,6 +120,14 @@ impl Rows {
             row.push(mark_of(from, to, ticks, doing))?;
         }
         Ok(())
+    }
+}
+
+/// How many ticks are shown of so many: of a segment one at least, and of a wait that takes no time none.
+fn shown_ticks(ticks: u64, doing: Doing) -> u64 {
+    match doing {
+        Doing::Runs => ticks.max(1),
+        Doing::Waits { .. } => ticks,
     }
 }
 

@@ -159,16 +159,11 @@ impl<'a> Places<'a> {
         }
     }
 
-    /// Appends the name of the function of that number and its place: `worker at server.c:12:5`.
-    pub fn put_function_place(&self, text: &mut Text, function: u64) {
-        let number = usize::try_from(function).unwrap_or(usize::MAX);
-        match self.names.functions.as_slice().get(number) {
-            Some(at) => {
-                text.bytes(self.name_at(*at));
-                text.words(" at ");
-                self.put_line(text, *at)
-            }
-            None => text.form("function $", &[function]),
+    /// Appends the place of the function of that number: `server.c:12:5`.
+    pub fn put_function_place(&self, text: &mut Text, function: u32) {
+        match self.names.functions.as_slice().get(function as usize) {
+            Some(at) => self.put_line(text, *at),
+            None => text.form("function $", &[u64::from(function)]),
         }
     }
 
