@@ -18,7 +18,7 @@ fn put_note(text: &mut Text, places: &Places, line: &[u8]) {
         return;
     };
     if kind == b"chunks".as_slice() {
-        text.words(": as many for each thread that lives are enough");
+        text.words(": this many are enough for each live thread");
         return;
     }
     if let Some(function) = fields.word() {
