@@ -23,8 +23,8 @@ use report_lines::{
 };
 use report_text::Text;
 use run_history::{
-    Followed, Happening, HistoryError, Marks, Numbers, Pairing, Pairs, ReadError, Reading, Spawned, Spells,
-    Takes, Unasked, Watch, numbers_of,
+    Followed, Happening, HistoryError, Marks, Numbers, Pairing, Pairs, ReadError, Reading, Spawned,
+    Spells, Takes, Unasked, Watch, numbers_of,
 };
 use schedule_log::{Entry, Item};
 use source_places::Places;
@@ -402,7 +402,11 @@ fn put_choices(text: &mut Text, numbers: &Numbers, course: &Course, decided: Opt
     }
     text.words("\n");
     if !course.options.has_caps {
-        put_gate(text, course.counts.closed(course.ended), Some(course.held_back))
+        put_gate(
+            text,
+            course.counts.closed(course.ended),
+            Some(course.held_back),
+        )
     } else if let (Some(known), None) = (decided, course.counts.window) {
         let counts = Counts::new(None, known.spells);
         put_gate(text, counts.closed(known.ended), None)

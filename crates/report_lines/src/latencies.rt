@@ -109,13 +109,7 @@ const LAST: &str =
     "latency to the last answer: least $, median $, 90th $, 99th $, greatest $ (arrived $, thread $)\n";
 
 /// Appends the line on latencies of that form, in ticks; nothing where there are none.
-fn put_latencies(
-    alloc: Global,
-    text: &mut Text,
-    form: &str,
-    scope: Scope,
-    to_last: bool,
-) {
+fn put_latencies(alloc: Global, text: &mut Text, form: &str, scope: Scope, to_last: bool) {
     let mut ticks = Vec::new(alloc);
     match add_latencies(&mut ticks, scope, to_last) {
         Ok(Some(slowest)) => {

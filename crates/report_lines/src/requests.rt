@@ -66,7 +66,11 @@ pub fn put_parts(
     let mut parts = Parts::new(alloc, asked.request);
     let read = read_parts(alloc, &mut parts, log, accepts, asked);
     put_listed(alloc, text, places, parts.parts.as_slice(), asked);
-    put_rest(text, end_of(parts.parts.as_slice(), queued.taken), asked.until);
+    put_rest(
+        text,
+        end_of(parts.parts.as_slice(), queued.taken),
+        asked.until,
+    );
     drop(parts);
     read
 }

@@ -205,7 +205,12 @@ fn put_labels(text: &mut Text, edges: &[GraphEdge], lines: &[u64], extent: Exten
     let mut place: usize = 0;
     for edge in edges {
         let line = lines.get(place).copied().unwrap_or(0);
-        put_at(text, edge, line.saturating_add(1).saturating_mul(LINE), extent);
+        put_at(
+            text,
+            edge,
+            line.saturating_add(1).saturating_mul(LINE),
+            extent,
+        );
         place = place.saturating_add(1);
     }
 }

@@ -27,7 +27,9 @@ impl<'a> Lane<'a> {
     /// The shares of a mark: of all ticks of its places, but a thread that runs there has one pixel at least.
     fn shares_of(&self, mark: Mark) -> Shares {
         let begins = self.window.clock(mark.from.saturating_mul(self.wide));
-        let ends = self.window.clock(mark.to.saturating_add(1).saturating_mul(self.wide));
+        let ends = self
+            .window
+            .clock(mark.to.saturating_add(1).saturating_mul(self.wide));
         let done = mark.ran.saturating_add(mark.waited);
         let ticks = ends.saturating_sub(begins).max(done);
         let ran = part_of(mark.ran, ticks, self.tall).max(mark.ran.min(1));
