@@ -78,8 +78,8 @@ REPORT_OPTIONS = {
     "--html": ("FILE", "stores a page with the report, a timeline that zooms, requests, graph and log"),
     "--request": ("N", "shows the parts of the time of the N-th request that came"),
     "--answers": ("HOW", "pairs outputs with requests: first, in their order, or value, by their values"),
-    "--from": ("CLOCK", "begins the timeline there"),
-    "--to": ("CLOCK", "ends the timeline there"),
+    "--from": ("CLOCK", "tells the requests, waits and choices from there on, and begins the timeline there"),
+    "--to": ("CLOCK", "ends both there"),
     "--log": ("LOG", "makes no run and reads a stored log with its source and trace"),
 }
 

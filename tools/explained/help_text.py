@@ -45,7 +45,8 @@ def of_command(command):
 
 
 def of_report():
-    lines = ["usage: report [OPTION ..] serve SRC .. | run SRC IMG CRT ..    the trace on standard input, the report on standard output", ""]
+    lines = ["usage: report [OPTION ..] serve SRC .. | run SRC IMG CRT ..    the trace on standard input, the report on standard output",
+             "       report graph SRC .. | budget SRC IMG CRT             what these print, beside the text", ""]
     lines += ["options, before the command:"]
     lines += [row(" ".join([name, *[value] * bool(value)]), does) for name, (value, does) in REPORT_OPTIONS.items()]
     lines += ["", "options of the run, behind the command:", *options(it for it in OPTIONS if set(OPTIONS[it].commands) & {"serve", "run"})]

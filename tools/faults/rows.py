@@ -17,7 +17,7 @@ STORED = ("image", "certificate", "timeline.svg", "graph.svg", "graph.dot")  # t
 @dataclasses.dataclass
 class Row:
     """A run: its program, words and trace, its status without a fault, and its line on standard
-    error. `instead` are words whose whole output the program may give after a fault."""
+    error. `instead` are words whose whole output the program may give after a failed allocation."""
 
     name: str
     words: tuple

@@ -33,7 +33,7 @@ use blocking_graph::SegmentRecord;
 use cap_text::Lines;
 use cap_word::ThreadId;
 use resource_monitor::Measure;
-use run_history::Spells;
+use run_history::{Spawned, Spells};
 use schedule_log::{Entry, read_entry};
 use std::alloc::{AllocError, Global};
 use std::collections::BTreeMap;
@@ -58,14 +58,6 @@ pub struct Told {
     pub threads: BTreeMap<u32, ThreadId>,
     /// The threads that segments started, in order.
     pub spawned: Vec<Spawned>,
-}
-
-/// A thread that a segment started.
-#[derive(Clone, Copy)]
-pub struct Spawned {
-    pub thread: u32,
-    /// The number of the segment, from 0 in the order in which they ran.
-    pub segment: u64,
 }
 
 /// What decided the choices of a run by the blocking graph.

@@ -1,4 +1,6 @@
 use cap_io::{Sink, put_all};
+use report_lines::LinesError;
+use source_places::PlacesError;
 use std::alloc::AllocError;
 
 /// Why there is no report, or not all of it.
@@ -28,6 +30,24 @@ impl From<AllocError> for Failure {
     }
 }
 
+impl From<PlacesError> for Failure {
+    fn from(error: PlacesError) -> Failure {
+        match error {
+            PlacesError::Source => Failure::Source,
+            PlacesError::Memory => Failure::Memory,
+        }
+    }
+}
+
+impl From<LinesError> for Failure {
+    fn from(error: LinesError) -> Failure {
+        match error {
+            LinesError::Log => Failure::Log,
+            LinesError::Memory => Failure::Memory,
+        }
+    }
+}
+
 impl Failure {
     /// The status of the program, which is that of Capriccio where that means the same, and the line that standard error takes, with
     /// its line feed.
@@ -35,7 +55,7 @@ impl Failure {
         match self {
             Failure::Words => (
                 2,
-                b"usage: report [--timeline FILE] [--graph FILE] [--log LOG] [--answers first|value] [--from CLOCK] [--to CLOCK] [--request N] [--why] [--help] serve SRC .. | run SRC IMG CRT ..\n",
+                b"usage: report [--timeline FILE] [--graph FILE] [--log LOG] [--answers first|value] [--from CLOCK] [--to CLOCK] [--request N] [--why] [--help] serve SRC .. | run SRC IMG CRT .. | graph SRC .. | budget SRC IMG CRT\n",
             ),
             Failure::Source => (3, b"report: the source is none\n"),
             Failure::Log => (4, b"report: the log is none\n"),

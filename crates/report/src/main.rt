@@ -5,25 +5,23 @@
 // over a log in memory; with `--log` a stored log is read in place of a run. docs/REPORT.md says what the report tells. `show` of
 // outcome.rt is the whole program over the objects that it is handed; `main` makes the real ones.
 //
-// What each entry of a log tells, and the numbers of a whole log, are those of `run_history`; the run that is made once more is in
-// `again`, the report's text in `report`, its pictures in `pictures`. `places` says where the calls of a source stand. What is shown is written
-// into a `Text`, which keeps whether there was memory for all of it, so that what writes it has nothing to answer; numbers stand in
-// it as a form with a mark for each, which is proved faster than a format. Of most of the text and the pictures no clause speaks.
+// What each entry of a log tells, and the numbers of a whole log, are those of `run_history`; `report_lines` writes the lines that tell
+// them, `run_pictures` the pictures, and `source_places` says where the calls of a source stand. The run that is made once more is in
+// `again`, what the world at the stop tells in `report`, what `graph` and `budget` print in `analysis`. What is shown is written into a
+// `Text` of `report_text`: what is whole has each piece that was put into it, each number in decimal digits.
 #![tactic(auto)]
 
 mod again;
+mod analysis;
 mod failures;
 mod help;
 mod inputs;
 mod outcome;
 mod pictures;
-mod places;
 mod push;
 mod report;
 mod run;
 mod subject;
-mod text;
-mod told;
 mod trace;
 mod wanted;
 

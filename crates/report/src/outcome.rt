@@ -1,22 +1,25 @@
 use crate::again::holders::Holders;
 use crate::again::starting::make_once_more;
-use crate::again::{Decided, Spawned, Told};
+use crate::again::{Decided, Told};
+use crate::analysis::{is_analysis, show_analysis};
 use crate::failures::Failure;
 use crate::help::HELP;
 use crate::inputs::{load, store};
 use crate::pictures::{put_blocking, put_times};
-use crate::places::Places;
 use crate::report::circles::put_circles;
 use crate::report::stop::{cut_in, is_in_use, put_stop};
 use crate::report::{Found, RunLog, last_line, put_report};
 use crate::run::make_run;
 use crate::subject::{Subject, subject_of};
-use crate::text::Text;
 use crate::trace::Trace;
 use crate::wanted::Wanted;
 use cap_io::{CleanSink, CleanSource, Shelf, Sink, Source, put_all};
 use capriccio_commands::let_go;
+use report_figures::Window;
+use report_text::Text;
+use run_history::Spawned;
 use schedule_log::read_entry;
+use source_places::Places;
 use std::alloc::{AllocError, Global};
 use thread_core::World;
 
@@ -24,7 +27,7 @@ use thread_core::World;
 const IDLE: &[u8] = b"stop idle";
 
 /// The most bytes of a source.
-const MOST_BYTES: u32 = 1_048_576;
+pub(crate) const MOST_BYTES: u32 = 1_048_576;
 
 /// Shows what the words ask for, and answers the status: that of the run, or 0 where a stored log is read.
 pub fn show<F: Shelf, S: Source, K: Sink, E: Sink>(
@@ -57,7 +60,7 @@ fn show_help<K: Sink>(out: &mut K) -> Result<u8, Failure> {
     }
 }
 
-/// Shows what is asked for, with the trace that is read. Words of no command are refused before.
+/// Shows what is asked for, with the trace that is read; `graph` and `budget` read none. Words of no command are refused before.
 fn show_wanted<F: Shelf, S: Source, K: Sink, E: Sink>(
     alloc: Global,
     wanted: &Wanted,
@@ -67,6 +70,9 @@ fn show_wanted<F: Shelf, S: Source, K: Sink, E: Sink>(
     err: &mut E,
 ) -> Result<u8, Failure> {
     let _subject = subject_of(alloc, &wanted.words)?;
+    if is_analysis(alloc, &wanted.words) {
+        return show_analysis(alloc, &wanted.words, shelf, out, err);
+    }
     match Trace::read(alloc, input) {
         Ok(trace) => show_trace(alloc, wanted, trace, shelf, out, err),
         Err(failure) => Err(failure),
@@ -183,7 +189,7 @@ fn show_made<'a, F: Shelf, K: Sink>(
 ) -> Result<(), Failure> {
     match (subject_of(alloc, &wanted.words)?, last) {
         (Some(subject), Some(world)) => {
-            let told = told_of(alloc, wanted, shelf, log, world);
+            let told = told_of(alloc, wanted, shelf, log, world)?;
             let run = Run {
                 subject,
                 times,
@@ -200,22 +206,26 @@ fn show_made<'a, F: Shelf, K: Sink>(
 }
 
 /// What a run tells where it is made once more: with `--why`, and for who holds what where no thread goes on while some resource is in
-/// use.
+/// use. It fails where a file can't be read again.
 fn told_of<F: Shelf>(
     alloc: Global,
     wanted: &Wanted,
     shelf: &mut F,
     log: &[u8],
     world: &World,
-) -> Option<Told> {
+) -> Result<Option<Told>, Failure> {
     if !wanted.why && (last_line(log) != IDLE || !is_in_use(world)) {
-        return None;
+        return Ok(None);
     }
-    let mut told = make_once_more(alloc, &wanted.words, shelf, log)?;
-    if !wanted.why {
-        told.decided = None;
+    match make_once_more(alloc, &wanted.words, shelf, log) {
+        Ok(Some(mut told)) => {
+            if !wanted.why {
+                told.decided = None;
+            }
+            Ok(Some(told))
+        }
+        other => other,
     }
-    Some(told)
 }
 
 /// A run that is shown: what its words say, the times of its trace, its log, and what is seen of it beside its log: the world at its
@@ -245,7 +255,7 @@ fn show_log<F: Shelf, K: Sink>(
                 drop(places);
                 shown
             }
-            Err(failure) => Err(failure),
+            Err(error) => Err(Failure::from(error)),
         },
         Err(failure) => Err(failure),
     }
@@ -279,8 +289,19 @@ fn show_placed<F: Shelf, K: Sink>(
     }
 }
 
+/// The clocks between which the report is asked for, if it is not of all.
+fn window_of(wanted: &Wanted) -> Option<Window> {
+    match (wanted.from, wanted.to) {
+        (None, None) => None,
+        (from, to) => Some(Window {
+            from: from.unwrap_or(0),
+            to: to.unwrap_or(u64::MAX),
+        }),
+    }
+}
+
 /// Writes all of this.
-fn put<K: Sink>(out: &mut K, bytes: &[u8]) -> Result<(), Failure> {
+pub(crate) fn put<K: Sink>(out: &mut K, bytes: &[u8]) -> Result<(), Failure> {
     match put_all(out, bytes) {
         Ok(()) => Ok(()),
         Err(_) => Err(Failure::Write),
@@ -334,6 +355,7 @@ fn write_text(
         decided,
         request: wanted.request,
         pairing: wanted.answers,
+        window: window_of(wanted),
         spawned: spawned_in(run.told, wanted),
     };
     let found = put_report(alloc, text, places, whole)?;

@@ -1,28 +1,17 @@
-// The pictures of a run: the timeline as SVG, a row a thread, with its runs and its waits by place (`Rows`, `put_timeline`), and the
-// blocking graph as DOT (`put_graph`) and as SVG (`put_drawing`). A row keeps at most one mark for each column of the picture, those
-// of `report_figures`, so that the picture doesn't grow with the log. SVG is that of the W3C's "Scalable Vector Graphics (SVG) 1.1",
-// DOT that of Graphviz.
-pub mod colors;
-pub mod drawing;
-pub mod graph;
-pub mod head;
-pub mod rows;
-pub mod timeline;
+// The pictures of a run, from its log and the places of its source; `run_pictures` draws them.
 
 use crate::failures::Failure;
-use crate::pictures::drawing::put_drawing;
-use crate::pictures::graph::{GraphEdge, put_graph};
-use crate::pictures::rows::{Rows, Window};
-use crate::pictures::timeline::put_timeline;
-use crate::places::Places;
 use crate::push::push;
 use crate::report::Found;
-use crate::text::Text;
-use crate::told::told_by;
 use cap_text::Lines;
 use cap_word::SiteKey;
+use report_figures::Window;
+use report_lines::told_by;
+use report_text::Text;
 use run_history::{Happening, History, Standing, Wait};
+use run_pictures::{GraphEdge, Rows, put_drawing, put_graph, put_timeline};
 use schedule_log::{Entry, read_entry};
+use source_places::Places;
 use std::alloc::{AllocError, Global};
 use std::collections::BTreeMap;
 

@@ -5,39 +5,29 @@
 // log (`Decided`) stands in the lines on choices and the gate; what only the world at the stop tells, in those of `put_stop`.
 pub mod circles;
 pub mod code;
-pub mod followed;
-pub mod latencies;
 pub mod left;
-pub mod lines;
-pub mod pairs;
-pub mod queues;
-pub mod requests;
 pub mod stacks;
 pub mod stop;
-pub mod unasked;
 pub mod values;
-pub mod waits;
 
 ghost use Rattle.std.specs.Prelude.{◌≤◌};
 
-use crate::again::{Decided, Spawned};
+use crate::again::Decided;
 use crate::failures::Failure;
-use crate::places::Places;
-use crate::report::followed::Followed;
-use crate::report::latencies::{put_requests, slowest_of};
 use crate::report::left::put_left;
-use crate::report::lines::ChunksLine;
-use crate::report::pairs::{Pairing, Pairs};
-use crate::report::queues::put_queue;
-use crate::report::requests::{Asked, put_parts};
-use crate::report::unasked::put_unasked;
-use crate::report::waits::put_waits;
-use crate::text::Text;
 use cap_word::SiteKey;
+use report_figures::Window;
+use report_lines::{
+    Asked, ChunksLine, Closed, Counts, put_parts, put_queue, put_requests, put_unasked, put_waits,
+    slowest_of,
+};
+use report_text::Text;
 use run_history::{
-    Happening, HistoryError, Marks, ReadError, Reading, Spells, Takes, Unasked, Watch, numbers_of,
+    Followed, Happening, HistoryError, Marks, Numbers, Pairing, Pairs, ReadError, Reading, Spawned,
+    Spells, Takes, Unasked, Watch, numbers_of,
 };
 use schedule_log::{Entry, Item};
+use source_places::Places;
 use std::alloc::{AllocError, Global};
 use std::mem;
 use thread_core::World;
@@ -90,7 +80,7 @@ pub(crate) struct Course<'a> {
     /// One more than the greatest number of a thread that ran, and how many threads ran.
     pub(crate) threads: u32,
     started: u64,
-    choices: u64,
+    counts: Counts,
     spells: Spells,
     /// The clock at which the last segment ended.
     ended: u64,
@@ -126,7 +116,9 @@ impl<'a> Course<'a> {
         waiting: &'a [bool],
         times: &'a [u64],
         options: Options,
+        window: Option<Window>,
     ) -> Course<'a> {
+        let spells = Spells::start(in_range(options.marks));
         Course {
             accepts,
             at_take,
@@ -141,8 +133,8 @@ impl<'a> Course<'a> {
             followed: None,
             threads: 0,
             started: 0,
-            choices: 0,
-            spells: Spells::start(in_range(options.marks)),
+            counts: Counts::new(window, spells),
+            spells,
             ended: 0,
             requests: 0,
             at_accept: 0,
@@ -153,10 +145,10 @@ impl<'a> Course<'a> {
     /// Takes one entry more, and what it tells; at a choice the gate is as it was before.
     fn take(&mut self, entry: &Entry, told: Happening) -> Result<(), HistoryError> {
         match entry {
-            Entry::Run { thread, .. } => {
+            Entry::Run { thread, clock, .. } => {
                 self.threads = self.threads.max(thread.saturating_add(1));
-                self.choices = self.choices.saturating_add(1);
-                self.choose(told);
+                self.counts.choose(*clock);
+                self.choose(told, *clock);
             }
             Entry::Event { clock, .. } => self.come(*clock),
             Entry::Dropped { clock, .. } => self.come(*clock),
@@ -180,6 +172,7 @@ impl<'a> Course<'a> {
         match self.spells.with(in_range(self.options.marks), told) {
             Some(spells) => {
                 self.spells = spells;
+                self.counts.add(told, self.options.marks.chunks, spells);
                 Ok(())
             }
             None => Err(HistoryError::Count),
@@ -215,8 +208,8 @@ impl<'a> Course<'a> {
         self.events = self.events.saturating_add(1);
     }
 
-    /// Takes a choice, by what it tells.
-    fn choose(&mut self, told: Happening) {
+    /// Takes a choice at that clock, by what it tells.
+    fn choose(&mut self, told: Happening, clock: u64) {
         if let Happening::Waited(wait) = told {
             if wait.request.is_some() {
                 self.requests = self.requests.saturating_sub(1);
@@ -224,7 +217,8 @@ impl<'a> Course<'a> {
                 return;
             }
         }
-        if !self.spells.is_open() && self.requests > 0 && self.at_accept > 0 {
+        let is_held_back = !self.spells.is_open() && self.requests > 0 && self.at_accept > 0;
+        if is_held_back && self.counts.has(clock) {
             self.held_back = self.held_back.saturating_add(1);
         }
     }
@@ -265,6 +259,8 @@ pub struct RunLog<'a> {
     pub decided: Option<Decided>,
     pub request: Option<u64>,
     pub pairing: Option<Pairing>,
+    /// The clocks between which it is told, if not all are.
+    pub window: Option<Window>,
     /// The threads that segments started, where that is known.
     pub spawned: Option<&'a [Spawned]>,
 }
@@ -288,6 +284,7 @@ pub fn put_report(
         waiting.as_slice(),
         run.times,
         run.options,
+        run.window,
     );
     if let Some(pairing) = run.pairing {
         course.pairs = Some(Pairs::new(alloc, pairing));
@@ -361,58 +358,76 @@ fn put_numbers(
     if !course.fits {
         text.words(FOREIGN);
     }
+    put_window(text, run.window);
     put_pairing(text, run.pairing);
-    put_requests(alloc, text, numbers, run.times);
+    let scope = course.counts.scope(numbers, run.times);
+    put_requests(alloc, text, scope, course.counts.dropped_in(numbers));
     put_unasked(text, &course.unasked);
     let asked = match run.request {
         Some(number) => Some(Asked::of(numbers, number)),
-        None => slowest_of(numbers, run.times),
+        None => slowest_of(scope),
     };
     if let Some(request) = asked {
-        put_parts(alloc, text, places, run, numbers, course.accepts, request)?;
+        put_parts(alloc, text, places, scope, run.log, course.accepts, request)?;
     }
     text.words("waits by place: count, total, median, 99th, greatest\n");
-    put_queue(alloc, text, numbers, run.times);
-    put_waits(alloc, text, places, numbers.waits.as_slice());
-    put_choices(text, numbers.most_held, course, run.decided);
+    put_queue(alloc, text, scope);
+    put_waits(alloc, text, places, scope);
+    put_choices(text, numbers, course, run.decided);
     Ok(put_left(alloc, text, places, &reading.history, course, run.world))
 }
 
-/// Appends the lines on chunks, choices and the gate.
-fn put_choices(text: &mut Text, most_held: u32, course: &Course, decided: Option<Decided>) {
-    text.line(&ChunksLine {
-        most_held,
-        chunks: course.options.marks.chunks,
-    });
-    let choices = course.choices;
-    match decided {
-        Some(Decided { choices: by, .. }) => text.form(
-            "\nchoices: $, by score $, by the gate $, by turn $\n",
-            &[choices, by.by_score, by.by_gate, by.by_turn],
-        ),
-        None => text.form("\nchoices: $\n", &[choices]),
-    }
-    if !course.options.has_caps {
-        put_gate(text, course.spells, course.ended, Some(course.held_back))
-    } else if let Some(known) = decided {
-        put_gate(text, known.spells, known.ended, None)
+/// Appends between which clocks the run is told, if not all are.
+fn put_window(text: &mut Text, window: Option<Window>) {
+    if let Some(Window { from, to }) = window {
+        text.form(
+            "window: the requests that arrived from $ to $, and the waits, choices and segments that ended then\n",
+            &[from, to],
+        )
     }
 }
 
-/// Appends the line on the gate, in a run whose last segment ended then. At how many choices it held a request back isn't always known.
-fn put_gate(text: &mut Text, spells: Spells, ended: u64, held_back: Option<u64>) {
-    let ticks = spells.closed_until(ended).unwrap_or(u64::MAX);
-    text.form(
-        "gate: closed $ times, for $ ticks in all",
-        &[spells.times, ticks],
-    );
-    if let Some(choices) = held_back {
-        text.form(", held a request back at $ choices", &[choices]);
+/// Appends the lines on chunks, choices and the gate. What decided the choices is known of all of them alone.
+fn put_choices(text: &mut Text, numbers: &Numbers, course: &Course, decided: Option<Decided>) {
+    text.line(&ChunksLine {
+        most_held: course.counts.most_held_in(numbers),
+        chunks: course.options.marks.chunks,
+    });
+    text.form("\nchoices: $", &[course.counts.choices]);
+    if let (Some(Decided { choices, .. }), None) = (decided, course.counts.window) {
+        text.form(
+            ", by score $, by the gate $, by turn $",
+            &[choices.by_score, choices.by_gate, choices.by_turn],
+        )
     }
-    text.words(if spells.is_open() {
-        "\n"
-    } else {
+    text.words("\n");
+    if !course.options.has_caps {
+        put_gate(
+            text,
+            course.counts.closed(course.ended),
+            Some(course.held_back),
+        )
+    } else if let (Some(known), None) = (decided, course.counts.window) {
+        let counts = Counts::new(None, known.spells);
+        put_gate(text, counts.closed(known.ended), None)
+    }
+}
+
+/// Appends the line on the gate. At how many choices it held a request back isn't always known.
+fn put_gate(text: &mut Text, closed: Closed, held_back: Option<u64>) {
+    text.words("gate: closed ");
+    text.counted(closed.times, "time", "times");
+    text.words(", for ");
+    text.counted(closed.ticks, "tick", "ticks");
+    text.words(" in all");
+    if let Some(choices) = held_back {
+        text.words(", held a request back at ");
+        text.counted(choices, "choice", "choices")
+    }
+    text.words(if closed.is_closed {
         ", closed at the end\n"
+    } else {
+        "\n"
     })
 }
 

@@ -1,7 +1,7 @@
 use crate::failures::Failure;
 use crate::push::push;
-use crate::report::pairs::Pairing;
 use cap_text::read_dec;
+use run_history::Pairing;
 use std::alloc::Global;
 
 /// What is asked for: the files that the pictures go to, the file of a stored log, whether the run is made once more, and the words

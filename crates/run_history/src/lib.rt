@@ -21,10 +21,12 @@
 
 mod answers;
 mod choices;
+mod followed;
 mod happenings;
 mod history;
 mod longest;
 mod numbers;
+mod pairs;
 mod parts;
 mod queues;
 mod reading;
@@ -34,10 +36,12 @@ mod threads;
 mod unasked;
 
 pub use answers::Answers;
+pub use followed::{Followed, Spawned};
 pub use happenings::{Happening, Segment, Wait};
 pub use history::{History, HistoryError};
 pub use longest::longest_at;
 pub use numbers::{Numbers, WaitLength};
+pub use pairs::{Pairing, Pairs};
 pub use parts::{Part, Parts};
 pub use queues::{Queued, queued_of};
 pub use reading::{ReadError, Reading, Watch, numbers_of};

@@ -10,11 +10,13 @@ ghost use Rattle.resource_monitor.specs.declared.curves.Curve.TheVariants.{Knee}
 
 use crate::again::choosing::Choosing;
 use crate::again::{Told, make_again};
+use crate::failures::Failure;
 use accepted_pairs::Accepted;
 use cap_io::Shelf;
 use capriccio_commands::{let_go, made_world};
 use codegen_link::Options;
 use command_options::monitor_of;
+use command_outcomes::{Fault, Stop};
 use command_words::{Command, Policy, Rule, read_words};
 use pair_commands::{accept_files, accept_source};
 use resource_monitor::{Measure, past_knee};
@@ -22,16 +24,16 @@ use std::alloc::{AllocError, Global};
 use thread_core::World;
 
 /// Makes the run of these words once more, beside its log. None where the words are those of no run, a file isn't what it was, or the
-/// log is of another run; and where there is no memory.
+/// log is of another run; and where there is no memory. `Read` comes where a file can't be read.
 pub fn make_once_more<F: Shelf>(
     alloc: Global,
     words: &Vec<String>,
     shelf: &mut F,
     log: &[u8],
-) -> Option<Told> {
+) -> Result<Option<Told>, Failure> {
     match read_words(alloc, words) {
         Ok(command) => start_command(alloc, command, shelf, log),
-        Err(_) => None,
+        Err(_) => Ok(None),
     }
 }
 
@@ -41,7 +43,7 @@ fn start_command<F: Shelf>(
     command: Command,
     shelf: &mut F,
     log: &[u8],
-) -> Option<Told>
+) -> Result<Option<Told>, Failure>
     requires { (words : List (List ℕ)) × IsWordList words (request_of command) }
 {
     match command {
@@ -62,7 +64,7 @@ fn start_command<F: Shelf>(
             certificate,
             policy,
         } => start_files(alloc, shelf, source, image, certificate, policy, log),
-        _ => None,
+        _ => Ok(None),
     }
 }
 
@@ -74,17 +76,14 @@ fn start_source<F: Shelf>(
     sizes: Options,
     policy: Policy,
     log: &[u8],
-) -> Option<Told>
+) -> Result<Option<Told>, Failure>
     requires sizes { AreInRange sizes }
     requires range { IsRunPolicy policy }
     requires pool { policy.chunks * sizes.chunk + policy.extra * policy.extra_bytes ≤ 67108864 }
 {
     match accept_source(alloc, shelf, source, sizes) {
-        Ok(accepted) => start_accepted(alloc, accepted, policy, log),
-        Err(stop) => {
-            drop(stop);
-            None
-        }
+        Ok(accepted) => Ok(start_accepted(alloc, accepted, policy, log)),
+        Err(stop) => end_with(stop),
     }
 }
 
@@ -97,14 +96,22 @@ fn start_files<F: Shelf>(
     certificate: &str,
     policy: Policy,
     log: &[u8],
-) -> Option<Told>
+) -> Result<Option<Told>, Failure>
     requires { IsRunPolicy policy }
 {
     match accept_files(alloc, shelf, source, image, certificate, policy) {
-        Ok(accepted) => start_accepted(alloc, accepted, policy, log),
-        Err(stop) => {
-            drop(stop);
-            None
+        Ok(accepted) => Ok(start_accepted(alloc, accepted, policy, log)),
+        Err(stop) => end_with(stop),
+    }
+}
+
+/// What there is to tell where the run isn't made once more: nothing, but a failed read ends the report, as it ends a run.
+fn end_with(stop: Stop) -> Result<Option<Told>, Failure> {
+    match stop {
+        Stop::Failed(Fault::Read) => Err(Failure::Read),
+        other => {
+            drop(other);
+            Ok(None)
         }
     }
 }

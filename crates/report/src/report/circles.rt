@@ -3,8 +3,8 @@
 use crate::again::Told;
 use crate::again::holders::Holders;
 use crate::report::values::blocked_at;
-use crate::text::Text;
 use cap_word::ThreadId;
+use report_text::Text;
 use std::alloc::{AllocError, Global};
 use thread_core::World;
 use wait_circles::{Step, circles_of};

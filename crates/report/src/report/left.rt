@@ -1,8 +1,8 @@
-use crate::places::Places;
 use crate::report::values::put_blocked;
 use crate::report::{Course, is_one};
-use crate::text::Text;
+use report_text::Text;
 use run_history::{History, Standing, Wait};
+use source_places::Places;
 use std::alloc::Global;
 use thread_core::World;
 
@@ -31,7 +31,8 @@ pub(crate) fn put_left(
         }
     }
     if left > LISTED {
-        text.form("left: $ more threads\n", &[left - LISTED]);
+        text.words("left: ");
+        text.counted(left - LISTED, "more thread\n", "more threads\n");
     }
     left
 }

@@ -4,14 +4,14 @@
 // frames lie.
 
 use crate::again::holders::Holders;
-use crate::places::{Access, Array, Places};
 use crate::report::code::{function_at, operation_at, site_of};
 use crate::report::stacks::{below, return_of};
 use crate::report::values::{Called, called_at, put_values, thread_of};
-use crate::text::Text;
 use cap_word::{Stop, TrapKind};
 use flat_code::Op;
+use report_text::Text;
 use schedule_log::{Entry, StopLine, read_entry};
+use source_places::{Access, Array, Places};
 use stack_certificate::FunctionFact;
 use std::alloc::Global;
 use thread_core::{Standing, World};
@@ -39,7 +39,9 @@ pub fn put_stop(
 ) {
     let never = u64::from(world.live()).saturating_sub(left);
     if never > 0 {
-        text.form("left: $ threads that never ran\n", &[never]);
+        text.words("left: ");
+        text.counted(never, "thread", "threads");
+        text.words(" that never ran\n");
     }
     put_uses(text, world, holders);
     match last {
@@ -104,7 +106,8 @@ fn put_holders(text: &mut Text, holders: &Holders) {
         }
     }
     if shown > LISTED {
-        text.form(", the others by $ more threads", &[shown - LISTED]);
+        text.words(", the others by ");
+        text.counted(shown - LISTED, "more thread", "more threads")
     }
 }
 

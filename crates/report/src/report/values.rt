@@ -1,11 +1,11 @@
 // The modelled call at which a thread stands, with the values of its arguments, read off its stack.
 
-use crate::places::Places;
 use crate::report::code::{function_at, operation_at};
 use crate::report::stacks::word_at;
-use crate::text::Text;
 use cap_word::{ThreadId, Words};
 use flat_code::Op;
+use report_text::Text;
+use source_places::Places;
 use stack_certificate::FunctionFact;
 use std::alloc::Global;
 use thread_core::World;

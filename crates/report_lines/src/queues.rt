@@ -1,0 +1,76 @@
+use crate::lines::WaitsPart;
+use crate::scopes::Scope;
+use report_figures::{spread_of, total_of};
+use report_text::Text;
+use run_history::{Queued, queued_of};
+use std::alloc::{AllocError, Global};
+
+/// The request that was queued longest: its number, from 0, and how it was queued.
+#[derive(Clone, Copy)]
+struct Longest {
+    request: usize,
+    queued: Queued,
+}
+
+/// Appends the row on how long requests were queued, from their arrival to the `accept` that took them; nothing where none was taken.
+pub fn put_queue(alloc: Global, text: &mut Text, scope: Scope) {
+    let mut ticks = Vec::new(alloc);
+    match add_queued(&mut ticks, scope) {
+        Ok(Some(longest)) => put_row(text, ticks.as_mut_slice(), longest),
+        Ok(None) => (),
+        Err(AllocError) => text.lack(),
+    }
+}
+
+/// Adds how long each request was queued that is told of. The answer is the one that was queued longest, the earliest of such.
+fn add_queued(ticks: &mut Vec<u64>, scope: Scope) -> Result<Option<Longest>, AllocError> {
+    let mut longest: Option<Longest> = None;
+    for request in 0..scope.numbers.takes.len() {
+        if let Some(queued) = queued_in(scope, request) {
+            longest = match longest {
+                Some(before) if ticks_of(before.queued) >= ticks_of(queued) => Some(before),
+                _ => Some(Longest { request, queued }),
+            };
+            ticks.push(ticks_of(queued))?;
+        }
+    }
+    Ok(longest)
+}
+
+/// How the request of that number was queued, if it is told of.
+fn queued_in(scope: Scope, request: usize) -> Option<Queued> {
+    let queued = queued_of(scope.numbers, scope.times, request)?;
+    if scope.has(queued.arrived) {
+        Some(queued)
+    } else {
+        None
+    }
+}
+
+/// For how many ticks a request was queued.
+pub(crate) fn ticks_of(queued: Queued) -> u64 {
+    queued.taken.saturating_sub(queued.arrived)
+}
+
+/// Appends the row of these ticks.
+fn put_row(text: &mut Text, ticks: &mut [u64], longest: Longest) {
+    let total = total_of(ticks).unwrap_or(u128::MAX);
+    if let Some(spread) = spread_of(ticks) {
+        text.words("  queue, from arrival to accept: ");
+        text.line(&WaitsPart {
+            count: spread.count,
+            total,
+            median: spread.median,
+            ninety_ninth: spread.ninety_ninth,
+            greatest: spread.greatest,
+        });
+        text.form(
+            " (request $, thread $, until $)\n",
+            &[
+                (longest.request as u64).saturating_add(1),
+                u64::from(longest.queued.thread),
+                longest.queued.taken,
+            ],
+        )
+    }
+}

@@ -1,0 +1,22 @@
+"""The reports that are kept in examples/, byte for byte."""
+import os, pathlib, subprocess, unittest
+
+TOP = pathlib.Path(__file__).resolve().parent.parent.parent
+PROGRAM = os.path.join(os.environ.get("CAPRICCIO_PROGRAMS", ""), "report")
+OWN = {"report": [], "report_why": ["--why"], "report_first": ["--answers", "first"]}  # the report's own options, by the kept file's name
+
+
+@unittest.skipUnless(os.access(PROGRAM, os.X_OK), "the program isn't built")
+class Reports(unittest.TestCase):
+    def test_each_kept_report_is_what_the_program_says(self):
+        for kept in sorted(TOP.glob("examples/*/report*")):
+            with self.subTest(report=str(kept.relative_to(TOP))), open(kept.parent / "trace") as trace:
+                options = kept.parent / "options"
+                words = options.read_text().split() if options.exists() else []
+                run = subprocess.run([PROGRAM, *OWN[kept.name], "serve", *words, "server.c"], cwd=kept.parent, stdin=trace, stdout=subprocess.PIPE, text=True)
+                self.assertEqual(run.stdout, kept.read_text())
+
+    def test_the_deadlock_has_its_circle_first(self):
+        with open(TOP / "examples/bank/trace") as trace:
+            run = subprocess.run([PROGRAM, "serve", "--caps", "1=1,2=1", "server.c"], cwd=TOP / "examples/bank", stdin=trace, stdout=subprocess.PIPE, text=True)
+        self.assertEqual(run.stdout.splitlines()[0], "circle: thread 1 → resource 2 → thread 2 → resource 1 → thread 1")
