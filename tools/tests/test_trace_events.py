@@ -163,6 +163,12 @@ class Told(unittest.TestCase):
     def test_held_chunks_go_by_the_logs_free_ones(self):
         self.assertEqual(counted(written(*of_example(TOP / "examples/pool/log")), "held chunks"), [2])  # 1,022 of 1,024 are free from the first line to the last
 
+    def test_requests_have_the_numbers_of_the_report(self):
+        events = written(*of_example(TOP / "examples/limiter/log"))
+        self.assertEqual([it["args"]["request"] for it in events if it["name"] == "arrive"], [1, 2, 3, 4, 5])
+        slowest = next(it for it in events if it.get("cat") == "segment" and it["args"].get("request") == 4)
+        self.assertEqual((slowest["ts"], slowest["tid"]), (1205, 1))  # `request 4, the slowest: arrived 130, taken by thread 1`, and queued until 1205
+
     def test_resources_go_up_by_take_and_down_by_give(self):
         """The limiter takes a unit for each of five requests, and a thread gives it back 1,000 ticks later; the run has two units."""
         events = written(*of_example(TOP / "examples/limiter/log"))
