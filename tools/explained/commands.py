@@ -76,6 +76,7 @@ REPORT_OPTIONS = {
     "--trace": ("FILE", "stores the run in the Trace Event format, for Perfetto"),
     "--folded": ("FILE", "stores folded stacks by instructions, with --why by waits, for flame graphs"),
     "--html": ("FILE", "stores a page with the report, a timeline that zooms, requests, graph and log"),
+    "--json": (None, "prints the report as JSON, by docs/report.schema.json"),
     "--request": ("N", "shows the parts of the time of the N-th request that came"),
     "--answers": ("HOW", "pairs outputs with requests: first, in their order, or value, by their values"),
     "--from": ("CLOCK", "tells the requests, waits and choices from there on, and begins the timeline there"),

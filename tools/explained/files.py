@@ -9,7 +9,9 @@ READ_BY = {"serve": ("SRC",), "graph": ("SRC",), "build": ("SRC",)}  # of all ot
 
 
 def named(given, which):
-    """The name that stands for SRC, IMG, CRT or LOG."""
+    """The name that stands for SRC, IMG, CRT or LOG, which the report has behind --log."""
+    if which == "LOG" and "--log" in given.of_report:
+        return given.of_report["--log"]
     names = COMMANDS[given.command].names
     return given.name(names.index(which)) if which in names else ""
 

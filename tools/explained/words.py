@@ -29,9 +29,34 @@ def without_report(words):
             own[word] = None
         elif rest:
             own[word] = rest.pop(0)
+            if fault := wrong_report_value(word, own[word]):
+                return own, rest, fault
         else:
-            return own, rest, f"`{word}` needs the name of a file"
+            return own, rest, f"`{word}` needs {BEHIND[REPORT_OPTIONS[word][0]]} behind it"
     return own, rest, None
+
+
+BEHIND = {  # what stands behind an option of the report
+    "FILE": "the name of a file",
+    "LOG": "the name of a log",
+    "N": "the number of a request, from 1",
+    "CLOCK": "a clock",
+    "HOW": "first or value",
+}
+
+
+def wrong_report_value(name, text):
+    """Why the value behind an option of the report isn't as it should be, if it isn't."""
+    kind = REPORT_OPTIONS[name][0]
+    if kind == "HOW" and text not in ("first", "value"):
+        return f"{quoted(f'{name} {text}')}: expected first, for outputs in the order of the requests, or value, for outputs with their values"
+    if kind in ("N", "CLOCK"):
+        least = 0 if name == "--from" else 1
+        if number_of(text) is None:
+            return f"{quoted(f'{name} {text}')}: expected a plain decimal number from {least}, without a sign or a leading zero"
+        if number_of(text) < least:
+            return f"{quoted(f'{name} {text}')}: the least is {least}"
+    return None
 
 
 def wrong_report_option(word):

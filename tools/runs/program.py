@@ -1,22 +1,19 @@
-"""The programs that the tools run: the scripts at the top of the repository, or those of the folder
-that CAPRICCIO_PROGRAMS names, which nobody builds."""
+"""The programs that the tools run: the scripts at the top of the repository, which run those of the
+folder that CAPRICCIO_PROGRAMS names, if it does."""
 import os, pathlib, subprocess
 
 TOP = pathlib.Path(__file__).resolve().parent.parent.parent
 
 
-def command(script, program):
-    """The path of a program, or of the script that proves, builds and runs it."""
-    folder = os.environ.get("CAPRICCIO_PROGRAMS")
-    return os.path.join(folder, program) if folder else str(TOP / script)
-
-
 def capriccio():
-    return command("capriccio", "capriccio_cli")
+    """The path of the program, which starts faster, or of the script that proves, builds and runs it."""
+    folder = os.environ.get("CAPRICCIO_PROGRAMS")
+    return os.path.join(folder, "capriccio_cli") if folder else str(TOP / "capriccio")
 
 
 def report():
-    return command("report", "report")
+    """The path of the script, which explains what the program refuses."""
+    return str(TOP / "report")
 
 
 def make_ready(source, options=()):

@@ -18,7 +18,7 @@ what its `accept` took."""
 Item = collections.namedtuple("Item", "time clock channel value dropped request")
 Item.__doc__ = """What came from outside: its time in the trace, and the clock at which it was
 delivered or dropped. An arrival has no channel (None) and, if it was delivered, the number of its
-request, from 0. A message has no request."""
+request, from 1 as in a report. A message has no request."""
 
 Request = collections.namedtuple("Request", "number arrived taken thread first last answers")
 Request.__doc__ = """A request that an `accept` took, told when no more answers can come: `arrived`
@@ -110,9 +110,9 @@ class Story:
             raise ValueError
         number = None
         if is_arrival and not is_dropped:
+            self.delivered += 1
             number = self.delivered
             self.waiting.append((number, int(said[1])))
-            self.delivered += 1
         yield Item(int(said[1]), self.clock, None if is_arrival else int(fields[3]), int(fields[-1]), is_dropped, number)
 
     def edge(self, fields):

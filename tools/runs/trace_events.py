@@ -2,7 +2,9 @@
 as the log comes.
 
 A tick is a microsecond of the format. Process 1 is the server with a row for each thread, process 2
-what comes from outside: arrivals, and a row for each channel.
+what comes from outside: arrivals, and a row for each channel. What the log leaves out, the use of
+resources, the number of threads that live and the values of calls, comes from a replay of the source
+(replay.py), as far as it goes.
 """
 import json
 
@@ -20,10 +22,11 @@ quoted = json.dumps  # a text as JSON
 class TraceEvents:
     """Writes the events of a story to a text file."""
 
-    def __init__(self, file, story, title, chunks):
-        self.file, self.story, self.chunks = file, story, chunks
+    def __init__(self, file, story, title, chunks, replay):
+        self.file, self.story, self.chunks, self.replay = file, story, chunks, replay
         self.names = Names(story.places, story.keys)
-        self.rows, self.live, self.last_free = set(), 0, None
+        self.rows, self.counts = set(), {}  # `counts` has the last number of each counter
+        self.called = None  # the call from which the thread of a segment went on
         self.ends = {}  # thread: the clock at the end of its last segment, while it waits
         self.answering = {}  # request: a tick in the segment that took it, and then in the last one with an answer
         self.quoted_nodes = {}
@@ -32,8 +35,13 @@ class TraceEvents:
         self.name_process(SERVER, f"{title} (1 us is a tick)")
         self.name_process(OUTSIDE, "from outside")
         self.tellers = {Segment: self.segment, Item: self.item, Request: self.request, Stop: self.stop, Edge: lambda it: None}
+        if not replay.is_lost:
+            self.count("live threads", "threads", 0, replay.live)
 
     def tell(self, happening):
+        if isinstance(happening, Segment):
+            self.called = self.replay.blocked.get(happening.thread)
+        self.replay.tell(happening)
         self.tellers[type(happening)](happening)
 
     def finish(self):
@@ -53,7 +61,10 @@ class TraceEvents:
         self.put("M", pid, tid, 0, f'"name":"thread_sort_index","args":{{"sort_index":{tid}}}')
 
     def count(self, name, what, ts, number):
-        self.put("C", SERVER, 0, ts, f'"name":"{name}","args":{{"{what}":{number}}}')
+        """A counter, where its number is another than before."""
+        if self.counts.get(name) != number:
+            self.counts[name] = number
+            self.put("C", SERVER, 0, ts, f'"name":"{name}","args":{{"{what}":{number}}}')
 
     def node(self, node):
         """The name of a node as JSON, made once."""
@@ -64,13 +75,10 @@ class TraceEvents:
     def segment(self, it):
         """A segment, the wait before it, and what it changes."""
         end = it.start + it.cost
-        if it.waited_since is None:
-            self.live += 1
-            self.count("live threads that ran", "threads", it.start, self.live)
         if self.names.learn(it) or it.waited_since is None:
             self.name_row(SERVER, it.thread, self.names.thread(it.thread))
         if it.waited_since is not None:
-            self.wait(it.thread, it.node, it.waited_since, it.start)
+            self.wait(it.thread, it.node, it.waited_since, it.start, self.called)
         to = '"cut"' if it.cut else self.node(it.end_node)[0]
         told = f'"from":{self.node(it.node)[0]},"to":{to},"instructions":{it.cost},"free chunks":{it.free}'
         if it.request is not None:
@@ -79,19 +87,31 @@ class TraceEvents:
             told += f',"outputs":{json.dumps(it.outputs[:MOST_OUTPUTS])}'
         self.put("X", SERVER, it.thread, it.start, f'"dur":{it.cost},"name":"run","cat":"segment","args":{{{told}}}')
         self.flow(it)
-        if it.free != self.last_free:
-            self.last_free = it.free
-            self.count("held chunks", "chunks", end, self.chunks - it.free)
+        self.count("held chunks", "chunks", end, self.chunks - it.free)
+        self.count_replayed(it.start, end)
         self.ends[it.thread] = (it.end_node, end)
         if it.end_node == END:
-            self.live -= 1
-            self.count("live threads that ran", "threads", end, self.live)
             self.names.forget(it.thread)
             del self.ends[it.thread]
 
-    def wait(self, thread, node, since, until):
+    def count_replayed(self, start, end):
+        """Units in use and live threads: what `take` takes at the start of the segment, all else at its end, as the log has no clock
+        for it."""
+        if self.replay.is_lost:
+            return
+        self.count("live threads", "threads", end, self.replay.live)
+        if self.called and self.called[0] == "take":
+            _, resource, amount = self.called
+            self.count(f"resource {resource} in use", "units", start, self.counts.get(f"resource {resource} in use", 0) + amount)
+        for resource, units in self.replay.uses.items():
+            self.count(f"resource {resource} in use", "units", end, units)
+
+    def wait(self, thread, node, since, until, called):
         at, name = self.node(node)
-        self.put("X", SERVER, thread, since, f'"dur":{until - since},"name":{name},"cat":"wait","args":{{"at":{at}}}')
+        told = f'"at":{at}'
+        if called and called[1:] and not self.replay.is_lost:
+            told += f',"call":"{called[0]}({", ".join(map(str, called[1:]))})"'
+        self.put("X", SERVER, thread, since, f'"dur":{until - since},"name":{name},"cat":"wait","args":{{{told}}}')
 
     def flow(self, it):
         """The steps of a request's flow in a segment: where it is taken, and where answers are put.
@@ -129,5 +149,5 @@ class TraceEvents:
         """The waits that are still under way, drawn to the stop, and the stop."""
         for thread, (node, since) in self.ends.items():
             if node is not None:
-                self.wait(thread, node, since, it.clock)
+                self.wait(thread, node, since, it.clock, self.replay.blocked.get(thread))
         self.put("i", SERVER, it.thread or 0, it.clock, f'"s":"g","name":{quoted(it.text)},"cat":"stop"')

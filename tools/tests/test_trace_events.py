@@ -4,9 +4,9 @@ of a row nest, and each flow has one start and one end, within slices.
 The rules are those of the format's public description ('Trace Event Format': complete, instant,
 counter, flow and metadata events). The JSON is read by Python's own parser.
 """
-import collections, io, json, pathlib, unittest
+import collections, io, json, pathlib, re, unittest
 
-from runs import places, story, trace_events
+from runs import places, replay, story, trace_events
 from runs.story import Segment
 
 TOP = pathlib.Path(__file__).resolve().parent.parent.parent
@@ -25,7 +25,7 @@ def happenings_of(source, trace, log):
 def written(source, trace, log, chunks=1024):
     """The events of a run."""
     told, file = story.Story(places.Places(source), trace), io.StringIO()
-    writer = trace_events.TraceEvents(file, told, "server.c", chunks)
+    writer = trace_events.TraceEvents(file, told, "server.c", chunks, replay.Replay(source))
     for it in told.happenings(log):
         writer.tell(it)
     writer.finish()
@@ -34,7 +34,15 @@ def written(source, trace, log, chunks=1024):
 
 def of_example(log):
     folder = log.parent
-    return (folder / "server.c").read_bytes(), (folder / "trace").read_text().splitlines(True), log.read_text().splitlines(True)
+    return (folder / "server.c").read_bytes(), (folder / "trace").read_text().splitlines(True), log.read_text().splitlines(True), chunks_of(log)
+
+
+def chunks_of(log):
+    """How many chunks of both sizes the run of an example had, by its options."""
+    options = log.parent / log.name.replace("log", "options")
+    words = options.read_text().split() if options.exists() else []
+    given = dict(zip(words[::2], words[1::2]))
+    return int(given.get("--chunks", 1024)) + int(given.get("--extra", 0))
 
 
 def many_threads(count):
@@ -45,7 +53,12 @@ def many_threads(count):
     log += [line for it in range(count) for line in (f"run {50 + it * 10} {it + 1} 0\n", f"block {it + 1} 2 1 10 2000\n")]
     for it in range(count):
         log += [f"event {100_000 + 50 * it} arrive {it}\n", f"run {100_000 + 50 * it} {it + 1} 2\n", f"out {it + 1} {it}\n", f"end {it + 1} 20 {2001 + it}\n"]
-    return source, trace, [*log, "stop done\n"]
+    return source, trace, [*log, "stop done\n"], 2001 + count
+
+
+def counted(events, name):
+    """The numbers of a counter, in order."""
+    return [next(iter(it["args"].values())) for it in events if it["ph"] == "C" and it["name"] == name]
 
 
 class Rules(unittest.TestCase):
@@ -59,6 +72,7 @@ class Rules(unittest.TestCase):
                 self.assertIsInstance(next(iter(it["args"].values())), METADATA[it["name"]])
             if it["ph"] == "i":
                 self.assertIn(it["s"], "gpt")
+        self.check_counters(events)
         slices = collections.defaultdict(list)
         for it in events:
             if it["ph"] == "X":
@@ -68,6 +82,16 @@ class Rules(unittest.TestCase):
         self.check_flows(events, slices)
         named = {(it["pid"], it["tid"]) for it in events if it["name"] == "thread_name"}
         self.assertLessEqual(set(slices), named)
+
+    def check_counters(self, events):
+        """The times of a counter never fall, and its numbers are none below 0."""
+        counters = collections.defaultdict(list)
+        for it in events:
+            if it["ph"] == "C":
+                counters[it["pid"], it["name"]].append(it["ts"])
+                self.assertTrue(all(value >= 0 for value in it["args"].values()), it)
+        for times in counters.values():
+            self.assertEqual(times, sorted(times))
 
     def check_nesting(self, slices):
         for row, found in slices.items():
@@ -137,9 +161,45 @@ class Told(unittest.TestCase):
                 self.assertEqual([it["name"] for it in events if it.get("cat") == "stop"], [text[-1]])
 
     def test_held_chunks_go_by_the_logs_free_ones(self):
-        log = TOP / "examples/pool/log"
-        held = [it["args"]["chunks"] for it in written(*of_example(log)) if it["name"] == "held chunks"]
-        self.assertEqual(held, [2])  # 1,022 of 1,024 are free from the first line to the last
+        self.assertEqual(counted(written(*of_example(TOP / "examples/pool/log")), "held chunks"), [2])  # 1,022 of 1,024 are free from the first line to the last
+
+    def test_requests_have_the_numbers_of_the_report(self):
+        events = written(*of_example(TOP / "examples/limiter/log"))
+        self.assertEqual([it["args"]["request"] for it in events if it["name"] == "arrive"], [1, 2, 3, 4, 5])
+        slowest = next(it for it in events if it.get("cat") == "segment" and it["args"].get("request") == 4)
+        self.assertEqual((slowest["ts"], slowest["tid"]), (1205, 1))  # `request 4, the slowest: arrived 130, taken by thread 1`, and queued until 1205
+
+    def test_resources_go_up_by_take_and_down_by_give(self):
+        """The limiter takes a unit for each of five requests, and a thread gives it back 1,000 ticks later; the run has two units."""
+        events = written(*of_example(TOP / "examples/limiter/log"))
+        self.assertEqual(counted(events, "resource 1 in use"), [1, 2, 1, 2, 1, 2, 1, 0, 1, 0])
+        taken = [it["ts"] for it in events if it["name"] == "resource 1 in use"]
+        self.assertEqual(taken[0], 111)  # `run 111 1 3`, of thread 1 from its first take
+
+    def test_resources_at_the_end_are_those_of_the_stored_report(self):
+        folder = TOP / "examples/relay"
+        events = written(*of_example(folder / "log"))
+        for resource, used in re.findall(r"^resource (\d+): (\d+) of", (folder / "report").read_text(), re.M):
+            self.assertEqual(counted(events, f"resource {resource} in use")[-1], int(used))
+
+    def test_threads_live_from_when_they_are_started(self):
+        source = b"void f(int n) { sleep(n); } int main() { spawn(f, 1); spawn(f, 2); yield(); return 0; }"
+        log = ["run 0 0 0", "block 0 2 3 20 1021", "run 20 1 0", "block 1 3 0 5 1021", "run 25 0 2", "end 0 5 1022", "run 30 2 0", "block 2 3 0 5 1022"]
+        log += ["run 35 1 3", "end 1 5 1023", "run 40 2 3", "end 2 5 1024", "stop done"]
+        events = written(source, [], log)
+        self.assertEqual(counted(events, "live threads"), [1, 3, 2, 1, 0])
+        self.assertEqual([it["args"]["call"] for it in events if it.get("cat") == "wait" and "call" in it["args"]], ["sleep(1)", "sleep(2)"])
+
+    def test_what_a_source_does_not_explain_is_left_out(self):
+        """The log of a source that puts another value: nothing of the replay is told from there on."""
+        source = b"int main() { put(1); yield(); take(1, 1); yield(); return 0; }"
+        log = ["run 0 0 0", "out 0 2", "block 0 2 1 20 1021", "run 20 0 2", "block 0 3 2 5 1021", "run 25 0 3", "block 0 4 3 5 1021", "stop idle"]
+        events = written(source, [], log)
+        self.check_names(events, {"live threads"})
+        self.assertEqual(counted(events, "live threads"), [1])
+
+    def check_names(self, events, wanted):
+        self.assertEqual({it["name"] for it in events if it["ph"] == "C"} - {"held chunks"}, wanted)
 
 
 if __name__ == "__main__":
