@@ -7,6 +7,8 @@ use Rattle.rv_machine.specs.Bytes.{Nothing}
 use Rattle.rv_machine.specs.Registers.{read, write}
 use Rattle.rv_machine.specs.Rows.{Machine, Outcome, Goes, next, passes, sets, jumps, loads, word_loaded, word_stored}
 use Rattle.rv_machine.specs.Step.{code_start, decoded, started}
+use Rattle.decoded_code.specs.declared.ready.Action.{Action}
+use Rattle.decoded_code.specs.declared.ready.Action.TheVariants as action
 use Rattle.decoded_code.specs.declared.ready.Kind.{Kind}
 use Rattle.decoded_code.specs.declared.ready.Kind.TheVariants as kind
 use Rattle.decoded_code.specs.declared.ready.Ready.{Ready}
@@ -58,6 +60,18 @@ done op a b m = done_as op.kind op a b m
 -- what a ready operation comes to; none where only the machine's step says it
 abbrev pub ready_effect : Ready → Machine → Option Outcome
 ready_effect op m = done op (read m.x op.rs1) (read m.x op.rs2) m
+
+-- what an operation comes to by its action, where its second register holds b
+abbrev pub acted : Action → Ready → ℕ → Machine → Option Outcome
+acted (action.Sets value) op b m = Some (sets m op.rd value)
+acted (action.Loads address) op b m = Some (loads m op.rd (word_loaded m.bytes address))
+acted (action.Stores address) op b m = Some (word_stored m address b)
+acted (action.Jumps to) op b m = Some (Goes (place_at to) m.x Nothing)
+acted (action.Calls to) op b m = Some (Goes (place_at to) (write m.x op.rd (next m)) Nothing)
+acted (action.JumpsNear place) op b m = Some (jumps m 0 (even place))
+acted (action.CallsNear place) op b m = Some (jumps m op.rd (even place))
+acted (action.Branches taken) op b m = Some (branches_to m op.imm taken)
+acted action.Steps op b m = None
 
 -- the operation of what was decoded at a place: what it comes to is what the machine's step comes to there
 pub record IsReadyAt (op : Ready) (place : ℕ) (found : Option Instr) : Type 0 where

@@ -13,4 +13,4 @@ mod ready;
 mod readying;
 
 pub use lists::{decode_all, ready_all};
-pub use ready::{Kind, Ready};
+pub use ready::{Action, Kind, Ready};

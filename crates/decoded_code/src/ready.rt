@@ -1,6 +1,6 @@
-ghost use Rattle.std.specs.Prelude.{◌≡◌, IfSome, Some};
-ghost use Rattle.decoded_code.specs.Ready.{done};
-ghost use Rattle.rv_machine.specs.Rows.{Machine, sets};
+ghost use Rattle.std.specs.Prelude.{◌≡◌};
+ghost use Rattle.decoded_code.specs.Ready.{done, acted};
+ghost use Rattle.rv_machine.specs.Rows.{Machine};
 
 use cap_word::{add, div, mul, rem, sll, slt, sltu, sra, sub};
 
@@ -55,33 +55,79 @@ pub struct Ready {
     pub imm: u32,
 }
 
+/// What a ready operation is to do, once its registers are read.
+#[derive(Clone, Copy)]
+pub enum Action {
+    /// Gives its register a value, and goes on to the next word.
+    Sets { value: u32 },
+    /// Gives its register the word at an address, and goes on to the next word.
+    Loads { address: u32 },
+    /// Stores the word of its second register at an address, and goes on to the next word.
+    Stores { address: u32 },
+    /// Goes on to the word of an index.
+    Jumps { to: u32 },
+    /// Leaves the next place in its register, and goes on to the word of an index.
+    Calls { to: u32 },
+    /// Goes on to a place whose bit 0 doesn't count.
+    JumpsNear { place: u32 },
+    /// Leaves the next place in its register, and goes on to a place whose bit 0 doesn't count.
+    CallsNear { place: u32 },
+    /// Goes on to the word of the operation's index where the branch is taken, else to the next word.
+    Branches { taken: bool },
+    /// What only the machine's step does.
+    Steps,
+}
+
 impl Ready {
-    /// The value that it gives its register, from what its two registers hold; None where it isn't an operation on
-    /// registers alone that goes on to the next.
+    /// What it is to do, where its two registers hold `a` and `b`.
     #[inline(always)]
     #[tactic(auto, unfolding(crate::specs::Ready::done))]
-    pub fn value(self, a: u32, b: u32) -> Option<u32>
-        ensures { (m : Machine) → IfSome result (λ value. done self a b m ≡ Some (sets m self.rd value)) }
+    pub fn action(&self, a: u32, b: u32) -> Action
+        ensures { (m : Machine) → done self.now a b m ≡ acted result self.now b m }
     {
         match self.kind {
-            Kind::Lui => Some(self.imm),
-            Kind::Addi => Some(add(a, self.imm)),
-            Kind::Sltiu => Some(sltu(a, self.imm)),
-            Kind::Xori => Some(a ^ self.imm),
-            Kind::Slli => Some(sll(a, self.imm)),
-            Kind::Add => Some(add(a, b)),
-            Kind::Sub => Some(sub(a, b)),
-            Kind::Sll => Some(sll(a, b)),
-            Kind::Slt => Some(slt(a, b)),
-            Kind::Sltu => Some(sltu(a, b)),
-            Kind::Xor => Some(a ^ b),
-            Kind::Sra => Some(sra(a, b)),
-            Kind::Or => Some(a | b),
-            Kind::And => Some(a & b),
-            Kind::Mul => Some(mul(a, b)),
-            Kind::Div => Some(div(a, b)),
-            Kind::Rem => Some(rem(a, b)),
-            _ => None,
+            Kind::Other => Action::Steps,
+            Kind::Lui => Action::Sets { value: self.imm },
+            Kind::Addi => Action::Sets {
+                value: add(a, self.imm),
+            },
+            Kind::Sltiu => Action::Sets {
+                value: sltu(a, self.imm),
+            },
+            Kind::Xori => Action::Sets {
+                value: a ^ self.imm,
+            },
+            Kind::Slli => Action::Sets {
+                value: sll(a, self.imm),
+            },
+            Kind::Add => Action::Sets { value: add(a, b) },
+            Kind::Sub => Action::Sets { value: sub(a, b) },
+            Kind::Sll => Action::Sets { value: sll(a, b) },
+            Kind::Slt => Action::Sets { value: slt(a, b) },
+            Kind::Sltu => Action::Sets { value: sltu(a, b) },
+            Kind::Xor => Action::Sets { value: a ^ b },
+            Kind::Sra => Action::Sets { value: sra(a, b) },
+            Kind::Or => Action::Sets { value: a | b },
+            Kind::And => Action::Sets { value: a & b },
+            Kind::Mul => Action::Sets { value: mul(a, b) },
+            Kind::Div => Action::Sets { value: div(a, b) },
+            Kind::Rem => Action::Sets { value: rem(a, b) },
+            Kind::Lw => Action::Loads {
+                address: add(a, self.imm),
+            },
+            Kind::Sw => Action::Stores {
+                address: add(a, self.imm),
+            },
+            Kind::Jump => Action::Jumps { to: self.imm },
+            Kind::Call => Action::Calls { to: self.imm },
+            Kind::JumpTo => Action::JumpsNear {
+                place: add(a, self.imm),
+            },
+            Kind::CallTo => Action::CallsNear {
+                place: add(a, self.imm),
+            },
+            Kind::Bne => Action::Branches { taken: a != b },
+            Kind::Bltu => Action::Branches { taken: a < b },
         }
     }
 }

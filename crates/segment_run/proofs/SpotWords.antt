@@ -1,5 +1,5 @@
 -- Words and bytes at a spot, as memory by bytes has them.
-use Rattle.std.proofs.Common.{◌≡◌, ℕ, ◌+◌, ◌-◌, ◌*◌, ◌/◌, ◌%◌, ◌^◌, ◌<◌, ◌≤◌, Bool, true, false, length, get_or, set, Option, Some, None, sym, ap, ◌∙◌, arith}
+use Rattle.std.proofs.Common.{◌≡◌, ℕ, ◌+◌, ◌-◌, ◌*◌, ◌/◌, ◌%◌, ◌^◌, ◌<◌, ◌≤◌, Bool, true, false, length, get_or, set, Option, Some, None, refl, sym, ap, ◌∙◌, arith}
 use Rattle.std.specs.Prelude.{◌&&◌}
 use Rattle.chunk_pool.specs.Pool.{Pool, place_of, IsPool, bytes_of}
 use Rattle.chunk_pool.proofs.AddressLaws.{place_of-aligned}
@@ -59,12 +59,32 @@ unfolding word_at half_at
 loaded-none areas address none =
     ap (λ (spot : Option world.Spot). joined (2 ^ 16) (joined (2 ^ 8) (byte_on areas spot) (byte_at areas (address + 1))) (joined (2 ^ 8) (byte_at areas (address + 2)) (byte_at areas (address + 2 + 1)))) none
 
+-- where a word can be loaded, its address is on the map
+pub loaded_there : (areas : Areas) (address word : ℕ) → word_at (byte_at areas) address ≡ Some word → (spot : world.Spot) × (spot_of areas address ≡ Some spot)
+loaded_there areas address word loaded = by (spot_of areas address) refl
+  where
+    by : (found : Option world.Spot) → spot_of areas address ≡ found → (spot : world.Spot) × (spot_of areas address ≡ Some spot)
+    by None is = absurd (let both = loaded-none areas address (sym is) ∙ loaded in cc)
+    by (Some spot) is = (spot, is)
+
 -- ---- stores
 
 pub unwritable-word : (areas : Areas) (address : ℕ) → is_writable areas address ≡ false → false ≡ word_is_writable (is_writable areas) address
 unfolding word_is_writable half_is_writable
 unwritable-word areas address never =
     sym (ap (λ (t : Bool). (t && is_writable areas (address + 1)) && (is_writable areas (address + 2) && is_writable areas (address + 2 + 1))) never)
+
+-- where a word can be stored, its address is on the map, and writable there
+may_write : (areas : Areas) (address : ℕ) (writable : Bool) → is_writable areas address ≡ writable → word_is_writable (is_writable areas) address ≡ true → writable ≡ true
+may_write areas address true is may = refl
+may_write areas address false is may = absurd (let both = unwritable-word areas address is ∙ may in cc)
+
+pub written_there : (areas : Areas) (address : ℕ) → word_is_writable (is_writable areas) address ≡ true → (spot : world.Spot) × (spot_of areas address ≡ Some spot) × (is_writable_on (Some spot) ≡ true)
+written_there areas address may = by (spot_of areas address) refl
+  where
+    by : (found : Option world.Spot) → spot_of areas address ≡ found → (spot : world.Spot) × (spot_of areas address ≡ Some spot) × (is_writable_on (Some spot) ≡ true)
+    by None is = absurd (let no = may_write areas address false (ap is_writable_on is) may in cc)
+    by (Some spot) is = (spot, is, may_write areas address (is_writable_on (Some spot)) (ap is_writable_on is) may)
 
 pub writable-on : (areas : Areas) (address : ℕ) (spot : Spot) → Fit areas → address % 4 ≡ 0 → IsOn areas address spot → is_writable_on (Some (world_spot spot)) ≡ true → word_is_writable (is_writable areas) address ≡ true
 writable-on areas address (InGlobals offset) fit aligned on may = writable-global areas address (in_globals areas address offset aligned on)

@@ -1,12 +1,14 @@
 -- The map of the areas, address by address, as the code tests it.
-use Rattle.std.proofs.Common.{◌≡◌, ℕ, ◌+◌, ◌-◌, ◌*◌, ◌<◌, ◌≤◌, true, false, List, length, Some, None, ap, ◌∙◌, arith}
+use Rattle.std.proofs.Common.{◌≡◌, inl, inr, ℕ, ◌+◌, ◌-◌, ◌*◌, ◌<◌, ◌≤◌, true, false, List, length, Option, Some, None, refl, sym, ap, ◌∙◌, arith}
 use Rattle.std.specs.Prelude.{nat_le, nat_lt}
-use Rattle.std.proofs.lemmas.Bool.{cond-true, cond-false, lt-ltb, le-ltb, le-leb, lt-leb, and_from, and_left, and_right}
-use Rattle.chunk_pool.specs.Pool.{Pool, IsPool, HasAddress, shape_of, place_of, payload_place_of, chunk_at, first_place}
+use Rattle.std.proofs.lemmas.Bool.{cases_lt, cond-true, cond-false, lt-ltb, le-ltb, le-leb, lt-leb, and_from, and_left, and_right}
+use Rattle.chunk_pool.specs.Pool.{Pool, HasAddress, shape_of, place_of, payload_place_of, chunk_at, first_place}
 use Rattle.chunk_pool.proofs.AddressLaws.{chunk_at-some, chunk_in-below}
+use Rattle.machine_world.specs.Areas as world
 use Rattle.machine_world.specs.Areas.{Areas, InGlobals, InTables, InPayload, globals_place, tables_place, is_within, payload_spot, spot_of}
-use Rattle.segment_run.specs.Payloads.{IsPayloadOf}
-use Rattle.segment_run.specs.declared.areas.Payload.{Payload}
+use Rattle.segment_run.specs.Spots.{world_spot, IsOn}
+use Rattle.segment_run.specs.declared.areas.Spot.{Spot}
+use Rattle.segment_run.specs.declared.areas.Spot.TheVariants as spot
 
 outside : (place : ℕ) (words : List ℕ) (address : ℕ) → place + 4 * length words ≤ address → is_within place words address ≡ false
 outside place words address past = and_right (nat_le place address) (nat_lt address (place + 4 * length words)) (le-ltb address (place + 4 * length words) past)
@@ -72,12 +74,54 @@ spot_of-below areas address low =
     spot_of-chunks areas address (before globals_place areas.globals address low) (before tables_place areas.tables address (omega arith))
     ∙ nothing_low areas address (omega arith)
 
--- in a payload that is looked at first
-pub spot_of-in_payload : (areas : Areas) (address : ℕ) (payload : Payload) → AreFew areas → IsPool areas.pool → IsPayloadOf areas.pool payload →
-    payload.low ≤ address → address - payload.low < payload.bytes → spot_of areas address ≡ Some (InPayload payload.chunk (address - payload.low + 16))
-spot_of-in_payload areas address payload few sound is from within =
-    let has : HasAddress areas.pool payload.chunk address = (is.there, omega (arith, is.low, from), omega (arith, is.low, is.bytes, from, within)) in
-    spot_of-high areas address few (omega (arith, is.low, from))
-    ∙ ap (payload_spot areas.pool address) (chunk_at-some areas.pool payload.chunk address has)
-    ∙ payload_spot-in areas.pool address payload.chunk (omega (arith, is.low, from))
-    ∙ ap (λ (offset : ℕ). Some (InPayload payload.chunk offset)) (let e : address - place_of areas.pool payload.chunk ≡ address - payload.low + 16 = omega (arith, is.low, from) in e)
+-- ---- an address that is on the map, by its range
+
+-- the spot of an address, as the code finds it
+pub record Found (areas : Areas) (address : ℕ) (spot : Spot) : Type 0 where
+  pub on : IsOn areas address spot
+  pub is : Some (world_spot spot) ≡ spot_of areas address
+
+-- from the first chunk on, in a payload
+pub has_chunk : (areas : Areas) (address : ℕ) (on_map : world.Spot) → AreFew areas → first_place ≤ address → spot_of areas address ≡ Some on_map → (chunk : ℕ) × (chunk_at areas.pool address ≡ Some chunk) × (payload_place_of areas.pool chunk ≤ address)
+has_chunk areas address on_map few high there = by (chunk_at areas.pool address) refl
+  where
+    none : {X : Type 0} → spot_of areas address ≡ None → X
+    none e = absurd (let both = sym e ∙ there in cc)
+
+    by : (found : Option ℕ) → chunk_at areas.pool address ≡ found → (chunk : ℕ) × (chunk_at areas.pool address ≡ Some chunk) × (payload_place_of areas.pool chunk ≤ address)
+    by None is = none (spot_of-high areas address few high ∙ ap (payload_spot areas.pool address) is)
+    by (Some chunk) is = elim (cases_lt address (payload_place_of areas.pool chunk)) [
+      | inl low ↦ none (spot_of-high areas address few high ∙ ap (payload_spot areas.pool address) is ∙ payload_spot-header areas.pool address chunk low)
+      | inr behind ↦ (chunk, is, behind)
+    ]
+
+pub found_in_payload : (areas : Areas) (address chunk offset : ℕ) → AreFew areas → HasAddress areas.pool chunk address → payload_place_of areas.pool chunk ≤ address → place_of areas.pool chunk + offset ≡ address → Found areas address (spot.InPayload chunk offset)
+found_in_payload areas address chunk offset few has behind place =
+    let same : address - place_of areas.pool chunk ≡ offset = omega (arith, place) in
+    record {
+      on = record { of = (omega (arith, behind, place), has.0, omega (arith, has.2, place)); place = sym place };
+      is = sym (spot_of-high areas address few (omega (arith, has.1)) ∙ ap (payload_spot areas.pool address) (chunk_at-some areas.pool chunk address has)
+          ∙ payload_spot-in areas.pool address chunk behind ∙ ap (λ (o : ℕ). Some (InPayload chunk o)) same);
+    }
+
+-- below it, in the tables
+pub found_in_tables : (areas : Areas) (address : ℕ) (on_map : world.Spot) → AreFew areas → tables_place ≤ address → address < first_place → spot_of areas address ≡ Some on_map → Found areas address (spot.InTables (address - tables_place))
+found_in_tables areas address on_map few high low there = elim (cases_lt address (tables_place + 4 * length areas.tables)) [
+  | inl within ↦ record { on = record { of = omega (arith, within, high); place = omega (arith, high) }; is = sym (spot_of-in_tables areas address few high within) }
+  | inr past ↦ absurd (let both = sym (spot_of-past_tables areas address few past low) ∙ there in cc)
+]
+
+-- and below these, in the globals
+pub from_globals : (areas : Areas) (address : ℕ) (on_map : world.Spot) → spot_of areas address ≡ Some on_map → globals_place ≤ address
+from_globals areas address on_map there = elim (cases_lt address globals_place) [
+  | inl low ↦ absurd (let both = sym (spot_of-below areas address low) ∙ there in cc)
+  | inr high ↦ high
+]
+
+pub found_in_globals : (areas : Areas) (address : ℕ) (on_map : world.Spot) → address < tables_place → spot_of areas address ≡ Some on_map → Found areas address (spot.InGlobals (address - globals_place))
+found_in_globals areas address on_map low there =
+    let high = from_globals areas address on_map there in
+    elim (cases_lt address (globals_place + 4 * length areas.globals)) [
+      | inl within ↦ record { on = record { of = omega (arith, within, high); place = omega (arith, high) }; is = sym (spot_of-in_globals areas address high within) }
+      | inr past ↦ absurd (let both = sym (spot_of-past_globals areas address past low) ∙ there in cc)
+    ]

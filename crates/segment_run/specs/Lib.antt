@@ -9,5 +9,4 @@ pub mod Turns
 pub mod Lookups
 pub mod Sources
 pub mod Walking
-pub mod Payloads
 pub mod ReadyTurns

@@ -2,7 +2,6 @@ ghost use Rattle.std.specs.Prelude.{◌≡◌, ◌≤◌, ◌<◌, ◌%◌, leng
 ghost use Rattle.machine_world.specs.Areas.{byte_at, is_writable, is_writable_on, spot_of, with_byte};
 ghost use Rattle.machine_world.specs.WellFormed.{AreWords};
 ghost use Rattle.rv_machine.specs.WordBytes.{word_with};
-ghost use Rattle.segment_run.specs.Payloads.{IsPayloadOf};
 
 use chunk_pool::ChunkPool;
 use rv_machine::Memory;
@@ -24,35 +23,22 @@ const HEADER: u32 = 16;
 ///
 /// As memory by bytes, the globals stand from 0x10000000 and the tables from 0x20000000; a chunk's payload stands behind
 /// its header. Tables can't be written. Every other byte, and so every header, is neither readable nor writable.
-///
-/// An address is looked for in one payload first, mostly that of the running thread's innermost chunk, where nearly all
-/// loads and stores of a thread lie. Contracts don't see which one.
 #[derive(Drop)]
 pub struct Areas {
     pub(crate) pool: ChunkPool,
     pub(crate) globals: Vec<u32>,
     pub(crate) tables: Vec<u32>,
-    first: Payload,
-}
-
-// The payload of a chunk: its chunk, the address of its first byte, and its bytes.
-#[derive(Clone, Copy, Drop)]
-struct Payload {
-    chunk: u32,
-    low: u32,
-    bytes: u32,
 }
 
 impl Model for Areas {
     ghost use Rattle.machine_world.specs.Areas as world;
     ghost use Rattle.segment_run.specs.Kept.{areas_of, AreKept};
-    ghost use Rattle.segment_run.specs.Payloads.{IsPayloadOf};
 
     ghost Value = { world.Areas };
 
     ghost view = { areas_of };
 
-    ghost invariant = { λ a. AreKept (areas_of a) × IsPayloadOf a.pool a.first };
+    ghost invariant = { λ a. AreKept (areas_of a) };
 }
 
 impl Areas {
@@ -66,12 +52,10 @@ impl Areas {
     {
         let globals = copied(alloc, image.globals.as_slice())?;
         let tables = copied(alloc, image.tables.as_slice())?;
-        let first = payload_of(&pool, 0);
         Ok(Areas {
             pool,
             globals,
             tables,
-            first,
         })
     }
 
@@ -82,32 +66,11 @@ impl Areas {
         &self.pool
     }
 
-    // From now on addresses are looked for in the payload of the chunk of this address first, if a chunk has it.
-    pub(crate) fn look_first_at(&mut self, address: u32)
-        ensures { self.new ≡ self.old }
-    {
-        if let Some(chunk) = self.pool.chunk_at(address) {
-            self.first = payload_of(&self.pool, chunk);
-        }
-    }
-
     // What all areas keep.
     pub(crate) fn are_kept(&self)
         ensures { AreKept self.now }
     {
         let _words = self.globals.len();
-    }
-}
-
-// The payload of a chunk.
-fn payload_of(pool: &ChunkPool, chunk: u32) -> Payload
-    requires { chunk < pool.now.count }
-    ensures { IsPayloadOf pool.now result }
-{
-    Payload {
-        chunk,
-        low: pool.place_of(chunk) + HEADER,
-        bytes: pool.bytes_of(chunk) - HEADER,
     }
 }
 
@@ -143,21 +106,18 @@ impl Spot {
 
 impl Areas {
     ghost use Rattle.std.specs.Prelude.{option_map};
+    ghost use Rattle.chunk_pool.specs.Pool.{HasAddress, payload_place_of};
+    ghost use Rattle.machine_world.specs.Areas as world;
     ghost use Rattle.segment_run.specs.Kept.{AreKept};
     ghost use Rattle.segment_run.specs.Spots.{world_spot, IsOn, word_on, with_word_on};
 
     // The spot of an address, if it is on the map.
-    #[inline(always)]
     fn spot(&self, address: u32) -> Option<Spot>
         ensures spot { option_map world_spot result ≡ spot_of self.now address }
         ensures on { IfSome result (IsOn self.now address) }
         ensures kept { AreKept self.now }
     {
-        let Payload { chunk, low, bytes } = self.first;
-        if address >= low && address - low < bytes {
-            let offset = address - low + HEADER;
-            Some(Spot::InPayload { chunk, offset })
-        } else if address >= CHUNKS {
+        if address >= CHUNKS {
             self.payload_spot(address)
         } else if address >= TABLES {
             let offset = address - TABLES;
@@ -197,7 +157,48 @@ impl Areas {
         }
     }
 
+    // The spot of an address that is on the map. Only contracts ask in which chunk it lies, since the address alone tells
+    // where in the pool its word is: the compiler drops the search for it.
+    #[inline(always)]
+    fn spot_on(&self, address: u32) -> Spot
+        requires { (spot : world.Spot) × (spot_of self.now address ≡ Some spot) }
+        ensures on { IsOn self.now address result }
+        ensures spot { Some (world_spot result) ≡ spot_of self.now address }
+        ensures kept { AreKept self.now }
+    {
+        if address >= CHUNKS {
+            let chunk = self.chunk_with(address);
+            Spot::InPayload {
+                chunk,
+                offset: address - self.pool.place_of(chunk),
+            }
+        } else if address >= TABLES {
+            Spot::InTables {
+                offset: address - TABLES,
+            }
+        } else {
+            Spot::InGlobals {
+                offset: address - GLOBALS,
+            }
+        }
+    }
+
+    // The chunk of an address from the first chunk on that is on the map.
+    #[inline(always)]
+    fn chunk_with(&self, address: u32) -> u32
+        requires high { 0x8000_0000 ≤ address }
+        requires there { (spot : world.Spot) × (spot_of self.now address ≡ Some spot) }
+        ensures has { HasAddress self.now.pool result address }
+        ensures behind { payload_place_of self.now.pool result ≤ address }
+    {
+        match self.pool.chunk_at(address) {
+            Some(chunk) => chunk,
+            None => 0,
+        }
+    }
+
     // The word at the spot of an address.
+    #[inline(always)]
     fn word_on(&self, spot: Spot, address: u32) -> u32
         requires { IsOn self.now address spot }
         ensures { result ≡ word_on self.now spot }
@@ -210,6 +211,7 @@ impl Areas {
     }
 
     // Writes the word at the spot of an address.
+    #[inline(always)]
     fn write_on(&mut self, spot: Spot, address: u32, value: u32)
         requires { IsOn self.old address spot }
         ensures { self.new ≡ with_word_on self.old spot value }
@@ -234,10 +236,8 @@ impl Areas {
         requires { (word : ℕ) × (word_loaded (byte_at self.now) address ≡ Ok word) }
         ensures { word_loaded (byte_at self.now) address ≡ Ok result }
     {
-        match self.load_word(address) {
-            Some(word) => word,
-            None => unreachable!(),
-        }
+        let spot = self.spot_on(address);
+        self.word_on(spot, address)
     }
 
     // Writes a word at an address at which one can be stored.
@@ -247,7 +247,8 @@ impl Areas {
         requires writable { word_is_writable (is_writable self.old) address ≡ true }
         ensures { self.new ≡ with_word with_byte self.old address word }
     {
-        self.store_word(address, word);
+        let spot = self.spot_on(address);
+        self.write_on(spot, address, word);
     }
 }
 

@@ -11,7 +11,6 @@ use crate::registers::{SP, T1, TP};
 use crate::running::Thread;
 use cap_word::add;
 use chunk_pool::ChunkPool;
-use rv_code::Register;
 
 // The bytes of a chunk's header.
 const HEADER: u32 = 16;
@@ -19,17 +18,6 @@ const HEADER: u32 = 16;
 // LINK: takes a chunk for the need in t1, saves tp and sp in its header, and goes on with tp at its payload and sp at its
 // end. Answers whether a free chunk fits; where none does, nothing changes.
 pub(crate) fn link(areas: &mut Areas, thread: &mut Thread) -> bool
-    requires owns { Owns (thread_of areas.old thread.old) }
-    requires front { TpIsFront areas.old.pool (thread_of areas.old thread.old).core (thread_of areas.old thread.old).core.chain }
-    ensures { IsLink result (thread_of areas.old thread.old) (thread_of areas.new thread.new) }
-{
-    let linked = link_chunk(areas, thread);
-    areas.look_first_at(thread.regs.read(Register::TP));
-    linked
-}
-
-// The same, whichever payload is looked at first.
-fn link_chunk(areas: &mut Areas, thread: &mut Thread) -> bool
     requires owns { Owns (thread_of areas.old thread.old) }
     requires front { TpIsFront areas.old.pool (thread_of areas.old thread.old).core (thread_of areas.old thread.old).core.chain }
     ensures { IsLink result (thread_of areas.old thread.old) (thread_of areas.new thread.new) }
@@ -50,17 +38,6 @@ fn link_chunk(areas: &mut Areas, thread: &mut Thread) -> bool
 
 // UNLINK: tp and sp come back from the header of the innermost chunk, which goes back to the pool.
 pub(crate) fn unlink(areas: &mut Areas, thread: &mut Thread)
-    requires owns { Owns (thread_of areas.old thread.old) }
-    requires front { TpIsFront areas.old.pool (thread_of areas.old thread.old).core (thread_of areas.old thread.old).core.chain }
-    requires headers { HeadersName areas.old.pool (thread_of areas.old thread.old).core.chain }
-    ensures { unlinked (thread_of areas.old thread.old) ≡ Goes (thread_of areas.new thread.new) }
-{
-    unlink_chunk(areas, thread);
-    areas.look_first_at(thread.regs.read(Register::TP));
-}
-
-// The same, whichever payload is looked at first.
-fn unlink_chunk(areas: &mut Areas, thread: &mut Thread)
     requires owns { Owns (thread_of areas.old thread.old) }
     requires front { TpIsFront areas.old.pool (thread_of areas.old thread.old).core (thread_of areas.old thread.old).core.chain }
     requires headers { HeadersName areas.old.pool (thread_of areas.old thread.old).core.chain }

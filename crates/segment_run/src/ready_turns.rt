@@ -1,6 +1,6 @@
 ghost use Rattle.std.specs.Prelude.{◌≡◌, ℕ, ◌+◌, ◌%◌, ◌^◌, ◌<◌, ◌≤◌, List, length, Ok, IfSome, IsNone, if◌then◌else◌};
 ghost use Rattle.cap_word.specs.Word as word;
-ghost use Rattle.decoded_code.specs.Ready.{place_at, even, done, ready_effect, AreReady};
+ghost use Rattle.decoded_code.specs.Ready.{place_at, even, ready_effect, AreReady};
 ghost use Rattle.flat_code.specs.WellFormed.{IsWellFormed};
 ghost use Rattle.rv_code.specs.declared.instructions.Instr.{Instr};
 ghost use Rattle.rv_machine.specs.Step.{instruction_at};
@@ -15,7 +15,7 @@ use crate::register_file::RegisterFile;
 use crate::running::Thread;
 use accepted_pairs::Accepted;
 use cap_word::add;
-use decoded_code::{Kind, Ready};
+use decoded_code::{Action, Ready};
 use rv_machine::Regs;
 
 // The first byte of the code.
@@ -83,93 +83,53 @@ fn index_at(pc: u32) -> usize
 
 // The ready operation of an index.
 #[inline(always)]
-fn operation_at(ready: &[Ready], at: usize) -> Ready
+fn operation_at(ready: &[Ready], at: usize) -> &Ready
     requires there { (words : List ℕ) × (instr : Instr) × AreReady words (length words) ready.now × (instruction_at words (place_at at) ≡ Ok instr) }
     requires place { place_at at < 2 ^ 32 }
-    ensures { (words : List ℕ) (instr : Instr) → AreReady words (length words) ready.now → instruction_at words (place_at at) ≡ Ok instr → IsReadyIn words at result }
+    ensures { (words : List ℕ) (instr : Instr) → AreReady words (length words) ready.now → instruction_at words (place_at at) ≡ Ok instr → IsReadyIn words at result.now }
 {
-    ready[at]
+    &ready[at]
 }
 
 // Does the ready operation of an index, and answers the index of the next; None where only the machine's step does it,
 // and then nothing has changed.
 #[inline(always)]
-fn turn(op: Ready, at: usize, areas: &mut Areas, file: &mut RegisterFile) -> Option<usize>
-    requires registers { HasRegisters op }
+fn turn(op: &Ready, at: usize, areas: &mut Areas, file: &mut RegisterFile) -> Option<usize>
+    requires registers { HasRegisters op.now }
     requires place { place_at at < 2 ^ 32 }
-    requires goes { GoesOn (ready_effect op (machine_at areas.old at file.old)) }
-    ensures went { IfSome result (λ next. WentOn (ready_effect op (machine_at areas.old at file.old)) areas.old areas.new next file.new) }
+    requires goes { GoesOn (ready_effect op.now (machine_at areas.old at file.old)) }
+    ensures went { IfSome result (λ next. WentOn (ready_effect op.now (machine_at areas.old at file.old)) areas.old areas.new next file.new) }
     ensures areas { IsNone result → areas.new ≡ areas.old }
     ensures file { IsNone result → file.new ≡ file.old }
 {
     let a = file.read(op.rs1);
     let b = file.read(op.rs2);
-    match op.value(a, b) {
-        Some(value) => {
+    match op.action(a, b) {
+        Action::Sets { value } => {
             file.write(op.rd, value);
             Some(at + 1)
         }
-        None => access_or_jump(op, at, a, b, areas, file),
-    }
-}
-
-// The same, of an operation that loads, stores or jumps, where its registers hold a and b.
-#[inline(always)]
-fn access_or_jump(
-    op: Ready,
-    at: usize,
-    a: u32,
-    b: u32,
-    areas: &mut Areas,
-    file: &mut RegisterFile,
-) -> Option<usize>
-    requires registers { HasRegisters op }
-    requires place { place_at at < 2 ^ 32 }
-    requires goes { GoesOn (done op a b (machine_at areas.old at file.old)) }
-    ensures went { IfSome result (λ next. WentOn (done op a b (machine_at areas.old at file.old)) areas.old areas.new next file.new) }
-    ensures areas { IsNone result → areas.new ≡ areas.old }
-    ensures file { IsNone result → file.new ≡ file.old }
-{
-    match op.kind {
-        Kind::Lw => {
-            let word = areas.read_word(add(a, op.imm));
+        Action::Loads { address } => {
+            let word = areas.read_word(address);
             file.write(op.rd, word);
             Some(at + 1)
         }
-        Kind::Sw => {
-            areas.put_word(add(a, op.imm), b);
+        Action::Stores { address } => {
+            areas.put_word(address, b);
             Some(at + 1)
         }
-        Kind::Jump => Some(op.imm as usize),
-        Kind::Call => {
+        Action::Jumps { to } => Some(to as usize),
+        Action::Calls { to } => {
             file.write(op.rd, place_behind(at));
-            Some(op.imm as usize)
+            Some(to as usize)
         }
-        Kind::JumpTo => Some(index_near(add(a, op.imm))),
-        Kind::CallTo => {
+        Action::JumpsNear { place } => Some(index_near(place)),
+        Action::CallsNear { place } => {
             file.write(op.rd, place_behind(at));
-            Some(index_near(add(a, op.imm)))
+            Some(index_near(place))
         }
-        Kind::Bne => Some(branch_to(a != b, op.imm, at)),
-        Kind::Bltu => Some(branch_to(a < b, op.imm, at)),
-        Kind::Other
-        | Kind::Lui
-        | Kind::Addi
-        | Kind::Sltiu
-        | Kind::Xori
-        | Kind::Slli
-        | Kind::Add
-        | Kind::Sub
-        | Kind::Sll
-        | Kind::Slt
-        | Kind::Sltu
-        | Kind::Xor
-        | Kind::Sra
-        | Kind::Or
-        | Kind::And
-        | Kind::Mul
-        | Kind::Div
-        | Kind::Rem => None,
+        Action::Branches { taken } => Some(branch_to(taken, op.imm, at)),
+        Action::Steps => None,
     }
 }
 

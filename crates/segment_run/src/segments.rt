@@ -16,7 +16,6 @@ use crate::contexts::{Context, Fuel, are_registers};
 use crate::running::{Thread, Turn, call, run_to_call};
 use accepted_pairs::Accepted;
 use cap_word::{Ask, Block, TrapKind};
-use rv_code::Register;
 use rv_machine::Regs;
 
 /// How far a segment came.
@@ -72,7 +71,7 @@ pub fn run_segment(
         chunk: context.chunk,
         depth: context.depth,
     };
-    let segment = run_thread(accepted, areas, &mut thread, fuel);
+    let segment = run_turns(accepted, areas, &mut thread, fuel);
     *context = Context {
         pc: thread.regs.pc,
         x: thread.regs.x,
@@ -91,24 +90,6 @@ pub(crate) fn are_sound(accepted: &Accepted)
 }
 
 // The same, of a thread whose registers stand together.
-fn run_thread(
-    accepted: &Accepted,
-    areas: &mut Areas,
-    thread: &mut Thread,
-    fuel: &mut Fuel,
-) -> Segment
-    requires valid { IsValid (checked_of accepted.now).flat accepted.now.image accepted.now.certificate }
-    requires formed { IsWellFormed (checked_of accepted.now).flat }
-    requires form { HasForm (checked_of accepted.now) (thread_of areas.old thread.old) }
-    requires safe { StaysSafe (checked_of accepted.now) (code_of accepted.now) (thread_of areas.old thread.old) }
-    ensures machine { IsSegment (checked_of accepted.now) (code_of accepted.now) result (thread_of areas.old thread.old) fuel.old.left (thread_of areas.new thread.new) fuel.new.left }
-    ensures counts { KeepsCounts (checked_of accepted.now) (thread_of areas.old thread.old) (thread_of areas.new thread.new) }
-{
-    areas.look_first_at(thread.regs.read(Register::TP));
-    run_turns(accepted, areas, thread, fuel)
-}
-
-// The same, whichever payload is looked at first.
 fn run_turns(
     accepted: &Accepted,
     areas: &mut Areas,

@@ -59,7 +59,7 @@ turn-requires-clause-goes c =
     let now = thread_of c.loop-left.areas (record c.args.thread { regs = record { pc = place_at c.loop-left.at; x = c.loop-left.file } }) in
     let m = machine_at c.loop-left.areas c.loop-left.at c.loop-left.file in
     let at = stands_at checked code now (safe_now checked code start now c.args.fuel c.loop-left.left c.requires.safe c.loop-left.invariant) in
-    goes checked code start now c.args.fuel c.loop-left.left (ready_effect c.operation_at-op.result m) c.requires.formed c.requires.safe c.loop-left.invariant (omega (arith, c.loop-left-test.true))
+    goes checked code start now c.args.fuel c.loop-left.left (ready_effect c.operation_at-op.result.now m) c.requires.formed c.requires.safe c.loop-left.invariant (omega (arith, c.loop-left-test.true))
     ((c.operation_at-op.ensures code at.0 c.ready-ready.ensures at.1).does m refl)
 
 pub loop-left-preserved : goal.loop-left-preserved
@@ -70,7 +70,7 @@ loop-left-preserved c =
     let now = thread_of c.loop-left.areas (record c.args.thread { regs = record { pc = place_at c.loop-left.at; x = c.loop-left.file } }) in
     let m = machine_at c.loop-left.areas c.loop-left.at c.loop-left.file in
     let at = stands_at checked code now (safe_now checked code start now c.args.fuel c.loop-left.left c.requires.safe c.loop-left.invariant) in
-    step_of_turn checked code start c.loop-left.areas c.turn.new.areas c.args.thread c.loop-left.at c.in-Some.next c.args.fuel c.loop-left.left c.loop-left.file c.turn.new.file (ready_effect c.operation_at-op.result m)
+    step_of_turn checked code start c.loop-left.areas c.turn.new.areas c.args.thread c.loop-left.at c.in-Some.next c.args.fuel c.loop-left.left c.loop-left.file c.turn.new.file (ready_effect c.operation_at-op.result.now m)
     c.requires.formed c.requires.safe c.loop-left.invariant (omega (arith, c.loop-left-test.true))
     ((c.operation_at-op.ensures code at.0 c.ready-ready.ensures at.1).does m refl) c.in-Some.ensures.went
 

@@ -9,7 +9,7 @@ use Rattle.segment_run.specs.Contexts.{checked_of, code_of, AreOf, IsReady}
 use Rattle.segment_run.specs.Kept.{areas_of}
 use Rattle.segment_run.specs.Starting.{first_arguments, IsStarted}
 use Rattle.segment_run.proofs.NewThread.{made, before, new_ready, new_source, written}
-use Rattle.segment_run.proofs.Taking.{takes_for, takes_none, shape-take, AreOf-same, IsPayloadOf-same}
+use Rattle.segment_run.proofs.Taking.{takes_for, takes_none, shape-take, AreOf-same}
 use Rattle.stack_certificate.specs.Certificates.{fact_at}
 use Rattle.stack_certificate.specs.declared.certificates.Certificate.{Certificate}
 use Rattle.segment_run.proofs.starting.start.Goals as goal
@@ -52,14 +52,8 @@ returns-in_err-chunk-clause-areas c =
 
 pub invariant_of-areas-2 : goal.invariant_of-areas-2
 invariant_of-areas-2 c =
-    let p = (areas_of c.areas.inside).pool in
-    let pools : c.write-2.new.self ≡ with_header c.take.new.self c.in_ok-chunk.chunk 0 0 =
-    c.write-2.ensures.after ∙ ap (λ (q : Pool). with_word q c.in_ok-chunk.chunk 1 0) c.write.ensures.after in
-    let shape = ap shape_of pools ∙ shape-take p c.take.new.self c.fact_of-fact.result.now.bound c.take.result c.take.ensures.taken in
-    let kept = c.areas.invariant.0 in (
-      record { pool = c.write-2.ensures.sound; globals = kept.globals; tables = kept.tables; global_words = kept.global_words; table_words = kept.table_words },
-      IsPayloadOf-same p c.write-2.new.self c.areas.inside.first shape c.areas.invariant.1,
-    )
+    let kept = c.areas.invariant in
+    record { pool = c.write-2.ensures.sound; globals = kept.globals; tables = kept.tables; global_words = kept.global_words; table_words = kept.table_words }
 
 pub returns-clause-none : goal.returns-clause-none
 returns-clause-none c =
@@ -87,7 +81,7 @@ returns-clause-ready c =
     let need = (fact_at accepted.certificate f).bound in
     let one = takes_for old.pool c.take.new.self need c.in_ok-chunk.chunk
     (subst (λ (n : ℕ). IsTaken (taken_for old.pool n) (Some c.in_ok-chunk.chunk) old.pool c.take.new.self) (ap (λ k. k.bound) fact) c.in_ok-chunk.ensures.taken) in
-    let is = before accepted old f c.is_valid.ensures c.areas.invariant.0 (subst (AreOf accepted) (sym c.areas.view_is) c.requires.areas) c.requires.function in
+    let is = before accepted old f c.is_valid.ensures c.areas.invariant (subst (AreOf accepted) (sym c.areas.view_is) c.requires.areas) c.requires.function in
     let pools : c.write-2.new.self ≡ with_header one.taken.pool one.taken.chunk 0 0 =
     c.write-2.ensures.after ∙ ap (λ (q : Pool). with_word q c.in_ok-chunk.chunk 1 0) (c.write.ensures.after ∙ ap (λ (q : Pool). with_word q c.in_ok-chunk.chunk 0 0) one.pool)
     ∙ ap (λ (id : ℕ). with_header one.taken.pool id 0 0) one.chunk in
@@ -105,7 +99,7 @@ returns-clause-source c = λ globals are.
     let need = (fact_at accepted.certificate f).bound in
     let one = takes_for old.pool c.take.new.self need c.in_ok-chunk.chunk
     (subst (λ (n : ℕ). IsTaken (taken_for old.pool n) (Some c.in_ok-chunk.chunk) old.pool c.take.new.self) (ap (λ k. k.bound) fact) c.in_ok-chunk.ensures.taken) in
-    let is = before accepted old f c.is_valid.ensures c.areas.invariant.0 (subst (AreOf accepted) (sym c.areas.view_is) c.requires.areas) c.requires.function in
+    let is = before accepted old f c.is_valid.ensures c.areas.invariant (subst (AreOf accepted) (sym c.areas.view_is) c.requires.areas) c.requires.function in
     let pools : c.write-2.new.self ≡ with_header one.taken.pool one.taken.chunk 0 0 =
     c.write-2.ensures.after ∙ ap (λ (q : Pool). with_word q c.in_ok-chunk.chunk 1 0) (c.write.ensures.after ∙ ap (λ (q : Pool). with_word q c.in_ok-chunk.chunk 0 0) one.pool)
     ∙ ap (λ (id : ℕ). with_header one.taken.pool id 0 0) one.chunk in

@@ -7,7 +7,7 @@ use Rattle.segment_run.proofs.areas.Areas.payload_spot.Goals as goal
 pub returns-in-None-clause-spot : goal.returns-in-None-clause-spot
 returns-in-None-clause-spot c =
     let old = areas_of c.self.inside in
-    let few : AreFew old = record { globals = c.self.invariant.0.globals; tables = c.self.invariant.0.tables } in
+    let few : AreFew old = record { globals = c.self.invariant.globals; tables = c.self.invariant.tables } in
     sym (ap (λ (a : Areas). spot_of a c.args.address) (sym c.self.view_is)
     ∙ spot_of-high old c.args.address few c.requires
     ∙ ap (payload_spot old.pool c.args.address) (sym c.in-None.ensures.value))
@@ -15,7 +15,7 @@ returns-in-None-clause-spot c =
 pub returns-then-offset-lt-HEADER-clause-spot : goal.returns-then-offset-lt-HEADER-clause-spot
 returns-then-offset-lt-HEADER-clause-spot c =
     let old = areas_of c.self.inside in
-    let few : AreFew old = record { globals = c.self.invariant.0.globals; tables = c.self.invariant.0.tables } in
+    let few : AreFew old = record { globals = c.self.invariant.globals; tables = c.self.invariant.tables } in
     sym (ap (λ (a : Areas). spot_of a c.args.address) (sym c.self.view_is)
     ∙ spot_of-high old c.args.address few c.requires
     ∙ ap (payload_spot old.pool c.args.address) (sym c.in-Some.ensures.value)
@@ -24,7 +24,7 @@ returns-then-offset-lt-HEADER-clause-spot c =
 pub returns-else-offset-lt-HEADER-clause-spot : goal.returns-else-offset-lt-HEADER-clause-spot
 returns-else-offset-lt-HEADER-clause-spot c =
     let old = areas_of c.self.inside in
-    let few : AreFew old = record { globals = c.self.invariant.0.globals; tables = c.self.invariant.0.tables } in
+    let few : AreFew old = record { globals = c.self.invariant.globals; tables = c.self.invariant.tables } in
     sym (ap (λ (a : Areas). spot_of a c.args.address) (sym c.self.view_is)
     ∙ spot_of-high old c.args.address few c.requires
     ∙ ap (payload_spot old.pool c.args.address) (sym c.in-Some.ensures.value)

@@ -1,20 +1,20 @@
-use Rattle.std.proofs.Common.{length, ap, subst, sym, ◌∙◌, arith}
-use Rattle.machine_world.specs.Areas.{Areas, spot_of}
-use Rattle.segment_run.specs.Kept.{areas_of, AreKept}
-use Rattle.segment_run.proofs.Spots.{AreFew, spot_of-in_payload, spot_of-in_tables, spot_of-past_tables, spot_of-in_globals, spot_of-past_globals, spot_of-below}
+use Rattle.std.proofs.Common.{length, ap, subst, sym, arith}
+use Rattle.machine_world.specs.Areas.{Areas}
+use Rattle.segment_run.specs.Kept.{AreKept}
+use Rattle.segment_run.proofs.Spots.{AreFew, spot_of-in_tables, spot_of-past_tables, spot_of-in_globals, spot_of-past_globals, spot_of-below}
 use Rattle.segment_run.proofs.areas.Areas.spot.Goals as goal
 
 pub returns-then-offset-len-clause-spot : goal.returns-then-offset-len-clause-spot
 returns-then-offset-len-clause-spot c =
     let same = ap (λ (a : Areas). length a.tables) c.self.view_is in
-    let kept : AreKept c.args.self.now = subst AreKept c.self.view_is c.self.invariant.0 in
+    let kept : AreKept c.args.self.now = subst AreKept c.self.view_is c.self.invariant in
     let few : AreFew c.args.self.now = record { globals = kept.globals; tables = kept.tables } in
     sym (spot_of-in_tables c.args.self.now c.args.address few c.if-address-ge-TABLES.true (omega (arith, c.if-offset-len.true, c.len.ensures, same, c.if-address-ge-TABLES.true)))
 
 pub returns-else-offset-len-clause-spot : goal.returns-else-offset-len-clause-spot
 returns-else-offset-len-clause-spot c =
     let same = ap (λ (a : Areas). length a.tables) c.self.view_is in
-    let kept : AreKept c.args.self.now = subst AreKept c.self.view_is c.self.invariant.0 in
+    let kept : AreKept c.args.self.now = subst AreKept c.self.view_is c.self.invariant in
     let few : AreFew c.args.self.now = record { globals = kept.globals; tables = kept.tables } in
     sym (spot_of-past_tables c.args.self.now c.args.address few (omega (arith, c.if-offset-len.false, c.len.ensures, same, c.if-address-ge-TABLES.true)) c.if-address-ge-CHUNKS.false)
 
@@ -30,12 +30,3 @@ returns-else-offset-len-2-clause-spot c =
 
 pub returns-else-address-ge-GLOBALS-clause-spot : goal.returns-else-address-ge-GLOBALS-clause-spot
 returns-else-address-ge-GLOBALS-clause-spot c = sym (spot_of-below c.args.self.now c.args.address c.if-address-ge-GLOBALS.false)
-
-pub returns-then-address-low-2-clause-spot : goal.returns-then-address-low-2-clause-spot
-returns-then-address-low-2-clause-spot c =
-    let old = areas_of c.self.inside in
-    let kept = c.self.invariant.0 in
-    let first = c.self.invariant.1 in
-    let few : AreFew old = record { globals = kept.globals; tables = kept.tables } in
-    sym (ap (λ (a : Areas). spot_of a c.args.address) (sym c.self.view_is)
-    ∙ spot_of-in_payload old c.args.address c.self.inside.first few kept.pool first c.if-address-low.true c.if-address-low-2.true)

@@ -9,7 +9,7 @@ use Rattle.segment_run.specs.Contexts.{chunk_below}
 use Rattle.segment_run.specs.Kept.{areas_of}
 use Rattle.segment_run.specs.Turns.{thread_of}
 use Rattle.segment_run.proofs.Linking.{HasFront, front_of, front_held, unlink_goes, next_found, innermost_held}
-use Rattle.segment_run.proofs.links.unlink_chunk.Goals as goal
+use Rattle.segment_run.proofs.links.unlink.Goals as goal
 use Rattle.chunk_pool.proofs.ShapeLaws.{words_of-payload}
 
 pub read-tp-requires-clause-id_in_range : goal.read-tp-requires-clause-id_in_range
@@ -47,9 +47,9 @@ returns c =
     let pools : c.give.new.self ≡ after_give p thread.chunk = c.give.ensures.after in
     let next : 1 ≤ front.below → c.chunk_or-thread.result ≡ chunk_below p thread.chunk = λ more.
     c.chunk_or-thread.ensures (chunk_below p thread.chunk)
-    ((λ i. chunk_at (pools i) (c.read-tp.ensures.value i)) ∙ next_found old thread c.areas.invariant.0.pool owns front names more) in
+    ((λ i. chunk_at (pools i) (c.read-tp.ensures.value i)) ∙ next_found old thread c.areas.invariant.pool owns front names more) in
     ap (λ (a : Areas). unlinked (thread_of a thread)) (sym c.areas.view_is)
-    ∙ unlink_goes old thread c.chunk_or-thread.result c.areas.invariant.0.pool owns front next
+    ∙ unlink_goes old thread c.chunk_or-thread.result c.areas.invariant.pool owns front next
     ∙ (λ i. Goes (thread_of (record old { pool = sym pools i }) (record {
       regs = record { pc = sym c.add-thread.ensures i; x = set (set thread.regs.x 4 (sym c.read-tp.ensures.value i)) 2 (sym c.read-sp.ensures.value i) };
       chunk = c.chunk_or-thread.result;
@@ -62,7 +62,7 @@ read-tp-requires-clause-word_in_range c =
     let thread = c.args.thread.now in
     let owns = subst (λ (a : Areas). Owns (thread_of a thread)) (sym c.areas.view_is) c.requires.owns in
     let front = subst (λ (a : Areas). TpIsFront a.pool (thread_of a thread).core (thread_of a thread).core.chain) (sym c.areas.view_is) c.requires.front in
-    omega (arith, words_of-payload old.pool thread.chunk c.areas.invariant.0.pool (innermost_held old thread owns front).0)
+    omega (arith, words_of-payload old.pool thread.chunk c.areas.invariant.pool (innermost_held old thread owns front).0)
 
 pub read-sp-requires-clause-word_in_range : goal.read-sp-requires-clause-word_in_range
 read-sp-requires-clause-word_in_range c =
@@ -70,4 +70,4 @@ read-sp-requires-clause-word_in_range c =
     let thread = c.args.thread.now in
     let owns = subst (λ (a : Areas). Owns (thread_of a thread)) (sym c.areas.view_is) c.requires.owns in
     let front = subst (λ (a : Areas). TpIsFront a.pool (thread_of a thread).core (thread_of a thread).core.chain) (sym c.areas.view_is) c.requires.front in
-    omega (arith, words_of-payload old.pool thread.chunk c.areas.invariant.0.pool (innermost_held old thread owns front).0)
+    omega (arith, words_of-payload old.pool thread.chunk c.areas.invariant.pool (innermost_held old thread owns front).0)

@@ -1,8 +1,8 @@
 use Rattle.std.proofs.Common.{◌≡◌, ◌+◌, ℕ, refl, sym, ap, subst, ◌∙◌, arith, set, ◌<◌}
 use Rattle.cap_word.specs.Runs.{Goes, Stops}
-use Rattle.chunk_pool.specs.Pool.{Pool, with_word, shape_of, place_of, bytes_of, FitsNone}
+use Rattle.chunk_pool.specs.Pool.{Pool, with_word, place_of, bytes_of, FitsNone}
 use Rattle.chunk_pool.proofs.PoolLaws.{count-most}
-use Rattle.segment_run.proofs.Taking.{takes_for, takes_none, shape-take, IsPayloadOf-same}
+use Rattle.segment_run.proofs.Taking.{takes_for, takes_none}
 use Rattle.rv_machine.specs.Registers.{read}
 use Rattle.machine_world.specs.Areas.{Areas}
 use Rattle.machine_world.specs.InPlace.{TpIsFront}
@@ -11,26 +11,18 @@ use Rattle.segment_laws.specs.Ways.{Owns}
 use Rattle.segment_run.specs.Kept.{areas_of}
 use Rattle.segment_run.specs.Turns.{thread_of}
 use Rattle.segment_run.proofs.Linking.{front_of, depth_below, link_goes}
-use Rattle.segment_run.proofs.links.link_chunk.Goals as goal
+use Rattle.segment_run.proofs.links.link.Goals as goal
 use Rattle.chunk_pool.proofs.ShapeLaws.{words_of-payload}
 
 pub overflow_add-thread-3 : goal.overflow_add-thread-3
 overflow_add-thread-3 c =
     let owns = subst (λ (a : Areas). Owns (thread_of a c.args.thread.now)) (sym c.areas.view_is) c.requires.owns in
-    omega (arith, depth_below (areas_of c.areas.inside) c.args.thread.now owns, count-most (areas_of c.areas.inside).pool c.areas.invariant.0.pool)
+    omega (arith, depth_below (areas_of c.areas.inside) c.args.thread.now owns, count-most (areas_of c.areas.inside).pool c.areas.invariant.pool)
 
 pub invariant_of-areas-2 : goal.invariant_of-areas-2
 invariant_of-areas-2 c =
-    let p = (areas_of c.areas.inside).pool in
-    let id = c.in-Some.chunk in
-    let x = c.args.thread.now.regs.x in
-    let pools : c.write-2.new.self ≡ with_header c.take.new.self id (read x 4) (read x 2) =
-    c.write-2.ensures.after ∙ ap (λ (q : Pool). with_word q id 1 (read x 2)) c.write.ensures.after in
-    let shape = ap shape_of pools ∙ shape-take p c.take.new.self (read x 6) c.take.result c.take.ensures.taken in
-    let kept = c.areas.invariant.0 in (
-      record { pool = c.write-2.ensures.sound; globals = kept.globals; tables = kept.tables; global_words = kept.global_words; table_words = kept.table_words },
-      IsPayloadOf-same p c.write-2.new.self c.areas.inside.first shape c.areas.invariant.1,
-    )
+    let kept = c.areas.invariant in
+    record { pool = c.write-2.ensures.sound; globals = kept.globals; tables = kept.tables; global_words = kept.global_words; table_words = kept.table_words }
 
 pub returns-in_default : goal.returns-in_default
 returns-in_default c =
@@ -60,7 +52,7 @@ returns c =
     let place : c.place_of-place.result ≡ place_of one.taken.pool one.taken.chunk = c.place_of-place.ensures.place ∙ (λ i. place_of (pools i) (one.chunk i)) in
     let bytes : c.bytes_of.result ≡ bytes_of one.taken.pool one.taken.chunk = c.bytes_of.ensures.value ∙ (λ i. bytes_of (pools i) (one.chunk i)) in
     ap (λ (a : Areas). linked (thread_of a thread)) (sym c.areas.view_is)
-    ∙ link_goes old thread one.taken c.areas.invariant.0.pool owns front one.is
+    ∙ link_goes old thread one.taken c.areas.invariant.pool owns front one.is
     ∙ (λ i. Goes (thread_of (record old { pool = sym pools i }) (record {
       regs = record { pc = sym c.add-thread.ensures i; x = set (set thread.regs.x 4 (sym place i + 16)) 2 (sym place i + sym bytes i) };
       chunk = sym one.chunk i;
