@@ -90,7 +90,13 @@ impl Scheduler {
         ensures queued { IfSome result (λ choice. Contains (queue_of self.now choice.node) choice.thread) }
         ensures lawful { IsLawfulChoice (queue_of self.now) (is_eligible (R.is_ready ready.now) (R.at_accept ready.now) (R.any_elsewhere ready.now) monitor.now.is_open) (score monitor.now graph.now.edges) (last_of self.now) result }
     {
-        let best = best_of(&self.queues.queues, self.lasts.as_slice(), graph, monitor, ready);
+        let best = best_of(
+            &self.queues.queues,
+            self.lasts.as_slice(),
+            graph,
+            monitor,
+            ready,
+        );
         as_choice(best)
     }
 
