@@ -1,5 +1,4 @@
 pub mod OneBudget
-pub mod OneJudgement
 pub mod Told
 pub mod OnePair
 pub mod OneRun
