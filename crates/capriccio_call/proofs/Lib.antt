@@ -1,5 +1,4 @@
 pub mod OneBudget
-pub mod OneJudgement
 pub mod Handed
 pub mod Told
 pub mod OnePair

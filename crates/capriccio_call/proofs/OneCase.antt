@@ -44,7 +44,7 @@ use Rattle.pair_commands.specs.BuildsFiles.{Builds, BuildsProgram, HasFittingCod
 use Rattle.pair_commands.specs.Runs.{RunsOn, Serves, ServesProgram, Runs, RunsBytes, RunsPair, pool_bytes, setup_of}
 use Rattle.command_options.specs.Options.{IsRunPolicy, sizes_of}
 use Rattle.capriccio_commands.specs.Demos.{Demos, ShowsProgram, ShowsRun, demo_sizes, demo_policy}
-use Rattle.command_audit.specs.Audits.{Audits, AuditsBytes, AuditsProgram, IsJudgement, judged_outcome, reading_of}
+use Rattle.command_audit.specs.Audits.{Audits, AuditsBytes, AuditsProgram, judged_outcome, reading_of}
 use Rattle.capriccio_call.specs.Due.{Does, IsDue}
 use Rattle.workload_source.specs.Programs.{program_text}
 use Rattle.workload.specs.Traces.{trace_text}
@@ -52,7 +52,8 @@ use Rattle.command_outcomes.specs.Done.{Outside, IsRisen, IsDone, IsTraceTold, I
 use Rattle.c_hoist.proofs.EveryNested.{one_program, one_source_error, never}
 use Rattle.pair_commands.proofs.OneBuild.{plans-are-one, words-are-one, texts-are-one}
 use Rattle.capriccio_call.proofs.OneBudget.{one-budget, one-least}
-use Rattle.capriccio_call.proofs.OneJudgement.{one-judgement}
+use Rattle.log_verdicts.specs.Verdicts.{IsVerdictOf}
+use Rattle.log_verdicts.proofs.OneVerdict.{one_verdict}
 use Rattle.capriccio_call.proofs.OnePair.{pairs-are-one}
 use Rattle.capriccio_call.proofs.OneRun.{IsInRange, one-outcome, one-shown}
 use Rattle.command_options.proofs.Options.{serve-policy, serve-pool, run-policy}
@@ -331,8 +332,8 @@ judged-case left options log p a b reads h k =
     let bytes = reads (ap (λ (o : Outcome). o.reads_trace) k.2) in
     let g = reading_of p options in
     alike a b (judged_outcome k.0)
-    (h.2 ∙ ap judged_outcome (one-judgement g bytes.0 log h.0 k.0
-    (subst (λ (l : Option (List ℕ)). IsJudgement g l log h.0) bytes.1 h.1) (subst (λ (l : Option (List ℕ)). IsJudgement g l log k.0) bytes.1 k.1))) k.2
+    (h.2 ∙ ap judged_outcome (one_verdict g bytes.0 log h.0 k.0
+    (subst (λ (l : Option (List ℕ)). IsVerdictOf g l log h.0) bytes.1 h.1) (subst (λ (l : Option (List ℕ)). IsVerdictOf g l log k.0) bytes.1 k.1))) k.2
 
 request-case : (request : Request) (words : List (List ℕ)) (f : Files) (before : Outside) (a b : Outcome) → IsWordList words request → before.files ≡ Some f → IsTraceTold before.left b → Does request before a → Does request before b → a ≡ b
 request-case (Graph source placement) words f before a b asked told reads h k =

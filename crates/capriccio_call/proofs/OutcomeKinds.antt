@@ -26,8 +26,8 @@ use Rattle.command_outcomes.specs.FaultLines.{fault_status}
 use Rattle.command_outcomes.specs.Outcome.{Outcome}
 use Rattle.command_files.specs.Loads.{IsSourceText, OfFile, AfterLoad, AfterThree, AfterSource, AfterImage, AfterCertificate}
 use Rattle.command_outcomes.specs.Done.{Outside}
-use Rattle.command_audit.specs.declared.judgements.Judgement.{Judgement}
-use Rattle.command_audit.specs.declared.judgements.Judgement.TheVariants as judgement
+use Rattle.log_verdicts.specs.declared.verdicts.Verdict as said
+use Rattle.log_verdicts.specs.declared.verdicts.Verdict.TheVariants as judgement
 use Rattle.pair_commands.specs.declared.check_command.Verdict.{Verdict}
 use Rattle.pair_commands.specs.declared.check_command.Verdict.TheVariants.{Accepted, Rejected}
 use Rattle.command_audit.specs.Audits.{AuditsBytes, AuditsProgram, judged_outcome, judgement_status}
@@ -117,7 +117,7 @@ verdict-free : (verdict : Verdict) → IsFree (verdict_status verdict)
 verdict-free Accepted = inl (omega arith)
 verdict-free (Rejected rule function index) = inl (omega arith)
 
-judgement-free : (is : Judgement) → IsFree (judgement_status is)
+judgement-free : (is : said.Verdict) → IsFree (judgement_status is)
 judgement-free judgement.Lawful = inl (omega arith)
 judgement-free (judgement.Unlawful line) = inr (omega arith)
 judgement-free (judgement.Steps line) = inr (omega arith)

@@ -28,8 +28,8 @@ use Rattle.command_files.specs.Loads.{IsSourceText}
 use Rattle.command_files.specs.Loaded.{IsLoaded}
 use Rattle.command_audit.specs.Audits.{judgement_line, judgement_status, reading_of, reading_policy}
 use Rattle.pair_commands.specs.Runs.{IsAccepted}
-use Rattle.command_audit.specs.declared.judgements.Judgement.{Judgement}
-use Rattle.command_audit.specs.declared.judgements.Judgement.TheVariants.{Lawful, Steps}
+use Rattle.log_verdicts.specs.declared.verdicts.Verdict.{Verdict}
+use Rattle.log_verdicts.specs.declared.verdicts.Verdict.TheVariants.{Lawful, Steps}
 
 -- The words ask for the audit of this log of this program, on this trace: the shelf tells its files, and the trace its bytes; the file of the
 -- source is read as the program, and that of the log holds just these bytes, which are no more than a log may have (67,108,864).
@@ -52,8 +52,8 @@ pub record IsRunUnder (options : AuditOptions) (g : Setup) : Type 0 where
   pub pool : IsPool (start_areas g).pool
   pub policy : read_policy g.policy ≡ reading_policy options
 
--- the output took the line of this judgement, and the status is its
-abbrev pub SaysOf : Judgement → (before after : Outside) → (status : ℕ) → Type 0
+-- the output took the line of this verdict, and the status is its
+abbrev pub SaysOf : Verdict → (before after : Outside) → (status : ℕ) → Type 0
 SaysOf is before after status = (status ≡ judgement_status is) × Appends before.taken after.taken (judgement_line is)
 
 -- `lawful` with status 0, or `steps LINE` with 16, or there was no memory

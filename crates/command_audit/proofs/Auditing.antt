@@ -8,11 +8,13 @@ use Rattle.c_tree.specs.Trees.{ProgramTree}
 use Rattle.choice_rules.specs.Policy.{by_graph}
 use Rattle.command_words.specs.declared.options.Audit.{Audit as AuditOptions}
 use Rattle.lawful_reading.specs.Given.{Given}
-use Rattle.lawful_reading.proofs.Some.{some_verdict}
+use Rattle.log_verdicts.proofs.Found.{some_verdict}
+use Rattle.log_verdicts.specs.declared.verdicts.Verdict.{Verdict}
 use Rattle.resource_monitor.specs.Monitor.{MonitorState}
-use Rattle.schedule_audit.specs.Verdicts.{IsVerdict}
+use Rattle.schedule_audit.specs.Judging as audit
+use Rattle.schedule_reading.specs.Rulings.{CountsReads}
+use Rattle.schedule_reading.specs.declared.rulings.Failure.{Failure}
 use Rattle.schedule_reading.specs.Limits.{MayAudit, given_of}
-use Rattle.schedule_audit.specs.declared.verdicts.Verdict.{Verdict}
 use Rattle.command_outcomes.specs.declared.documents.Document.TheVariants as document
 use Rattle.command_outcomes.specs.declared.stops.Stop.{Stop}
 use Rattle.command_outcomes.specs.declared.stops.Stop.TheVariants.{Refused, Failed}
@@ -25,8 +27,6 @@ use Rattle.command_outcomes.proofs.Ending.{kept-are-stored, keeps-itself, printe
 use Rattle.command_files.proofs.Follows.{load-before, load-follows, loaded, shelf-stop-follows, source-follows, stop-on-shelf}
 use Rattle.command_options.specs.Options.{AreAuditOptions, as_run, IsNewMonitor}
 use Rattle.command_audit.specs.Audits.{Audits, AuditsBytes, AuditsProgram, IsJudged, LeadsToAudit, audit_limits, judged_as, judged_outcome, judgement_line, judgement_status, reading_of}
-use Rattle.command_audit.specs.declared.judgements.Judgement.{Judgement}
-use Rattle.command_audit.specs.declared.judgements.Judgement.TheVariants as judgement
 
 -- ---- what the audit is given
 
@@ -69,32 +69,18 @@ given-is program options monitor is = λ i. record {
 
 -- ---- what it says
 
-stays : (old new : ℕ) → (new ≢ old → ⊥) → new ≡ old
-stays old new never =
-    elim (cases_order new old) [
-      | inl e ↦ e
-      | inr h ↦ elim h [ inl lt ↦ absurd (never (λ e. absurd (omega (arith, lt, e)))) | inr lt ↦ absurd (never (λ e. absurd (omega (arith, lt, e)))) ]
-    ]
-
-pub judged : (g : Given) (left : Option (List ℕ)) (log : List ℕ) (old new : ℕ) (verdict : Verdict) → IsVerdict g left log old new verdict →
-    (new ≢ old → (verdict ≡ Verdict.ReadFault) ⊎ (verdict ≡ Verdict.Memory)) → IsJudged g left log old new (judged_as verdict)
-judged g left log old new Verdict.Lawful h counts = (h, stays old new (λ differs. ⊎_elim (λ e. absurd (cc)) (λ e. absurd (cc)) (counts differs)))
-judged g left log old new (Verdict.Unlawful line) h counts = (h, stays old new (λ differs. ⊎_elim (λ e. absurd (cc)) (λ e. absurd (cc)) (counts differs)))
-judged g left log old new (Verdict.Steps line) h counts = (h, stays old new (λ differs. ⊎_elim (λ e. absurd (cc)) (λ e. absurd (cc)) (counts differs)))
-judged g left log old new Verdict.ReadFault h counts = h
-judged g left log old new Verdict.Memory h counts = tt
+pub judged : (g : Given) (left : Option (List ℕ)) (log : List ℕ) (old new : ℕ) (answer : Result Verdict Failure) → audit.IsJudged g left log answer → CountsReads answer old new → IsJudged g left log old new (judged_as answer)
+judged g left log old new (Ok verdict) is counts = (is, counts)
+judged g left log old new (Err Failure.Read) is counts = counts
+judged g left log old new (Err Failure.Memory) is counts = tt
 
 -- ---- how the command ends
 
 -- what is due of a log that is judged reads the trace, and is no run
 pub reads-no-run : (trace : Option (List ℕ)) (options : AuditOptions) (log : List ℕ) (program : ProgramTree) →
     ((outcome : Outcome) → AuditsProgram trace options log program outcome → outcome.reads_trace ≡ true → outcome.last ≢ None) → ⊥
-reads-no-run None options log program all = all (judged_outcome judgement.Lawful) (judgement.Lawful, tt, refl) refl refl
-reads-no-run (Some bytes) options log program all =
-    some_verdict (reading_of program options) bytes log
-    (λ is. all (judged_outcome judgement.Lawful) (judgement.Lawful, is, refl) refl refl)
-    (λ line is. all (judged_outcome (judgement.Unlawful line)) (judgement.Unlawful line, is, refl) refl refl)
-    (λ line is. all (judged_outcome (judgement.Steps line)) (judgement.Steps line, is, refl) refl refl)
+reads-no-run None options log program all = all (judged_outcome Verdict.Lawful) (Verdict.Lawful, tt, refl) refl refl
+reads-no-run (Some bytes) options log program all = let said = some_verdict (reading_of program options) bytes log in all (judged_outcome said.0) (said.0, said.1, refl) refl refl
 
 pub unjudged : (before after : Outside) (options : AuditOptions) (log : List ℕ) (program : ProgramTree) (stop : Stop) → KeepsFiles before.files after.files → after.loads ≡ before.loads → after.stores ≡ before.stores →
     after.taken ≡ before.taken → after.writes ≡ before.writes → IsJudged (reading_of program options) before.left log before.reads after.reads (Err stop) →
@@ -106,7 +92,7 @@ unjudged before after options log program (Failed fault) files loads stores take
     same old new e = subst (λ (t : Option (List ℕ)). Keeps old t) (sym e) (keeps-itself old)
 unjudged before after options log program (Refused cause) files loads stores taken writes h = absurd h
 
-pub judgement-told : (before after : Outside) (options : AuditOptions) (log : List ℕ) (program : ProgramTree) (is : Judgement) (answer : Result ℕ Stop) → KeepsFiles before.files after.files → after.loads ≡ before.loads → after.stores ≡ before.stores →
+pub judgement-told : (before after : Outside) (options : AuditOptions) (log : List ℕ) (program : ProgramTree) (is : Verdict) (answer : Result ℕ Stop) → KeepsFiles before.files after.files → after.loads ≡ before.loads → after.stores ≡ before.stores →
     IsJudged (reading_of program options) before.left log before.reads after.reads (Ok is) → IsPrinted (judgement_status is) (judgement_line is) before.taken after.taken before.writes after.writes answer →
     EndsAs IsStatus (AuditsProgram before.left options log program) before after answer
 judgement-told before after options log program is answer files loads stores h printed =

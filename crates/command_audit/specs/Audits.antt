@@ -1,17 +1,16 @@
 -- What the command `audit` does: a log is judged on the trace, without a machine.
-use Rattle.std.specs.Prelude.{ℕ, ◌≡◌, ◌+◌, true, List, [], ◌∷◌, ◌++◌, codes, replicate, Option, IfSome, None, Result, Ok, Err}
+use Rattle.std.specs.Prelude.{ℕ, ◌≡◌, ◌+◌, true, List, [], ◌∷◌, ◌++◌, codes, replicate, Option, None, Result, Ok, Err}
 use Rattle.cap_io.specs.Files.{Files}
 use Rattle.cap_text.specs.Decimals.{canonical_decimal}
 use Rattle.c_tree.specs.Trees.{ProgramTree}
 use Rattle.choice_rules.specs.Policy.{Policy, by_graph}
 use Rattle.command_words.specs.declared.options.Audit.{Audit as AuditOptions}
 use Rattle.lawful_reading.specs.Given.{Given}
-use Rattle.lawful_reading.specs.Reading.{IsLawful, IsTooLong, IsUnlawful}
+use Rattle.log_verdicts.specs.Verdicts.{IsVerdictOf}
+use Rattle.log_verdicts.specs.declared.verdicts.Verdict.{Verdict}
 use Rattle.resource_monitor.specs.declared.curves.Curve.TheVariants.{Knee}
 use Rattle.schedule_reading.specs.declared.policy.AuditPolicy.{AuditPolicy}
-use Rattle.schedule_audit.specs.declared.verdicts.Verdict.{Verdict}
-use Rattle.command_audit.specs.declared.judgements.Judgement.{Judgement}
-use Rattle.command_audit.specs.declared.judgements.Judgement.TheVariants as judgement
+use Rattle.schedule_reading.specs.declared.rulings.Failure.{Failure}
 use Rattle.command_outcomes.specs.declared.documents.Document.TheVariants as document
 use Rattle.command_outcomes.specs.declared.faults.Fault.TheVariants.{Read, Memory}
 use Rattle.command_outcomes.specs.declared.stops.Stop.{Stop}
@@ -43,25 +42,19 @@ reading_of program options = record { program = program; policy = reading_policy
 
 -- ---- what is said
 
--- that is what is said of the log, where the trace tells its bytes
-abbrev pub IsJudgement : Given → Option (List ℕ) → List ℕ → Judgement → Type 0
-IsJudgement g trace log judgement.Lawful = IfSome trace (λ bytes. IsLawful g bytes log)
-IsJudgement g trace log (judgement.Unlawful line) = IfSome trace (λ bytes. IsUnlawful g bytes log line)
-IsJudgement g trace log (judgement.Steps line) = IfSome trace (λ bytes. IsTooLong g bytes log line)
+-- the status and the line of what is said of a log
+abbrev pub judgement_status : Verdict → ℕ
+judgement_status Verdict.Lawful = 0
+judgement_status (Verdict.Unlawful line) = 15
+judgement_status (Verdict.Steps line) = 16
 
--- its status and its line
-abbrev pub judgement_status : Judgement → ℕ
-judgement_status judgement.Lawful = 0
-judgement_status (judgement.Unlawful line) = 15
-judgement_status (judgement.Steps line) = 16
-
-abbrev pub judgement_line : Judgement → List ℕ
-judgement_line judgement.Lawful = codes "lawful" ++ 10 ∷ []
-judgement_line (judgement.Unlawful line) = (codes "unlawful " ++ canonical_decimal line) ++ 10 ∷ []
-judgement_line (judgement.Steps line) = (codes "steps " ++ canonical_decimal line) ++ 10 ∷ []
+abbrev pub judgement_line : Verdict → List ℕ
+judgement_line Verdict.Lawful = codes "lawful" ++ 10 ∷ []
+judgement_line (Verdict.Unlawful line) = (codes "unlawful " ++ canonical_decimal line) ++ 10 ∷ []
+judgement_line (Verdict.Steps line) = (codes "steps " ++ canonical_decimal line) ++ 10 ∷ []
 
 -- the outcome: the output takes the line, and no run is handed out
-abbrev pub judged_outcome : Judgement → Outcome
+abbrev pub judged_outcome : Verdict → Outcome
 judged_outcome is = record {
   status = judgement_status is;
   out = judgement_line is;
@@ -75,7 +68,7 @@ judged_outcome is = record {
 
 abbrev pub AuditsProgram : Option (List ℕ) → AuditOptions → (log : List ℕ) → ProgramTree → Outcome → Type 0
 AuditsProgram trace options log program outcome =
-    (is : Judgement) × IsJudgement (reading_of program options) trace log is × (outcome ≡ judged_outcome is)
+    (is : Verdict) × IsVerdictOf (reading_of program options) trace log is × (outcome ≡ judged_outcome is)
 
 abbrev pub AuditsBytes : Option (List ℕ) → AuditOptions → (source log : List ℕ) → Outcome → Type 0
 AuditsBytes trace options source log = AfterSource source (AuditsProgram trace options log)
@@ -97,17 +90,15 @@ audit_limits options = record {
   steps = options.steps;
 }
 
--- what a verdict is to the command
-abbrev pub judged_as : Verdict → Result Judgement Stop
-judged_as Verdict.Lawful = Ok judgement.Lawful
-judged_as (Verdict.Unlawful line) = Ok (judgement.Unlawful line)
-judged_as (Verdict.Steps line) = Ok (judgement.Steps line)
-judged_as Verdict.ReadFault = Err (Failed Read)
-judged_as Verdict.Memory = Err (Failed Memory)
+-- what the answer of an audit is to the command
+abbrev pub judged_as : Result Verdict Failure → Result Verdict Stop
+judged_as (Ok verdict) = Ok verdict
+judged_as (Err Failure.Read) = Err (Failed Read)
+judged_as (Err Failure.Memory) = Err (Failed Memory)
 
 -- a log is judged, and no read failed; or a read failed, or memory was wanting
-abbrev pub IsJudged : Given → Option (List ℕ) → (log : List ℕ) → (reads reads' : ℕ) → Result Judgement Stop → Type 0
-IsJudged g trace log reads reads' (Ok is) = IsJudgement g trace log is × (reads' ≡ reads)
+abbrev pub IsJudged : Given → Option (List ℕ) → (log : List ℕ) → (reads reads' : ℕ) → Result Verdict Stop → Type 0
+IsJudged g trace log reads reads' (Ok is) = IsVerdictOf g trace log is × (reads' ≡ reads)
 IsJudged g trace log reads reads' (Err (Failed fault)) = IsReadStop fault reads reads'
 IsJudged g trace log reads reads' (Err (Refused cause)) = ⊥
 

@@ -10,7 +10,7 @@ ghost use Rattle.resource_monitor.specs.declared.curves.Curve.TheVariants.{Knee}
 ghost use Rattle.command_options.specs.Options.{AreAuditOptions, as_run};
 ghost use Rattle.command_audit.specs.Audits.{Audits, AuditsProgram, IsJudged, LeadsToAudit, audit_limits, judged_as, judgement_line, judgement_status, reading_of};
 
-use crate::judgements::Judgement;
+use crate::verdicts::{line_of, status_of};
 use c_tree::Program;
 use cap_io::{Shelf, Sink, Source};
 use command_files::{load, read_source};
@@ -18,7 +18,7 @@ use command_options::monitor_of;
 use command_outcomes::{Document, Fault, Stop, print};
 use command_words::{Audit, Policy, Rule};
 use resource_monitor::{Measure, past_knee};
-use schedule_audit::{AuditPolicy, Verdict, audit};
+use schedule_audit::{AuditPolicy, Failure, Verdict, audit};
 use std::alloc::{AllocError, Global};
 
 /// The command `audit`.
@@ -96,17 +96,17 @@ fn tell_judgement<S: Source, K: Sink>(
         (S.left trace.old) (S.left trace.new) (S.faults trace.old) (S.faults trace.new)
         (K.taken out.old) (K.taken out.new) (K.faults out.old) (K.faults out.new) result }
 {
-    let judgement = audit_program(alloc, trace, program, log, options)?;
-    print_judgement(alloc, out, judgement)
+    let verdict = audit_program(alloc, trace, program, log, options)?;
+    print_judgement(alloc, out, verdict)
 }
 
 /// Writes the line that tells what is said of a log.
-fn print_judgement<K: Sink>(alloc: Global, out: &mut K, judgement: Judgement) -> Result<u8, Stop>
-    ensures { IsPrinted (judgement_status judgement) (judgement_line judgement) (K.taken out.old)
+fn print_judgement<K: Sink>(alloc: Global, out: &mut K, verdict: Verdict) -> Result<u8, Stop>
+    ensures { IsPrinted (judgement_status verdict) (judgement_line verdict) (K.taken out.old)
         (K.taken out.new) (K.faults out.old) (K.faults out.new) result }
 {
-    match judgement.line(alloc) {
-        Ok(line) => print(out, line.as_slice(), judgement.status()),
+    match line_of(alloc, verdict) {
+        Ok(line) => print(out, line.as_slice(), status_of(verdict)),
         Err(AllocError) => Err(Stop::Failed(Fault::Memory)),
     }
 }
@@ -118,7 +118,7 @@ fn audit_program<S: Source>(
     program: &Program,
     log: &[u8],
     options: Audit,
-) -> Result<Judgement, Stop>
+) -> Result<Verdict, Stop>
     requires { AreAuditOptions options }
     ensures { IsJudged (reading_of (program_tree program.now) options) (S.left trace.old) log.now
         (S.faults trace.old) (S.faults trace.new) result }
@@ -139,31 +139,26 @@ fn audit_measured<S: Source, C: Measure + Copy + Drop>(
     log: &[u8],
     options: Audit,
     call: C,
-) -> Result<Judgement, Stop>
+) -> Result<Verdict, Stop>
     requires curve { AnswersCurve (C.can_measure call) (C.measure_gives call) (Knee options.knee) }
     requires range { AreAuditOptions options }
     ensures { IsJudged (reading_of (program_tree program.now) options) (S.left trace.old) log.now
         (S.faults trace.old) (S.faults trace.new) result }
 {
     match monitor_of(alloc, run_options(options), call) {
-        Ok(monitor) => {
-            let verdict = audit(alloc, program, limits_of(options), monitor, trace, log);
-            judgement_of(verdict)
-        }
+        Ok(monitor) => judgement_of(audit(alloc, program, limits_of(options), monitor, trace, log)),
         Err(AllocError) => Err(Stop::Failed(Fault::Memory)),
     }
 }
 
-/// What a verdict is to the command.
-fn judgement_of(verdict: Verdict) -> Result<Judgement, Stop>
-    ensures { result ≡ judged_as verdict }
+/// What the answer of an audit is to the command.
+fn judgement_of(answer: Result<Verdict, Failure>) -> Result<Verdict, Stop>
+    ensures { result ≡ judged_as answer }
 {
-    match verdict {
-        Verdict::Lawful => Ok(Judgement::Lawful),
-        Verdict::Unlawful { line } => Ok(Judgement::Unlawful { line }),
-        Verdict::Steps { line } => Ok(Judgement::Steps { line }),
-        Verdict::ReadFault => Err(Stop::Failed(Fault::Read)),
-        Verdict::Memory => Err(Stop::Failed(Fault::Memory)),
+    match answer {
+        Ok(verdict) => Ok(verdict),
+        Err(Failure::Read) => Err(Stop::Failed(Fault::Read)),
+        Err(Failure::Memory) => Err(Stop::Failed(Fault::Memory)),
     }
 }
 

@@ -1,4 +1,3 @@
-pub mod Some
 pub mod Refused
 pub mod Moves
 pub mod Once

@@ -7,13 +7,9 @@
 // without a machine: of costs and free chunks only bounds are asked. An audit of a log cites these; the rules of choice points
 // are those of `choice_rules`, which the log of a run has too.
 //
-// Laws: what is said of a log excludes what else might be said (`laws`), and of every log something is said, in the sense that it can't
-// be that nothing is (`said`; proofs/Some.antt, line by line). Which of them it is no law finds: an audit does. The commands cite it,
-// where a read of the trace fails or memory is wanting in the midst of an audit.
+// Laws: what is said of a log excludes what else might be said (`laws`). That something is said of every log is a law of `log_verdicts`.
 #![tactic(auto)]
 
 mod laws;
-mod said;
 
 pub use laws::{empty_logs_are_refused, verdicts_exclude_each_other};
-pub use said::no_log_is_without_a_verdict;

@@ -13,21 +13,14 @@ use Rattle.command_outcomes.specs.Done.{Outside}
 use Rattle.command_files.specs.Loads.{AfterLoad, OfFile}
 use Rattle.command_outcomes.specs.Outcome.{Outcome}
 use Rattle.command_audit.specs.Audits.{Audits, AuditsBytes, AuditsProgram, judged_outcome, reading_of}
-use Rattle.command_audit.specs.declared.judgements.Judgement.TheVariants as judgement
-use Rattle.log_verdicts.specs.Verdicts.{IsVerdict}
 use Rattle.capriccio_call.specs.Due.{IsDue}
 use Rattle.log_verdicts.specs.declared.verdicts.Verdict.{Verdict}
 use Rattle.log_verdicts.proofs.Found.{some_verdict}
 use Rattle.outcome_laws.proofs.Loading.{Some_due, source_due}
 
-said_due : (options : AuditOptions) (bytes log : List ℕ) (program : ProgramTree) (verdict : Verdict) → IsVerdict (reading_of program options) bytes log verdict → Some_due (AuditsProgram (Some bytes) options log program)
-said_due options bytes log program Verdict.Lawful is = (judged_outcome judgement.Lawful, (judgement.Lawful, is, refl))
-said_due options bytes log program (Verdict.Unlawful line) is = (judged_outcome (judgement.Unlawful line), (judgement.Unlawful line, is, refl))
-said_due options bytes log program (Verdict.Steps line) is = (judged_outcome (judgement.Steps line), (judgement.Steps line, is, refl))
-
 judged_some : (trace : Option (List ℕ)) (options : AuditOptions) (log : List ℕ) (program : ProgramTree) → Some_due (AuditsProgram trace options log program)
-judged_some None options log program = (judged_outcome judgement.Lawful, (judgement.Lawful, tt, refl))
-judged_some (Some bytes) options log program = let said = some_verdict (reading_of program options) bytes log in said_due options bytes log program said.0 said.1
+judged_some None options log program = (judged_outcome Verdict.Lawful, (Verdict.Lawful, tt, refl))
+judged_some (Some bytes) options log program = let said = some_verdict (reading_of program options) bytes log in (judged_outcome said.0, (said.0, said.1, refl))
 
 of_some : (which : Document) (file : Option (List ℕ)) (next : List ℕ → Outcome → Type 0) → ((bytes : List ℕ) → Some_due (next bytes)) → Some_due (OfFile which file next)
 of_some which None next after = (refusal (cause.Absent which), refl)

@@ -10,8 +10,9 @@ use Rattle.command_outcomes.specs.Done.{Outside}
 use Rattle.command_files.specs.Loads.{AfterLoad}
 use Rattle.command_outcomes.specs.Outcome.{Outcome}
 use Rattle.command_files.specs.Loaded.{IsLoaded}
-use Rattle.command_audit.specs.Audits.{Audits, AuditsBytes, AuditsProgram, IsJudgement, reading_of}
-use Rattle.command_audit.specs.declared.judgements.Judgement.{Judgement}
+use Rattle.command_audit.specs.Audits.{Audits, AuditsBytes, AuditsProgram, reading_of}
+use Rattle.log_verdicts.specs.Verdicts.{IsVerdictOf}
+use Rattle.log_verdicts.specs.declared.verdicts.Verdict.{Verdict}
 use Rattle.outcome_laws.specs.Given.{HasAnswered, HasSource}
 use Rattle.outcome_laws.specs.Written.{UnlessMemory, WritesJudgement}
 use Rattle.outcome_laws.proofs.Answered.{has_done, where_done}
@@ -19,7 +20,7 @@ use Rattle.outcome_laws.proofs.Reading.{after_load, after_source}
 
 pub audit_writes_its_judgement : (words : List (List ℕ)) (files : Files) (trace source log : List ℕ) (options : AuditOptions) (program : ProgramTree) (bytes : List ℕ) (before after : Outside) (status : ℕ) →
     HasAnswered words files trace before after status → IsWordList words (Audit source log options) → HasSource files source program → IsLoaded document.Log (Some files) log bytes →
-    UnlessMemory status ((is : Judgement) × IsJudgement (reading_of program options) (Some trace) bytes is × WritesJudgement is before after status)
+    UnlessMemory status ((is : Verdict) × IsVerdictOf (reading_of program options) (Some trace) bytes is × WritesJudgement is before after status)
 audit_writes_its_judgement words files trace source log options program bytes before after status answered asked there log_there =
     where_done (Audit source log options) before after status
     (λ done.

@@ -19,8 +19,9 @@ ghost use Rattle.command_outcomes.specs.Done.{Outside, WhereTold, AreStored};
 ghost use Rattle.command_files.specs.Loads.{IsSourceText};
 ghost use Rattle.command_files.specs.Loaded.{IsLoaded};
 ghost use Rattle.command_outcomes.specs.declared.documents.Document.TheVariants as document;
-ghost use Rattle.command_audit.specs.Audits.{IsJudgement, reading_of};
-ghost use Rattle.command_audit.specs.declared.judgements.Judgement.{Judgement};
+ghost use Rattle.command_audit.specs.Audits.{reading_of};
+ghost use Rattle.log_verdicts.specs.Verdicts.{IsVerdictOf};
+ghost use Rattle.log_verdicts.specs.declared.verdicts.Verdict.{Verdict};
 ghost use Rattle.pair_commands.specs.BuildsFiles.{built, built_line};
 ghost use Rattle.pair_commands.specs.Budgets.{budget_text};
 ghost use Rattle.capriccio_commands.specs.Demos.{demo_sizes, demo_policy};
@@ -112,7 +113,7 @@ pub fn audit_writes_its_judgement()
         (before after : Outside) (status : ℕ) →
         HasAnswered words files trace before after status → IsWordList words (Audit source log options) →
         HasSource files source program → IsLoaded document.Log (Some files) log bytes →
-        UnlessMemory status ((is : Judgement) × IsJudgement (reading_of program options) (Some trace) bytes is × WritesJudgement is before after status) }
+        UnlessMemory status ((is : Verdict) × IsVerdictOf (reading_of program options) (Some trace) bytes is × WritesJudgement is before after status) }
 {}
 
 /// `check` on what `build` wrote for the same source, under three different names: where `build` ended with 0, the files that it left are

@@ -3,6 +3,8 @@ use Rattle.std.specs.Prelude.{◌≡◌, ℕ, suc, List, ◌++◌, length, Optio
 use Rattle.lawful_reading.specs.Given.{Given}
 use Rattle.lawful_reading.specs.Reading.{IsBeyond, Leads}
 use Rattle.lawful_reading.specs.State.{State, start_of}
+use Rattle.log_verdicts.specs.Verdicts.{IsVerdictOf}
+use Rattle.log_verdicts.specs.declared.verdicts.Verdict.{Verdict}
 use Rattle.schedule_log.specs.EntryRanges.{FitsEntry}
 use Rattle.schedule_log.specs.EntryText.{entry_text, log_text}
 use Rattle.schedule_log.specs.declared.entries.Entry.{Entry}
@@ -10,10 +12,8 @@ use Rattle.schedule_reading.specs.declared.rulings.Failure.{Failure}
 use Rattle.schedule_reading.specs.declared.rulings.Ruling.{Ruling}
 use Rattle.schedule_reading.specs.declared.rulings.Ruling.TheVariants as ruling
 use Rattle.schedule_reading.specs.Rulings.{Allows, Refuses}
-use Rattle.schedule_audit.specs.declared.verdicts.Verdict.{Verdict}
 use Rattle.schedule_reading.specs.Kept.{Kept}
 use Rattle.schedule_reading.specs.Stands.{IsTold, Stands}
-use Rattle.schedule_audit.specs.Verdicts.{IsVerdictOf}
 
 -- ---- a line
 
@@ -31,6 +31,7 @@ RulesLine g state old line told new told' (Err failure) = Unit {0}
 
 -- ---- a log
 
+-- the verdict is what is said of the log, where the trace is told
 abbrev pub IsJudged : Given → Option (List ℕ) → List ℕ → Result Verdict Failure → Type 0
 IsJudged g left log (Ok verdict) = IsVerdictOf g left log verdict
 IsJudged g left log (Err failure) = Unit {0}

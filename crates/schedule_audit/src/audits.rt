@@ -1,22 +1,20 @@
 // The audit of a log.
-ghost use Rattle.std.specs.Prelude.{◌≡◌, ◌≢◌, ◌==◌, ◌⊎◌, None, position};
+ghost use Rattle.std.specs.Prelude.{◌≡◌, ◌==◌, None, position};
 ghost use Rattle.c_tree.specs.ProgramView.{program_tree};
 ghost use Rattle.lawful_reading.specs.Given.{Given};
 ghost use Rattle.lawful_reading.specs.State.{State};
 ghost use Rattle.schedule_audit.specs.Judging.{IsJudged, IsNoEnd, IsReadTo, RulesLine};
 ghost use Rattle.schedule_reading.specs.Rulings.{CountsReads, Rules, StandsBetweenSomehow};
-ghost use Rattle.schedule_audit.specs.Verdicts.{IsVerdict};
 ghost use Rattle.schedule_reading.specs.Limits.{MayAudit, given_of};
-ghost use Rattle.schedule_audit.specs.declared.verdicts.Verdict.{Verdict as VerdictOf};
 ghost use Rattle.schedule_reading.specs.Closing.{RulesWithin, WithinSomehow};
 ghost use Rattle.schedule_reading.specs.Stands.{IsEnd, Stands, StandsSomehow, StandsWithin};
 ghost use Rattle.schedule_reading.specs.declared.reading.End.TheVariants.{Stopped};
 
 use crate::ends::stop;
 use crate::segments::{block, end_line, out};
-use crate::verdicts::Verdict;
 use c_tree::Program;
 use cap_io::Source;
+use log_verdicts::Verdict;
 use resource_monitor::{Measure, Monitor};
 use schedule_log::{Entry, LogError, read_entry};
 use schedule_reading::{AuditPolicy, End, Failure, Reading, Ruling, Shown, Under};
@@ -28,9 +26,10 @@ use std::alloc::Global;
 ///
 /// - `Lawful` exactly where every line is allowed and the last is a stop;
 /// - `Unlawful` at the first line that isn't, or at one more than there are where none is a stop;
-/// - `Steps` at the first line that needs, with those before it, more steps of the source than may be taken;
-/// - `ReadFault` where a read of the trace failed: its count of faults rose, or stands at its end;
-/// - `Memory` where there was no memory.
+/// - `Steps` at the first line that needs, with those before it, more steps of the source than may be taken.
+///
+/// It fails by `Failure::Read` where a read of the trace failed: its count of faults rose, or stands at its end. It fails by
+/// `Failure::Memory` where there was no memory.
 ///
 /// The limits are in their ranges, and the monitor is new, with the policy's caps and the number of chunks as that of resource 0.
 pub fn audit<S: Source, C: Measure + Drop>(
@@ -40,28 +39,9 @@ pub fn audit<S: Source, C: Measure + Drop>(
     monitor: Monitor<C>,
     trace: &mut S,
     log: &[u8],
-) -> Verdict
-    requires { MayAudit policy monitor }
-    ensures verdict { IsVerdict (given_of (program_tree program.now) policy monitor) (S.left trace.old) log.now (S.faults trace.old) (S.faults trace.new) result }
-    ensures faults { S.faults trace.new ≢ S.faults trace.old → (result ≡ VerdictOf.ReadFault) ⊎ (result ≡ VerdictOf.Memory) }
-{
-    match judge(alloc, program, policy, monitor, trace, log) {
-        Ok(verdict) => verdict,
-        Err(Failure::Read) => Verdict::ReadFault,
-        Err(Failure::Memory) => Verdict::Memory,
-    }
-}
-
-fn judge<S: Source, C: Measure + Drop>(
-    alloc: Global,
-    program: &Program,
-    policy: AuditPolicy,
-    monitor: Monitor<C>,
-    trace: &mut S,
-    log: &[u8],
 ) -> Result<Verdict, Failure>
     requires { MayAudit policy monitor }
-    ensures judged { IsJudged (given_of (program_tree program.now) policy monitor) (S.left trace.old) log.now result }
+    ensures verdict { IsJudged (given_of (program_tree program.now) policy monitor) (S.left trace.old) log.now result }
     ensures counts { CountsReads result (S.faults trace.old) (S.faults trace.new) }
 {
     match Reading::new(alloc, program, policy, monitor) {

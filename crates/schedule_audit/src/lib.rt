@@ -11,8 +11,7 @@
 mod audits;
 mod ends;
 mod segments;
-mod verdicts;
 
 pub use audits::audit;
-pub use schedule_reading::AuditPolicy;
-pub use verdicts::Verdict;
+pub use log_verdicts::Verdict;
+pub use schedule_reading::{AuditPolicy, Failure};
