@@ -171,6 +171,10 @@ class Values(unittest.TestCase):
         self.assertEqual(value["waits"][3]["place"], {"file": "server.c", "line": 12, "column": 5, "name": "take", "function": "worker"})
         self.assertEqual(value["stop"], {"line": "stop idle", "kind": "idle"})
 
+    def test_the_number_that_the_page_on_reports_has(self):
+        self.assertEqual(report_json.value_of((TOP / "examples/store/report").read_text())["latency"]["last"]["99th"], 1339)
+        self.assertIn("""'.latency.last."99th"'\n```\n\nprints 1339.""", (TOP / "docs/REPORT.md").read_text())
+
     def test_a_line_of_no_known_form_is_kept(self):
         self.assertEqual(report_json.value_of(REST + "something new: 5\nstop idle\n")["other"], ["something new: 5"])
 

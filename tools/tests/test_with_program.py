@@ -1,8 +1,9 @@
 """The tools that run the program, tried on it where the folder that CAPRICCIO_PROGRAMS names has
 it; tools/check_tools names it, and nothing is built here."""
-import csv, io, os, pathlib, re, shutil, subprocess, sys, tempfile, unittest
+import csv, io, json, os, pathlib, re, shutil, subprocess, sys, tempfile, unittest
 
 from random_programs import compared, printers
+from runs import report_json
 
 TOOLS = pathlib.Path(__file__).resolve().parent.parent
 TOP = TOOLS.parent
@@ -68,6 +69,24 @@ class WithTheReport(unittest.TestCase):
             told = run("export", "--folded", os.path.join(to, "run.folded"), *words, given=folder / "trace")
         self.assertIn("request 2: arrived ", told.stdout)
         self.assertEqual((told.stdout, told.returncode), (alone.stdout, alone.returncode))
+
+    def test_json_has_the_numbers_of_the_stored_report(self):
+        folder = TOP / "examples/limiter"
+        told = run("export", "--json", "--why", "serve", *(folder / "options").read_text().split(), folder / "server.c", given=folder / "trace")
+        value = json.loads(told.stdout)
+        wanted = report_json.value_of((folder / "report_why").read_text())
+        shown = lambda it: json.dumps(it).replace(f"{folder}/server.c", "server.c")  # the stored report was made in its folder
+        self.assertEqual(json.loads(shown({name: value[name] for name in wanted})), wanted)
+        self.assertEqual((value["status"], told.returncode, value["words"][:3]), (10, 10, ["serve", "--caps", "1=2"]))
+
+    def test_where_there_is_no_report_nothing_is_json(self):
+        with tempfile.TemporaryDirectory() as to:
+            trace = pathlib.Path(to, "trace")
+            trace.write_text("arrive 1 x\n")
+            told = run("export", "--json", "serve", TOP / "examples/pool/server.c", given=trace)
+            self.assertEqual(told.returncode, 4)
+            refused = run("export", "--json", "serve", os.devnull)
+            self.assertEqual((refused.stdout, refused.returncode), ("", 2))
 
     def test_a_refused_source_stores_nothing(self):
         with tempfile.TemporaryDirectory() as to:
