@@ -1,6 +1,6 @@
 """The tools that run the program, tried on it where the folder that CAPRICCIO_PROGRAMS names has
 it; tools/check_tools names it, and nothing is built here."""
-import csv, io, json, os, pathlib, re, shutil, subprocess, sys, tempfile, unittest
+import csv, io, json, os, pathlib, re, shutil, stat, subprocess, sys, tempfile, unittest
 
 from random_programs import compared, printers
 from runs import report_json
@@ -87,6 +87,32 @@ class WithTheReport(unittest.TestCase):
             self.assertEqual(told.returncode, 4)
             refused = run("export", "--json", "serve", os.devnull)
             self.assertEqual((refused.stdout, refused.returncode), ("", 2))
+
+    def test_what_is_no_regular_file_stays_what_it_is(self):
+        """A pipe is written as the text comes, and a link stays a link to its file."""
+        folder = TOP / "examples/pool"
+        with tempfile.TemporaryDirectory() as to:
+            pipe, link, file = (os.path.join(to, name) for name in ("pipe", "link", "file"))
+            os.mkfifo(pipe)
+            os.symlink("file", link)
+            with subprocess.Popen(["cat", pipe], stdout=subprocess.PIPE, text=True) as reader:
+                told = run("export", "--folded", pipe, "--trace", link, "serve", folder / "server.c", given=folder / "trace")
+                self.assertEqual(reader.communicate()[0], "main;[end] 31\nmain;worker;accept 86\n")
+            self.assertEqual(told.returncode, 10)
+            self.assertTrue(os.path.islink(link) and stat.S_ISFIFO(os.stat(pipe).st_mode))
+            self.assertIn("traceEvents", json.loads(pathlib.Path(file).read_text()))
+
+    def test_faults_of_standard_output_and_an_absent_log(self):
+        folder = TOP / "examples/pool"
+        for stdout, close in ((os.open("/dev/full", os.O_WRONLY), None), (subprocess.DEVNULL, lambda: os.close(1))):
+            with open(folder / "trace") as trace:
+                words = [sys.executable, TOOLS / "export", "--json", "serve", folder / "server.c"]
+                told = subprocess.run(words, stdin=trace, stdout=stdout, stderr=subprocess.PIPE, preexec_fn=close, text=True)
+            self.assertEqual(told.returncode, 7, told.stderr)
+            self.assertNotIn("Traceback", told.stderr)
+        with tempfile.TemporaryDirectory() as to:
+            told = run("export", "--folded", os.path.join(to, "file"), "--log", os.path.join(to, "log"), "serve", folder / "server.c", given=folder / "trace")
+            self.assertEqual((told.returncode, os.listdir(to)), (9, []))
 
     def test_a_refused_source_stores_nothing(self):
         with tempfile.TemporaryDirectory() as to:
