@@ -50,27 +50,28 @@ def place_of(text):
 
 REQUESTS = form("requests: {came} came, {dropped} dropped, {taken} taken, {answered} answered")
 LATENCY = form("latency to the {which} answer: {spread} (arrived {arrived}, thread {thread})", which="first|last", spread=".*")
-OUTPUTS = form("outputs by threads that served no request: {count}{threads}[, the others by {more} more threads]", threads=r"(?:, \d+ by thread \d+)*")
+OUTPUTS = form("outputs by threads that served no request: {count}{threads}[, the others by {more} more thread[s]]", threads=r"(?:, \d+ by thread \d+)*")
 BY_THREAD = re.compile(r"(-?\d+) by thread (\d+)")
 REQUEST = form(
     "request {number}{slowest}: {rest}", slowest="(?:, the slowest)?", rest=r"no accept took it|arrived \d+, taken by thread \d+, and its parts until when"
 )
-SHORTER = form("  {count} shorter parts: {ticks}")
+SHORTER = form("  {count} shorter part[s]: {ticks}")
 PART = form("  {what}: {ticks}, {until}", what=".*")
+WINDOW = form("window: the requests that arrived from {from} to {to}, and the waits, choices and segments that ended then")
 PLACES = "waits by place: count, total, median, 99th, greatest"
 QUEUE = "queue, from arrival to accept"
 WAIT = form("  {what}: {spread} ([request {request}, ]thread {thread}, until {until})", what=".*", spread=r"\d+(?:, \d+){4}")
 CHUNKS = form("chunks: at most {most_held} of {of} held between segments")
 CHOICES = form("choices: {count}[, by score {by_score}, by the gate {by_gate}, by turn {by_turn}]")
-GATE = form("gate: closed {times} times, for {ticks} ticks in all[, held a request back at {held_back} choices]{end}", end="(?:, closed at the end)?")
-NEVER_RAN = form("left: {count} threads that never ran")
-MORE_LEFT = form("left: {count} more threads")
+GATE = form("gate: closed {times} time[s], for {ticks} tick[s] in all[, held a request back at {held_back} choice[s]]{end}", end="(?:, closed at the end)?")
+NEVER_RAN = form("left: {count} thread[s] that never ran")
+MORE_LEFT = form("left: {count} more thread[s]")
 LEFT = form(
     "left: thread {thread}{how}[, went past {passed} at {passed_at}]", how=r", whose segment was cut| waits at .* since \d+(?:: \w+\([-0-9, ]*\))?", passed=".*"
 )
 BLOCKED = form(" waits at {place} since {since}[: {values}]", place=".*", values=r"\w+\([-0-9, ]*\)")
 RESOURCE = form(
-    "resource {resource}: {used} of {cap} in use{holders}[, the others by {more} more threads]", holders=r"(?:: -?\d+ by thread \d+(?:, -?\d+ by thread \d+)*)?"
+    "resource {resource}: {used} of {cap} in use{holders}[, the others by {more} more thread[s]]", holders=r"(?:: -?\d+ by thread \d+(?:, -?\d+ by thread \d+)*)?"
 )
 STOPPED = form(
     "stopped: thread {thread}{where}[: {why}][, at {places}][: {values}]",
@@ -87,12 +88,12 @@ class Report:
 
     def __init__(self):
         self.value = {
-            "log_fits": True, "circles": [], "answers": "own", "requests": None, "latency": {"first": None, "last": None}, "other_outputs": None, "request": None,
+            "log_fits": True, "circles": [], "answers": "own", "requests": None, "latency": {"first": None, "last": None}, "other_outputs": None, "window": None, "request": None,
             "waits": [], "chunks": None, "choices": None, "gate": None, "left": [], "more_left": 0, "never_ran": 0, "resources": [], "stopped": None, "stop": None,
             "other": [],
         }
         self.lines = [
-            (REQUESTS, self.requests), (LATENCY, self.latency), (OUTPUTS, self.outputs), (REQUEST, self.request), (CHUNKS, self.numbers("chunks")),
+            (REQUESTS, self.requests), (WINDOW, self.numbers("window")), (LATENCY, self.latency), (OUTPUTS, self.outputs), (REQUEST, self.request), (CHUNKS, self.numbers("chunks")),
             (CHOICES, self.numbers("choices")), (GATE, self.gate), (NEVER_RAN, self.count("never_ran")), (MORE_LEFT, self.count("more_left")), (LEFT, self.left),
             (RESOURCE, self.resource), (STOPPED, self.stopped), (re.compile("circle: (.*)"), self.circle), (re.compile("stop (.*)"), self.stop),
         ]

@@ -86,7 +86,7 @@ class Browser:
             self.ask("Browser.close")
         except (RuntimeError, OSError):
             pass
-        self.process.wait(30)
+        self.process.wait(300)
         os.close(self.output)
         os.close(self.input)
         shutil.rmtree(self.folder, ignore_errors=True)

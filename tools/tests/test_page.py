@@ -134,6 +134,15 @@ class InABrowser(unittest.TestCase):
         self.assertEqual(self.window(), whole)
         self.assertEqual(self.browser.errors, [])
 
+    def test_a_dark_browser_has_dark_paper_and_light_ink(self):
+        light_of = lambda name: self.browser.value(f"getComputedStyle(document.body).{name}.match(/\\d+/g).reduce((a, b) => a + +b, 0) / 3")
+        for is_dark in (False, True):
+            self.browser.dark(is_dark)
+            paper, ink = light_of("backgroundColor"), light_of("color")
+            self.assertGreater(abs(paper - ink), 150)
+            self.assertEqual(paper < ink, is_dark)
+        self.assertEqual(self.browser.errors, [])
+
     def test_the_requests_sort_and_the_log_is_searched(self):
         self.browser.value("sortBy(6)")
         self.assertEqual(self.browser.value("requestList.order"), [1, 0])  # 862 ticks before 1,339

@@ -16,23 +16,25 @@ RARE = """circle: thread 1 → resource 2 → thread 2 → resource 1 → thread
 circle: thread 7 → resource 3 → thread 7
 this log is not of this source and trace: what follows joins what isn't of one run
 answers: the N-th output is that to the N-th request
+window: the requests that arrived from 5 to 400, and the waits, choices and segments that ended then
 requests: 70 came, 3 dropped, 69 taken, 0 answered
 outputs by threads that served no request: 60, 20 by thread 3, 5 by thread 4, the others by 3 more threads
 request 5, the slowest: arrived 10, taken by thread 1, and its parts until when
   queue: 40, 50
   runs: 10, 60
   waits at a b/x:1.c:16:5 take in worker: 500, 560
-  4 shorter parts: 12
+  until another thread answers: 40, 600
+  1 shorter part: 12
 waits by place: count, total, median, 99th, greatest
   queue, from arrival to accept: 3, 171, 59, 72, 72 (request 3, thread 3, until 192)
   site 8: 2, 23, 0, 23, 23 (thread 2, until 202)
 chunks: at most 3 of 1024 held between segments
 choices: 2155, by score 736, by the gate 78, by turn 1341
-gate: closed 3 times, for 1971 ticks in all, held a request back at 2 choices, closed at the end
+gate: closed 1 time, for 1971 ticks in all, held a request back at 1 choice, closed at the end
 left: thread 1 waits at server.c:15:15 take(since, in + 1) in worker since 337: take(-2, 1), went past server.c:1:1 take(1, a at, b) in worker at 5
 left: thread 2, whose segment was cut
 left: 980 more threads
-left: 12 threads that never ran
+left: 1 thread that never ran
 resource 1: 3 of 4 in use: 3 by thread 2
 resource 2: 4 of 4 in use: 6 by thread 2, -2 by thread 3, the others by 4 more threads
 stopped: thread 2 in get: index -4 of 9 members, at server.c:5:10 a or server.c:6:3 a or at 2 more places
@@ -62,8 +64,13 @@ def listed(items, form, more, unit):
     return "".join([", ".join(form.format(**it) for it in items), f", the others by {more} more {unit}" if more else ""])
 
 
+def plural(text):
+    """A report with `1 times` for `1 time`, and the like."""
+    return re.sub(r"\b1 (time|tick|choice|thread|more thread|shorter part)\b", r"1 \1s", text)
+
+
 def text_of(value):
-    """The report that a value is of."""
+    """The report that a value is of, with plurals throughout."""
     return "".join(f"{it}\n" for part in (first_lines, request_lines, wait_lines, count_lines, left_lines, stop_lines) for it in part(value))
 
 
@@ -73,6 +80,8 @@ def first_lines(value):
     if not value["log_fits"]:
         yield report_json.FOREIGN
     yield from [line for line, pairing in report_json.PAIRINGS.items() if pairing == value["answers"]]
+    if it := value["window"]:
+        yield "window: the requests that arrived from {from} to {to}, and the waits, choices and segments that ended then".format(**it)
     yield "requests: {came} came, {dropped} dropped, {taken} taken, {answered} answered".format(**value["requests"])
     for which, it in value["latency"].items():
         if it:
@@ -155,7 +164,7 @@ class Values(unittest.TestCase):
             with self.subTest(report=name):
                 value = report_json.value_of(text)
                 self.assertEqual(value["other"], [])
-                self.assertEqual(text_of(value), text)
+                self.assertEqual(plural(text_of(value)), plural(text))
 
     def test_each_line_of_the_page_on_reports_is_known(self):
         heads = "circle|answers|requests|latency|outputs|request|waits|chunks|choices|gate|left|resource|stopped|stop"
@@ -170,6 +179,10 @@ class Values(unittest.TestCase):
         self.assertEqual(value["choices"], {"count": 22, "by_score": 0, "by_gate": 0, "by_turn": 22})
         self.assertEqual(value["waits"][3]["place"], {"file": "server.c", "line": 12, "column": 5, "name": "take", "function": "worker"})
         self.assertEqual(value["stop"], {"line": "stop idle", "kind": "idle"})
+
+    def test_the_number_that_the_page_on_reports_has(self):
+        self.assertEqual(report_json.value_of((TOP / "examples/store/report").read_text())["latency"]["last"]["99th"], 1339)
+        self.assertIn("""'.latency.last."99th"'\n```\n\nprints 1339.""", (TOP / "docs/REPORT.md").read_text())
 
     def test_a_line_of_no_known_form_is_kept(self):
         self.assertEqual(report_json.value_of(REST + "something new: 5\nstop idle\n")["other"], ["something new: 5"])

@@ -1,8 +1,9 @@
 """The tools that run the program, tried on it where the folder that CAPRICCIO_PROGRAMS names has
 it; tools/check_tools names it, and nothing is built here."""
-import csv, io, os, pathlib, re, shutil, subprocess, sys, tempfile, unittest
+import csv, io, json, os, pathlib, re, shutil, stat, subprocess, sys, tempfile, unittest
 
 from random_programs import compared, printers
+from runs import report_json
 
 TOOLS = pathlib.Path(__file__).resolve().parent.parent
 TOP = TOOLS.parent
@@ -68,6 +69,50 @@ class WithTheReport(unittest.TestCase):
             told = run("export", "--folded", os.path.join(to, "run.folded"), *words, given=folder / "trace")
         self.assertIn("request 2: arrived ", told.stdout)
         self.assertEqual((told.stdout, told.returncode), (alone.stdout, alone.returncode))
+
+    def test_json_has_the_numbers_of_the_stored_report(self):
+        folder = TOP / "examples/limiter"
+        told = run("export", "--json", "--why", "serve", *(folder / "options").read_text().split(), folder / "server.c", given=folder / "trace")
+        value = json.loads(told.stdout)
+        wanted = report_json.value_of((folder / "report_why").read_text())
+        shown = lambda it: json.dumps(it).replace(f"{folder}/server.c", "server.c")  # the stored report was made in its folder
+        self.assertEqual(json.loads(shown({name: value[name] for name in wanted})), wanted)
+        self.assertEqual((value["status"], told.returncode, value["words"][:3]), (10, 10, ["serve", "--caps", "1=2"]))
+
+    def test_where_there_is_no_report_nothing_is_json(self):
+        with tempfile.TemporaryDirectory() as to:
+            trace = pathlib.Path(to, "trace")
+            trace.write_text("arrive 1 x\n")
+            told = run("export", "--json", "serve", TOP / "examples/pool/server.c", given=trace)
+            self.assertEqual(told.returncode, 4)
+            refused = run("export", "--json", "serve", os.devnull)
+            self.assertEqual((refused.stdout, refused.returncode), ("", 2))
+
+    def test_what_is_no_regular_file_stays_what_it_is(self):
+        """A pipe is written as the text comes, and a link stays a link to its file."""
+        folder = TOP / "examples/pool"
+        with tempfile.TemporaryDirectory() as to:
+            pipe, link, file = (os.path.join(to, name) for name in ("pipe", "link", "file"))
+            os.mkfifo(pipe)
+            os.symlink("file", link)
+            with subprocess.Popen(["cat", pipe], stdout=subprocess.PIPE, text=True) as reader:
+                told = run("export", "--folded", pipe, "--trace", link, "serve", folder / "server.c", given=folder / "trace")
+                self.assertEqual(reader.communicate()[0], "main;[end] 31\nmain;worker;accept 86\n")
+            self.assertEqual(told.returncode, 10)
+            self.assertTrue(os.path.islink(link) and stat.S_ISFIFO(os.stat(pipe).st_mode))
+            self.assertIn("traceEvents", json.loads(pathlib.Path(file).read_text()))
+
+    def test_faults_of_standard_output_and_an_absent_log(self):
+        folder = TOP / "examples/pool"
+        for stdout, close in ((os.open("/dev/full", os.O_WRONLY), None), (subprocess.DEVNULL, lambda: os.close(1))):
+            with open(folder / "trace") as trace:
+                words = [sys.executable, TOOLS / "export", "--json", "serve", folder / "server.c"]
+                told = subprocess.run(words, stdin=trace, stdout=stdout, stderr=subprocess.PIPE, preexec_fn=close, text=True)
+            self.assertEqual(told.returncode, 7, told.stderr)
+            self.assertNotIn("Traceback", told.stderr)
+        with tempfile.TemporaryDirectory() as to:
+            told = run("export", "--folded", os.path.join(to, "file"), "--log", os.path.join(to, "log"), "serve", folder / "server.c", given=folder / "trace")
+            self.assertEqual((told.returncode, os.listdir(to)), (9, []))
 
     def test_a_refused_source_stores_nothing(self):
         with tempfile.TemporaryDirectory() as to:
