@@ -4,6 +4,7 @@ pub mod Contexts
 pub mod Safe
 pub mod Segments
 pub mod Passing
+pub mod Payloads
 pub mod Starting
 pub mod Turns
 pub mod Lookups

@@ -7,11 +7,13 @@ ghost use Rattle.rv_machine.specs.Step.{instruction_at};
 ghost use Rattle.segment_laws.specs.Ways.{HasForm};
 ghost use Rattle.segment_run.specs.Contexts.{checked_of, code_of};
 ghost use Rattle.segment_run.specs.ReadyTurns.{machine_at, HasRegisters, IsReadyIn, GoesOn, WentOn};
+ghost use Rattle.segment_run.specs.Payloads.{IsPayloadOf};
 ghost use Rattle.segment_run.specs.Safe.{StaysSafe};
 ghost use Rattle.segment_run.specs.Turns.{thread_of, IsUnderWay};
 
-use crate::areas::Areas;
+use crate::areas::{Areas, Payload};
 use crate::register_file::RegisterFile;
+use crate::registers::TP;
 use crate::running::Thread;
 use accepted_pairs::Accepted;
 use cap_word::add;
@@ -42,12 +44,13 @@ pub(crate) fn run_ready(
     ensures { IsUnderWay (checked_of accepted.now) (code_of accepted.now) (thread_of areas.old thread) fuel (thread_of areas.new (record thread { regs = result.regs })) result.left }
 {
     let ready = accepted.ready();
+    let front = areas.payload_at(thread.regs.x[TP]);
     let mut file = RegisterFile::new(thread.regs.x);
     let mut at = index_at(thread.regs.pc);
     let mut left = fuel;
     while left > 0 {
         let op = operation_at(ready, at);
-        match turn(op, at, areas, &mut file) {
+        match turn(op, at, front, areas, &mut file) {
             Some(next) => {
                 at = next;
                 left -= 1;
@@ -94,7 +97,14 @@ fn operation_at(ready: &[Ready], at: usize) -> &Ready
 // Does the ready operation of an index, and answers the index of the next; None where only the machine's step does it,
 // and then nothing has changed.
 #[inline(always)]
-fn turn(op: &Ready, at: usize, areas: &mut Areas, file: &mut RegisterFile) -> Option<usize>
+fn turn(
+    op: &Ready,
+    at: usize,
+    front: Payload,
+    areas: &mut Areas,
+    file: &mut RegisterFile,
+) -> Option<usize>
+    requires front { IsPayloadOf areas.old.pool front }
     requires registers { HasRegisters op.now }
     requires place { place_at at < 2 ^ 32 }
     requires goes { GoesOn (ready_effect op.now (machine_at areas.old at file.old)) }
@@ -110,12 +120,12 @@ fn turn(op: &Ready, at: usize, areas: &mut Areas, file: &mut RegisterFile) -> Op
             Some(at + 1)
         }
         Action::Loads { address } => {
-            let word = areas.read_word(address);
+            let word = areas.read_word(front, address);
             file.write(op.rd, word);
             Some(at + 1)
         }
         Action::Stores { address } => {
-            areas.put_word(address, b);
+            areas.put_word(front, address, b);
             Some(at + 1)
         }
         Action::Jumps { to } => Some(to as usize),

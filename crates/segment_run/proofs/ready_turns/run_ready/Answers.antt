@@ -8,6 +8,7 @@ use Rattle.segment_run.specs.Turns.{thread_of, IsUnderWay}
 use Rattle.segment_run.specs.declared.ready_turns.Progress.{Progress}
 use Rattle.segment_run.proofs.Instructions.{stands_at}
 use Rattle.segment_run.proofs.ReadyTurns.{goes, step_of_turn}
+use Rattle.segment_run.proofs.Taking.{IsPayloadOf-same}
 use Rattle.segment_run.proofs.UnderWay.{begun, safe_now}
 use Rattle.segment_run.proofs.ready_turns.run_ready.Goals as goal
 
@@ -47,6 +48,10 @@ turn-requires-clause-registers c =
     let now = thread_of c.loop-left.areas (record c.args.thread { regs = record { pc = place_at c.loop-left.at; x = c.loop-left.file } }) in
     let at = stands_at checked code now (safe_now checked code start now c.args.fuel c.loop-left.left c.requires.safe c.loop-left.invariant) in
     (c.operation_at-op.ensures code at.0 c.ready-ready.ensures at.1).registers
+
+pub turn-requires-clause-front : goal.turn-requires-clause-front
+turn-requires-clause-front c =
+    IsPayloadOf-same c.args.areas.now.pool c.loop-left.areas.pool c.payload_at-front.result c.loop-left.invariant.counts.shape c.payload_at-front.ensures
 
 pub turn-requires-clause-place : goal.turn-requires-clause-place
 turn-requires-clause-place c = c.loop-left.invariant.form.core.pc

@@ -15,8 +15,8 @@ returns-in-Sets-clause-went c =
     let is : ready_effect op m ≡ Some (sets m op.rd c.in-Sets.value) = (λ i. done op (sym c.read-a.ensures i) (sym c.read-b.ensures i) m) ∙ c.in-Sets.ensures m in
     set_went (ready_effect op m) c.args.areas.now c.args.at op.rd c.in-Sets.value c.args.file.now c.write.new.self c.requires.place c.requires.goes is c.write.ensures
 
-pub read_word-word-requires : goal.read_word-word-requires
-read_word-word-requires c =
+pub read_word-word-requires-clause-loads : goal.read_word-word-requires-clause-loads
+read_word-word-requires-clause-loads c =
     let op = c.args.op.now in
     let m = machine_at c.args.areas.now c.args.at c.args.file.now in
     let is : ready_effect op m ≡ Some (loads m op.rd (word_loaded (byte_at c.args.areas.now) c.in-Loads.address)) = (λ i. done op (sym c.read-a.ensures i) (sym c.read-b.ensures i) m) ∙ c.in-Loads.ensures m in
