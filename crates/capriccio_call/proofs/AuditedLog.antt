@@ -30,7 +30,7 @@ use Rattle.command_outcomes.specs.Outcome.{Outcome}
 use Rattle.command_files.specs.Loads.{AfterLoad, IsSourceText}
 use Rattle.command_options.specs.Options.{AreAuditOptions}
 use Rattle.command_audit.specs.Audits.{Audits, AuditsBytes, AuditsProgram, IsJudgement, judged_outcome, judgement_status, reading_of}
-use Rattle.capriccio_commands.specs.Due.{IsDue}
+use Rattle.capriccio_call.specs.Due.{IsDue}
 use Rattle.command_audit.specs.declared.judgements.Judgement.{Judgement}
 use Rattle.command_audit.specs.declared.judgements.Judgement.TheVariants.{Lawful, Steps, Unlawful}
 use Rattle.command_options.proofs.Options.{audit-options}

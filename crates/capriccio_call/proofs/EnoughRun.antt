@@ -31,13 +31,14 @@ use Rattle.command_outcomes.specs.declared.documents.Document.TheVariants as doc
 use Rattle.command_outcomes.specs.declared.stops.Cause.TheVariants as cause
 use Rattle.command_outcomes.specs.CauseLines.{refusal}
 use Rattle.command_outcomes.specs.Outcome.{Outcome, Ran}
-use Rattle.command_outcomes.specs.Done.{Outside, IsLast, IsWorldOf}
+use Rattle.command_outcomes.specs.Done.{Outside}
+use Rattle.capriccio_commands.specs.Ends.{IsLast, IsWorldOf}
 use Rattle.command_files.specs.Loads.{AfterLoad, AfterSource, AfterImage, AfterCertificate}
 use Rattle.pair_commands.specs.BuildsFiles.{IsUnbuilt}
 use Rattle.pair_commands.specs.Runs.{IsAccepted, RunsOn, RunsBytes, RunsPair, ServesProgram, Serves, Runs, policy_of, pool_bytes, setup_of, stop_status}
 use Rattle.pair_commands.proofs.OneBuild.{plans-are-one}
 use Rattle.capriccio_commands.specs.Demos.{ShowsRun}
-use Rattle.capriccio_commands.specs.Due.{IsDue}
+use Rattle.capriccio_call.specs.Due.{IsDue}
 use Rattle.workload.specs.Traces.{trace_text}
 use Rattle.capriccio_call.specs.EnoughChunks.{AsksForRun, HasEnoughChunks, HasRoom, LivesWithin, RunsFiles, ServesSource, no_chunk}
 use Rattle.capriccio_call.specs.Headline.{IsAnswer}

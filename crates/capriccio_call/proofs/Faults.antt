@@ -13,7 +13,7 @@ use Rattle.command_outcomes.specs.FaultLines.{fault_status}
 use Rattle.command_outcomes.specs.Outcome.{Outcome}
 use Rattle.command_outcomes.specs.Prefixes.{TakesPrefix}
 use Rattle.command_outcomes.specs.Done.{Outside, WhereTold, AreStored, AreCutShort, IsCutShort, NoneCounted, IsDone, IsTold, status_of, line_of}
-use Rattle.capriccio_commands.specs.Due.{IsDue}
+use Rattle.capriccio_call.specs.Due.{IsDue}
 use Rattle.thread_core.specs.Worlds.{Held}
 use Rattle.capriccio_call.specs.AfterFault.{HasCounted, IsLineOf, TookLine, TookPart, TookDue, HoldsPart, IsPairInPart, BuildsInPart, HoldsAfterFault}
 use Rattle.capriccio_call.specs.Headline.{IsAnswer}

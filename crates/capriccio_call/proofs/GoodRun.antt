@@ -8,11 +8,12 @@ use Rattle.command_outcomes.specs.Outcome.{Outcome, Ran}
 use Rattle.command_files.specs.Loads.{IsSourceText}
 use Rattle.pair_commands.specs.Runs.{IsRun, IsRunOfSome, RunsOn, run_outcome}
 use Rattle.capriccio_commands.specs.Demos.{ShowsRun, shown_outcome}
-use Rattle.capriccio_commands.specs.Due.{IsDue}
+use Rattle.capriccio_call.specs.Due.{IsDue}
 use Rattle.workload.specs.Traces.{trace_text}
 use Rattle.workload_source.specs.Programs.{program_text}
 use Rattle.schedule_log.specs.EntryText.{log_text}
-use Rattle.command_outcomes.specs.Done.{Outside, IsTold, IsLast}
+use Rattle.command_outcomes.specs.Done.{Outside, IsTold}
+use Rattle.capriccio_commands.specs.Ends.{IsLast}
 use Rattle.capriccio_call.proofs.OutcomeKinds.{IsRunFor, IsPairFor, kind-of}
 use Rattle.capriccio_call.proofs.TheText.{IsRunOfSource, run-of-source, log-of-text}
 use Rattle.capriccio_call.specs.Headline.{IsAnswer, IsLogFor, RanWell, WasGood}
@@ -55,16 +56,18 @@ ran-well words request asked before after o world status setup h of_source print
     let ran : o ≡ run_outcome setup h.1 h.2 h.3 = h.5 in
     let some = h.6 in
     let run = some.run in
+    let made = of_source (record { setup = setup; end = h.3 }) (ap (λ (x : Outcome). x.last) ran) in
     record {
       request = request;
       asked = asked;
       setup = setup;
+      policy = made.policy;
       entries = h.1;
       stop = h.2;
       end = h.3;
       accepted = h.0;
       log = logs (h.4, subst (λ (x : Outcome). Appends before.taken after.taken x.out) ran printed, h.6);
-      text = log-of-text request before.files setup some.bytes h.1 h.2 h.3 (of_source (record { setup = setup; end = h.3 }) (ap (λ (x : Outcome). x.last) ran)) h.0 run.lawful;
+      text = log-of-text request before.files setup some.bytes h.1 h.2 h.3 made h.0 run.lawful;
       stopped = told (ap (λ (x : Outcome). x.line) ran) ∙ ap (λ (x : Outcome). x.status) ran;
       handed_out = subst (λ (x : Outcome). IsLast x.last (Some world)) ran last;
     }
@@ -73,16 +76,18 @@ shown-well : (words : List (List ℕ)) (number : ℕ) (asked : IsWordList words 
 shown-well words number asked before after o world status setup source h of_source printed last told =
     let ran : o ≡ shown_outcome setup h.1 h.2 h.3 = h.5 in
     let run = h.4 in
+    let made = of_source (record { setup = setup; end = h.3 }) (ap (λ (x : Outcome). x.last) ran) in
     record {
       request = Demo number;
       asked = asked;
       setup = setup;
+      policy = made.policy;
       entries = h.1;
       stop = h.2;
       end = h.3;
       accepted = h.0;
       log = (source, h.4, subst (λ (x : Outcome). Appends before.taken after.taken x.out) ran printed);
-      text = log-of-text (Demo number) before.files setup (trace_text number) h.1 h.2 h.3 (of_source (record { setup = setup; end = h.3 }) (ap (λ (x : Outcome). x.last) ran)) h.0 run.lawful;
+      text = log-of-text (Demo number) before.files setup (trace_text number) h.1 h.2 h.3 made h.0 run.lawful;
       stopped = told (ap (λ (x : Outcome). x.line) ran) ∙ ap (λ (x : Outcome). x.status) ran;
       handed_out = subst (λ (x : Outcome). IsLast x.last (Some world)) ran last;
     }

@@ -1,5 +1,6 @@
 pub mod OneBudget
 pub mod OneJudgement
+pub mod Handed
 pub mod Told
 pub mod OnePair
 pub mod OneRun

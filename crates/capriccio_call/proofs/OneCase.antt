@@ -45,7 +45,7 @@ use Rattle.pair_commands.specs.Runs.{RunsOn, Serves, ServesProgram, Runs, RunsBy
 use Rattle.command_options.specs.Options.{IsRunPolicy, sizes_of}
 use Rattle.capriccio_commands.specs.Demos.{Demos, ShowsProgram, ShowsRun, demo_sizes, demo_policy}
 use Rattle.command_audit.specs.Audits.{Audits, AuditsBytes, AuditsProgram, IsJudgement, judged_outcome, reading_of}
-use Rattle.capriccio_commands.specs.Due.{Does, IsDue}
+use Rattle.capriccio_call.specs.Due.{Does, IsDue}
 use Rattle.workload_source.specs.Programs.{program_text}
 use Rattle.workload.specs.Traces.{trace_text}
 use Rattle.command_outcomes.specs.Done.{Outside, IsRisen, IsDone, IsTraceTold, IsExact}

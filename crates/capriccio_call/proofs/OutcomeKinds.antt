@@ -37,7 +37,7 @@ use Rattle.pair_commands.specs.Checks.{ChecksBytes, ChecksPair, verdict_status, 
 use Rattle.pair_commands.specs.BuildsFiles.{BuildsProgram, IsUnbuilt}
 use Rattle.pair_commands.specs.Runs.{RunsOn, ServesProgram, RunsBytes, RunsPair, stop_status, setup_of, pool_bytes}
 use Rattle.capriccio_commands.specs.Demos.{ShowsRun, demo_policy}
-use Rattle.capriccio_commands.specs.Due.{Does}
+use Rattle.capriccio_call.specs.Due.{Does}
 use Rattle.command_options.specs.Options.{sizes_of}
 use Rattle.workload.specs.Traces.{trace_text}
 use Rattle.workload_source.specs.Programs.{program_text}

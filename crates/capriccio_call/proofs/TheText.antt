@@ -22,23 +22,25 @@ use Rattle.command_outcomes.specs.Outcome.{Outcome, Ran}
 use Rattle.command_files.specs.Loaded.{IsLoaded}
 use Rattle.command_files.specs.Loads.{IsSourceText, OfFile, AfterLoad, AfterSource, AfterImage, AfterCertificate}
 use Rattle.command_options.specs.Options.{IsRunPolicy, sizes_of}
-use Rattle.pair_commands.specs.Runs.{IsAccepted, RunsOn, ServesProgram, RunsBytes, RunsPair, pool_bytes, setup_of}
+use Rattle.pair_commands.specs.Runs.{IsAccepted, RunsOn, ServesProgram, RunsBytes, RunsPair, policy_of, pool_bytes, setup_of}
 use Rattle.capriccio_commands.specs.Demos.{demo_policy}
-use Rattle.capriccio_commands.specs.Due.{Does}
+use Rattle.capriccio_call.specs.Due.{Does}
 use Rattle.text_logs.proofs.OfText.{log_of_text}
 use Rattle.workload_source.specs.Programs.{program_text}
 use Rattle.capriccio_commands.proofs.Workloads.{demo-run-policy, demo-pool}
 use Rattle.command_options.proofs.Options.{serve-policy, serve-pool, run-policy}
+use Rattle.capriccio_call.specs.Headline.{IsPolicyFor}
 use Rattle.capriccio_call.specs.TheText.{IsSourceOf, IsLogOfText}
 use Rattle.capriccio_call.proofs.OneCase.{IsWithinPool, in-range}
 use Rattle.capriccio_call.proofs.OneRun.{IsInRange, areas-formed}
 use Rattle.capriccio_call.proofs.OutcomeKinds.{IsPlain, kind-of}
 
--- a setup that is made of the source of a request, by a policy in its ranges
+-- a setup that is made of the source of a request, under its policy, which is in its ranges
 pub record IsSetupOf (request : Request) (files : Option Files) (setup : Setup) : Type 0 where
   pub source : List ℕ
   pub source_is : IsSourceOf request files source
   pub text : IsSourceText source setup.program
+  pub policy : IsPolicyFor request setup.policy
   pub range : IsInRange setup
 
 -- if an outcome has a run, it is that of such a setup
@@ -90,9 +92,9 @@ module _ (request : Request) (files : Option Files) where
 
   -- ---- programs and pairs
 
-  module _ (bytes : List ℕ) (bytes_are : IsSourceOf request files bytes) (program : ProgramTree) (text : IsSourceText bytes program) (policy : RunOptions) (ranges : IsRunPolicy policy) where
+  module _ (bytes : List ℕ) (bytes_are : IsSourceOf request files bytes) (program : ProgramTree) (text : IsSourceText bytes program) (policy : RunOptions) (asked : IsPolicyFor request (policy_of policy)) (ranges : IsRunPolicy policy) where
     of-pair : (i : Image) (c : Certificate) → IsWithinPool policy c.chunk → IsSetupOf request files (setup_of program i c policy)
-    of-pair i c fits = record { source = bytes; source_is = bytes_are; text = text; range = in-range policy program i c ranges fits }
+    of-pair i c fits = record { source = bytes; source_is = bytes_are; text = text; policy = asked; range = in-range policy program i c ranges fits }
 
     of-served : (trace : Option (List ℕ)) (sizes : Options) (o : Outcome) → IsWithinPool policy sizes.chunk → ServesProgram trace sizes policy program o → IsRunOfSource request files o
     of-served trace sizes o fits h =
@@ -117,7 +119,7 @@ run-of-source words (Serve source placement policy) before o asked h =
     let request = Serve source placement policy in
     of-load request before.files document.Source source (λ bytes. AfterSource bytes (ServesProgram before.left (sizes_of placement) policy)) o
     (λ bytes there x. of-source request before.files bytes (ServesProgram before.left (sizes_of placement) policy) o
-    (λ program text y. of-served request before.files bytes there program text policy (serve-policy words source placement policy asked) before.left (sizes_of placement) o (serve-pool words source placement policy asked) y) x) h
+    (λ program text y. of-served request before.files bytes there program text policy refl (serve-policy words source placement policy asked) before.left (sizes_of placement) o (serve-pool words source placement policy asked) y) x) h
 run-of-source words (Run source image certificate policy) before o asked h =
     let request = Run source image certificate policy in
     let files = before.files in
@@ -127,14 +129,14 @@ run-of-source words (Run source image certificate policy) before o asked h =
     (λ c _ z. of-source request files s (λ program. AfterImage i (λ im. AfterCertificate c (λ ce. RunsPair before.left policy program im ce))) o
     (λ program text u. of-image request files i (λ im. AfterCertificate c (λ ce. RunsPair before.left policy program im ce)) o
     (λ im v. of-certificate request files c (λ ce. RunsPair before.left policy program im ce) o
-    (λ ce w. of-checked request files s there program text policy (run-policy words source image certificate policy asked) before.left im ce o w) v) u) z) y) x) h
+    (λ ce w. of-checked request files s there program text policy refl (run-policy words source image certificate policy asked) before.left im ce o w) v) u) z) y) x) h
 run-of-source words (Demo number) before o asked h =
     let shows = h.2 in
     let laid = shows.2.2 in
     let run = shows.3 in
     let setup = setup_of h.0 shows.0 shows.1 demo_policy in
     of-setup (Demo number) before.files setup run.3 o
-    (of-pair (Demo number) before.files (program_text number) refl h.0 h.1 demo_policy demo-run-policy shows.0 shows.1 (demo-pool shows.1.chunk laid.chunk))
+    (of-pair (Demo number) before.files (program_text number) refl h.0 h.1 demo_policy refl demo-run-policy shows.0 shows.1 (demo-pool shows.1.chunk laid.chunk))
     (ap (λ (x : Outcome). x.last) run.5)
 run-of-source words (Build source image certificate placement) before o asked h =
     let request = Build source image certificate placement in

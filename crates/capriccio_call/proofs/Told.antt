@@ -8,11 +8,12 @@ use Rattle.command_outcomes.specs.declared.stops.Stop.{Stop}
 use Rattle.command_outcomes.specs.declared.stops.Stop.TheVariants.{Refused, Failed}
 use Rattle.command_outcomes.specs.declared.faults.Fault.{Fault}
 use Rattle.command_outcomes.specs.declared.faults.Fault.TheVariants.{Memory}
-use Rattle.command_outcomes.specs.declared.ended.Ended.{Ended}
+use Rattle.capriccio_commands.specs.declared.ended.Ended.{Ended}
 use Rattle.command_outcomes.specs.Outcome.{Outcome}
 use Rattle.command_outcomes.specs.CauseLines.{refusal}
 use Rattle.thread_core.specs.Worlds.{Held}
-use Rattle.command_outcomes.specs.Done.{Outside, WhereTold, AreStored, IsDone, IsExact, IsTold, IsLast}
+use Rattle.command_outcomes.specs.Done.{Outside, WhereTold, AreStored, IsDone, IsExact, IsTold}
+use Rattle.capriccio_commands.specs.Ends.{IsEnd, IsLast}
 use Rattle.command_outcomes.specs.Steps.{EndsAs, IsFinished}
 use Rattle.command_outcomes.proofs.Ending.{append-nothing}
 use Rattle.capriccio_call.specs.Headline.{IsAnswerOf}
@@ -42,17 +43,17 @@ abbrev pub AreExact : (Outside → Outcome → Type 0) → (before after : Outsi
 AreExact due before after = (given : Result Outcome Fault) → IsDone (due before) before after given → IsExact due before after given
 
 -- the command did what its words ask
-pub told-done : (due : Outside → Outcome → Type 0) (before after : Outside) (given : Ended) (last : Option Held) (old new : Option (List ℕ)) (faults faults' : ℕ) → AreExact due before after → EndsAs (due before) before after (Ok given) → last ≡ given.last → Keeps old new → faults' ≡ faults →
+pub told-done : (due : Outside → Outcome → Type 0) (before after : Outside) (given : Ended) (last : Option Held) (old new : Option (List ℕ)) (faults faults' : ℕ) → AreExact due before after → EndsAs IsEnd (due before) before after (Ok given) → last ≡ given.last → Keeps old new → faults' ≡ faults →
     IsAnswerOf due before after old new faults faults' last given.status
 told-done due before after given last old new faults faults' exact h handed kept same =
     let told = inl (refl, append-nothing old new kept, same) in
-    (Ok h.0, h.1, exact (Ok h.0) h.1, told-again given.status h.0 old new faults faults' given.status h.2 h.3 told, subst (λ (world : Option Held). IsLast h.0.last world) (sym handed) h.4)
+    (Ok h.0, h.1, exact (Ok h.0) h.1, told-again given.status h.0 old new faults faults' given.status h.2.0 h.2.1 told, subst (λ (world : Option Held). IsLast h.0.last world) (sym handed) h.2.2)
 
 nothing-handed : (last : Option Held) → last ≡ None → IsLast None last
 nothing-handed last none = subst (λ (world : Option Held). IsLast None world) (sym none) tt
 
 -- the command stopped before that
-pub told-stop : (due : Outside → Outcome → Type 0) (before after : Outside) (stop : Stop) (last : Option Held) (old new : Option (List ℕ)) (faults faults' answer : ℕ) → AreExact due before after → EndsAs (due before) before after (Err stop) → last ≡ None → IsFinished stop old new faults faults' answer →
+pub told-stop : (due : Outside → Outcome → Type 0) (before after : Outside) (stop : Stop) (last : Option Held) (old new : Option (List ℕ)) (faults faults' answer : ℕ) → AreExact due before after → EndsAs IsEnd (due before) before after (Err stop) → last ≡ None → IsFinished stop old new faults faults' answer →
     IsAnswerOf due before after old new faults faults' last answer
 told-stop due before after (Refused cause) last old new faults faults' answer exact h none k =
     ⊎_elim (λ t. (Ok (refusal cause), h, exact (Ok (refusal cause)) h, t, nothing-handed last none))

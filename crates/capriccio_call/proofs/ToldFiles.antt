@@ -16,7 +16,7 @@ use Rattle.command_outcomes.specs.Outcome.{Outcome}
 use Rattle.command_outcomes.specs.Done.{Outside, line_of}
 use Rattle.command_files.specs.Loads.{OfFile, AfterLoad, AfterSource, AfterImage, AfterCertificate, IsSourceText, IsImageText, IsCertificateText}
 use Rattle.command_files.specs.Loaded.{IsLoaded}
-use Rattle.capriccio_commands.specs.Due.{Does, IsDue}
+use Rattle.capriccio_call.specs.Due.{Does, IsDue}
 use Rattle.capriccio_call.specs.Headline.{IsAnswer}
 use Rattle.capriccio_call.proofs.Faults.{answer-of}
 use Rattle.capriccio_call.proofs.OneCase.{certificate-never, image-is, image-never}

@@ -12,7 +12,7 @@ use Rattle.command_outcomes.specs.FaultLines.{fault_status, fault_line}
 use Rattle.command_outcomes.specs.Outcome.{Outcome}
 use Rattle.command_outcomes.specs.Done.{Outside, WhereTold, IsRisen}
 use Rattle.command_outcomes.specs.Prefixes.{TakesPrefix}
-use Rattle.capriccio_commands.specs.Due.{IsDue}
+use Rattle.capriccio_call.specs.Due.{IsDue}
 
 -- a count of faults of the files, the trace or the output is greater than before
 abbrev pub HasCounted : (before after : Outside) → Type 0

@@ -1,10 +1,11 @@
 -- The headline: what a call of the program does, from what its objects tell before it to what they tell after it.
 --
--- `IsAnswer` says what the command does: `IsDue` (specs/Due of `capriccio_commands`) has for the words, the files and the trace one outcome. `WasGood` says
+-- `IsAnswer` says what the command does: `IsDue` (specs/Due) has for the words, the files and the trace one outcome. `WasGood` says
 -- that the run was good whose world is handed out. docs/HEADLINE.md reads both part by part.
 use Rattle.std.specs.Prelude.{ℕ, ◌≡◌, List, Option, IfSome, Some, None, Result}
 use Rattle.std.specs.Io.KnownBytes.{Appends}
-use Rattle.command_words.specs.WordList.{IsWordList, Request, Demo}
+use Rattle.choice_rules.specs.Policy.{Policy}
+use Rattle.command_words.specs.WordList.{IsWordList, Request, Serve, Run, Build, Check, Graph, Demo, Audit, Budget}
 use Rattle.lawful_log.specs.Setup.{Setup}
 use Rattle.machine_world.specs.Threads.{World}
 use Rattle.schedule_log.specs.EntryText.{log_text}
@@ -14,9 +15,11 @@ use Rattle.thread_core.specs.Worlds.{Held}
 use Rattle.command_outcomes.specs.declared.faults.Fault.{Fault}
 use Rattle.command_files.specs.Loads.{IsSourceText}
 use Rattle.command_outcomes.specs.Outcome.{Outcome}
-use Rattle.command_outcomes.specs.Done.{Outside, IsDone, IsExact, IsTold, IsLast, IsWorldOf, status_of, line_of, last_of}
-use Rattle.capriccio_commands.specs.Due.{IsDue}
-use Rattle.pair_commands.specs.Runs.{IsAccepted, IsRun, IsRunOfSome, stop_status}
+use Rattle.command_outcomes.specs.Done.{Outside, IsDone, IsExact, IsTold, status_of, line_of, last_of}
+use Rattle.capriccio_commands.specs.Ends.{IsLast, IsWorldOf}
+use Rattle.capriccio_call.specs.Due.{IsDue}
+use Rattle.pair_commands.specs.Runs.{IsAccepted, IsRun, IsRunOfSome, policy_of, stop_status}
+use Rattle.capriccio_commands.specs.Demos.{demo_policy}
 use Rattle.capriccio_commands.specs.Summary.{summary_of}
 use Rattle.capriccio_call.specs.TheText.{IsLogOfText}
 use Rattle.workload.specs.Traces.{trace_text}
@@ -51,13 +54,26 @@ IsLogFor request setup before after entries stop end =
     × Appends before.taken after.taken (log_text entries)
     × IsRunOfSome setup before.left entries stop end
 
--- A run that the words ask for came to its stop in this world, and was good: the checker accepts its program, image and certificate; the
--- output took its lawful log, which is good, or for `demo` a summary of it; that log is the one of the text that was loaded; the status is that
--- of the stop.
+-- The policy of a run is that of the options of its words, of which each that isn't given has its default. `demo` has no options, and one policy.
+-- No other request runs a program.
+abbrev pub IsPolicyFor : Request → Policy → Type 0
+IsPolicyFor (Serve source placement options) policy = policy ≡ policy_of options
+IsPolicyFor (Run source image certificate options) policy = policy ≡ policy_of options
+IsPolicyFor (Demo number) policy = policy ≡ policy_of demo_policy
+IsPolicyFor (Build source image certificate placement) policy = ⊥
+IsPolicyFor (Check source image certificate) policy = ⊥
+IsPolicyFor (Graph source placement) policy = ⊥
+IsPolicyFor (Audit source log options) policy = ⊥
+IsPolicyFor (Budget source image certificate) policy = ⊥
+
+-- A run that the words ask for came to its stop in this world, and was good: its policy is that of the words' options; the checker accepts its
+-- program, image and certificate; the output took its lawful log, which is good, or for `demo` a summary of it; that log is the one of the
+-- text that was loaded; the status is that of the stop.
 pub record RanWell (words : List (List ℕ)) (before after : Outside) (world : Held) (status : ℕ) : Type 0 where
   pub request : Request
   pub asked : IsWordList words request
   pub setup : Setup
+  pub policy : IsPolicyFor request setup.policy
   pub entries : List Entry
   pub stop : StopLine
   pub end : World

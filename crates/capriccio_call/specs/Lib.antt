@@ -1,3 +1,5 @@
+pub mod Due
+pub mod Handing
 pub mod TheText
 pub mod Headline
 pub mod AfterFault

@@ -7,9 +7,10 @@ ghost use Rattle.capriccio_call.specs.Audited.{IsAudited};
 ghost use Rattle.capriccio_call.specs.EnoughChunks.{HasEnoughChunks};
 ghost use Rattle.capriccio_call.specs.Headline.{IsAnswer, WasGood};
 
+use crate::dispatch::do_words;
 use cap_io::{Shelf, Sink, Source};
-use capriccio_commands::do_words;
-use command_outcomes::{Ended, finish};
+use capriccio_commands::Ended;
+use command_outcomes::finish;
 use std::alloc::Global;
 use thread_core::World;
 

@@ -17,7 +17,7 @@ use Rattle.run_course.specs.Output.{IsFitText}
 use Rattle.runner.specs.declared.ends.RunEnd.{RunEnd}
 use Rattle.runner.specs.declared.ends.RunEnd.TheVariants as end
 use Rattle.thread_core.specs.Worlds.{Held}
-use Rattle.command_outcomes.specs.declared.ended.Ended.{Ended}
+use Rattle.capriccio_commands.specs.declared.ended.Ended.{Ended}
 use Rattle.command_outcomes.specs.declared.stops.Stop.{Stop as LastStep}
 use Rattle.capriccio_commands.specs.Closings.{IsClosed}
 use Rattle.capriccio_commands.specs.FitLogs.{HasRoom, TakesFit}

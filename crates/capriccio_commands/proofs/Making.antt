@@ -20,11 +20,12 @@ use Rattle.run_course.specs.Starts.{IsAtStartBy, KeepsRun}
 use Rattle.stack_certificate.specs.Certificates.{fact_at}
 use Rattle.thread_core.specs.Making.{IsPolicy, IsStart, start_areas}
 use Rattle.thread_core.specs.Worlds.{Held}
-use Rattle.command_outcomes.specs.Done.{IsReachable, IsWorldOf}
+use Rattle.command_outcomes.specs.Done.{}
 use Rattle.pair_commands.specs.Runs.{IsAccepted, pool_bytes, rule_of}
 use Rattle.capriccio_commands.specs.MadeWorlds.{IsMade, setup_in, world_policy_of}
 use Rattle.command_options.specs.Options.{IsNewMonitor, IsRunPolicy}
 use Rattle.chunk_pool.proofs.NeedLaws.{taken_for-count}
+use Rattle.capriccio_commands.specs.Ends.{IsReachable, IsWorldOf}
 
 started : (areas : Areas) (entry : ℕ) (found : Option Taken) (w : World) → ((taken : Taken) → found ≡ Some taken → taken.pool.count ≡ areas.pool.count) → started_on (empty_world areas) entry found ≡ Some w →
     (w.areas.globals ≡ areas.globals) × (w.areas.pool.count ≡ areas.pool.count)

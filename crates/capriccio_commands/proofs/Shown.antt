@@ -18,10 +18,10 @@ use Rattle.workload.specs.Traces.{trace_text}
 use Rattle.command_outcomes.specs.declared.faults.Fault.TheVariants.{Read, Write, Memory}
 use Rattle.command_outcomes.specs.declared.stops.Stop.{Stop}
 use Rattle.command_outcomes.specs.declared.stops.Stop.TheVariants.{Refused, Failed}
-use Rattle.command_outcomes.specs.declared.ended.Ended.{Ended}
+use Rattle.capriccio_commands.specs.declared.ended.Ended.{Ended}
 use Rattle.command_outcomes.specs.Outcome.{Outcome, Ran, NoMore}
 use Rattle.command_outcomes.specs.CauseLines.{refusal}
-use Rattle.command_outcomes.specs.Done.{Outside, WhereTold, AreStored, IsRisen, IsTraceLeft, IsLast}
+use Rattle.command_outcomes.specs.Done.{Outside, WhereTold, AreStored, IsRisen, IsTraceLeft}
 use Rattle.command_outcomes.specs.Prefixes.{TakesPrefix}
 use Rattle.command_files.specs.Loads.{IsSourceText}
 use Rattle.command_outcomes.specs.Steps.{IsStop, IsPrinted, EndsAs, RunEnds}
@@ -33,6 +33,7 @@ use Rattle.capriccio_commands.specs.Summary.{census_of, tally_of, last_from, sum
 use Rattle.capriccio_commands.specs.Demos.{Demos, ShowsRun, IsAcceptedWorkload, IsShown, ShowsDue, ShowsEnd, shown_outcome, demo_sizes, demo_policy}
 use Rattle.capriccio_commands.proofs.Counting.{last-is-stop}
 use Rattle.capriccio_commands.proofs.Workloads.{always-built}
+use Rattle.capriccio_commands.specs.Ends.{IsEnd, IsLast}
 
 regroup : (start a b c d : List ℕ) → (((start ++ a) ++ b) ++ c) ++ d ≡ start ++ (((a ++ b) ++ c) ++ d)
 regroup start a b c d = simp append_assoc
@@ -64,7 +65,7 @@ not-rose : {P : Type 0} → Rose 0 0 → P
 not-rose rose = let less = rose (omega arith) in absurd (omega arith)
 
 -- a run over a clean source and sink stops for want of memory alone
-pub no-stop : {A : Type 0} (a : A) (trace trace' : List ℕ) (g : Setup) (log : List ℕ) (stop : Stop) → RunEnds (RunsOn (Some trace) g) (Some trace) (Some trace') 0 0 (Some []) (Some log) 0 0 (Err stop) → IsStop (NoMore a) stop
+pub no-stop : {A : Type 0} (a : A) (trace trace' : List ℕ) (g : Setup) (log : List ℕ) (stop : Stop) → RunEnds IsEnd (RunsOn (Some trace) g) (Some trace) (Some trace') 0 0 (Some []) (Some log) 0 0 (Err stop) → IsStop (NoMore a) stop
 no-stop a trace trace' g log (Refused cause) h =
     let e = h None None 0 0 0 0 tt refl refl in
     no-refusal (Some trace) g (refusal cause) e.0 refl
@@ -92,12 +93,12 @@ pub record IsServed (due : Outcome → Type 0) (log : List ℕ) (ended : Ended) 
   pub last : IsLast outcome.last ended.last
   pub log_is : log ≡ outcome.out
 
-pub served : (trace trace' : List ℕ) (g : Setup) (log : List ℕ) (ended : Ended) → RunEnds (RunsOn (Some trace) g) (Some trace) (Some trace') 0 0 (Some []) (Some log) 0 0 (Ok ended) → IsServed (RunsOn (Some trace) g) log ended
+pub served : (trace trace' : List ℕ) (g : Setup) (log : List ℕ) (ended : Ended) → RunEnds IsEnd (RunsOn (Some trace) g) (Some trace) (Some trace') 0 0 (Some []) (Some log) 0 0 (Ok ended) → IsServed (RunsOn (Some trace) g) log ended
 served trace trace' g log ended h =
     let e = h None None 0 0 0 0 tt refl refl in
     let done = e.1 in
     let whole = done.1 in
-    record { outcome = e.0; is_due = done.0; status = e.2; last = e.4; log_is = whole.out }
+    record { outcome = e.0; is_due = done.0; status = e.2.0; last = e.2.2; log_is = whole.out }
 
 pub served-world : (trace : Option (List ℕ)) (g : Setup) (log : List ℕ) (ended : Ended) → IsServed (RunsOn trace g) log ended → (world : Held) × (ended.last ≡ Some world)
 served-world trace g log ended h =
@@ -188,21 +189,19 @@ unaccepted-workload number low high program (Failed Memory) source h = tt
 
 -- ---- its end
 
-pub shown-told : (due : Outcome → Type 0) (before after : Outside) (shown : Shown) (given : Ended) → IsShown due shown → KeepsFiles before.files after.files → Keeps before.left after.left → after.loads ≡ before.loads → after.stores ≡ before.stores → after.reads ≡ before.reads →
-    IsPrinted shown.status shown.text.items before.taken after.taken before.writes after.writes (Ok given) → EndsAs due before after (Ok (record { status = given.status; last = Some shown.world }))
-shown-told due before after shown given is files left loads stores reads h =
+pub shown-told : (due : Outcome → Type 0) (before after : Outside) (shown : Shown) (status : ℕ) → IsShown due shown → KeepsFiles before.files after.files → Keeps before.left after.left → after.loads ≡ before.loads → after.stores ≡ before.stores → after.reads ≡ before.reads →
+    IsPrinted shown.status shown.text.items before.taken after.taken before.writes after.writes (Ok status) → EndsAs IsEnd due before after (Ok (record { status = status; last = Some shown.world }))
+shown-told due before after shown status is files left loads stores reads h =
     let kept = subst (λ (s : List (List ℕ × List ℕ)). WhereTold (AreStored s) before.files after.files) (sym is.stores) (kept-are-stored before.files after.files files) in
     let trace = subst (λ (reads : Bool). IsTraceLeft reads before.left after.left) (sym is.unread) left in
     let out = subst (λ (text : List ℕ). Appends before.taken after.taken text) (sym is.text) h.1 in (
       is.outcome,
       (is.is_due, record { files = kept; trace = trace; out = out }, record { loads = loads; stores = stores; reads = reads; writes = h.2 }),
-      is.status ∙ sym (ap (λ (e : Ended). e.status) h.0),
-      is.line,
-      is.last,
+      (is.status ∙ sym h.0, is.line, is.last),
     )
 
 pub shown-cut : (due : Outcome → Type 0) (before after : Outside) (shown : Shown) (stop : Stop) → IsShown due shown → KeepsFiles before.files after.files → Keeps before.left after.left → after.loads ≡ before.loads → after.stores ≡ before.stores → after.reads ≡ before.reads →
-    IsPrinted shown.status shown.text.items before.taken after.taken before.writes after.writes (Err stop) → EndsAs due before after (Err stop)
+    IsPrinted shown.status shown.text.items before.taken after.taken before.writes after.writes (Err stop) → EndsAs IsEnd due before after (Err stop)
 shown-cut due before after shown (Refused cause) is files left loads stores reads h = absurd h
 shown-cut due before after shown (Failed Read) is files left loads stores reads h = absurd h
 shown-cut due before after shown (Failed Write) is files left loads stores reads h =
@@ -219,8 +218,8 @@ shown-cut due before after shown (Failed Memory) is files left loads stores read
     inl (inr (is.outcome, is.is_due, inr (record { files = kept; trace = trace; out = out })), record { loads = loads; stores = stores; reads = reads; writes = h.1 })
 
 -- nothing was shown
-pub shown-stopped : (due : Outcome → Type 0) (o : Outside) (stop : Stop) → IsStop due stop → EndsAs due o o (Err stop)
-shown-stopped due o (Refused cause) h = refused-at-once due o cause h
+pub shown-stopped : (due : Outcome → Type 0) (o : Outside) (stop : Stop) → IsStop due stop → EndsAs IsEnd due o o (Err stop)
+shown-stopped due o (Refused cause) h = refused-at-once IsEnd due o cause h
 shown-stopped due o (Failed Read) h = absurd h
 shown-stopped due o (Failed Write) h = absurd h
-shown-stopped due o (Failed Memory) h = memory-at-once due o
+shown-stopped due o (Failed Memory) h = memory-at-once IsEnd due o

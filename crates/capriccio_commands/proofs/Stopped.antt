@@ -17,13 +17,14 @@ use Rattle.thread_core.specs.Worlds.{Held}
 use Rattle.command_outcomes.specs.declared.faults.Fault.TheVariants.{Read, Write, Memory}
 use Rattle.command_outcomes.specs.declared.stops.Stop.{Stop}
 use Rattle.command_outcomes.specs.declared.stops.Stop.TheVariants.{Failed}
-use Rattle.command_outcomes.specs.declared.ended.Ended.{Ended}
+use Rattle.capriccio_commands.specs.declared.ended.Ended.{Ended}
 use Rattle.command_outcomes.specs.Outcome.{Outcome}
-use Rattle.command_outcomes.specs.Done.{Outside, IsWhole, IsCutInOut, NoneCounted, TraceCounted, WriteCounted, IsReachable, IsWorldOf}
+use Rattle.command_outcomes.specs.Done.{Outside, IsWhole, IsCutInOut, NoneCounted, TraceCounted, WriteCounted}
 use Rattle.pair_commands.specs.Runs.{IsAccepted, IsRun, IsRunOfSome, RunsOn, run_outcome, stop_status}
 use Rattle.command_outcomes.specs.Steps.{EndsAs}
 use Rattle.capriccio_commands.specs.Closings.{IsClosed}
 use Rattle.command_outcomes.proofs.Ending.{kept-are-stored}
+use Rattle.capriccio_commands.specs.Ends.{IsEnd, IsReachable, IsWorldOf}
 
 -- the status that goes with the end of a run
 abbrev end-status : RunEnd → ℕ
@@ -57,15 +58,15 @@ is-run-of-some g left bytes told entries stop w h k = record { bytes = bytes; to
 -- the run came to its stop
 at-stop : (g : Setup) (before after : Outside) (held : Held) (answer : RunEnd) (r : Result Ended Stop) → IsAccepted g → KeepsFiles before.files after.files → after.loads ≡ before.loads → after.stores ≡ before.stores →
     (IsReachable g held.machine → IsSound (checked_of g) held.machine → IsWorldOf (record { setup = g; end = held.machine }) held) → CameTo g held before.left before.taken after.taken answer → after.reads ≡ before.reads → after.writes ≡ before.writes →
-    r ≡ Ok (record { status = end-status answer; last = Some held }) → EndsAs (RunsOn before.left g) before after r
+    r ≡ Ok (record { status = end-status answer; last = Some held }) → EndsAs IsEnd (RunsOn before.left g) before after r
 at-stop g before after held answer r ok files loads stores of came reads writes is =
     let given : Ended = record { status = end-status answer; last = Some held } in
     let outcome : Outcome = run_outcome g came.entries came.stop held.machine in
     let due : RunsOn before.left g outcome = (ok, came.entries, came.stop, held.machine, is-run g before.left came.entries came.stop held.machine came.lawful came.good, refl, is-run-of-some g before.left came.bytes came.told came.entries came.stop held.machine came.lawful_of came.good_of) in
     let whole : IsWhole outcome before after = record { files = kept-are-stored before.files after.files files; trace = tt; out = came.writes } in
     let none : NoneCounted before after = record { loads = loads; stores = stores; reads = reads; writes = writes } in
-    let ends : EndsAs (RunsOn before.left g) before after (Ok given) = (outcome, (due, whole, none), end-is came.stop answer came.end_is, refl, of (record { start = came.start; starts = came.starts; actions = came.actions; leads = came.machine }) came.sound) in
-    subst (λ (a : Result Ended Stop). EndsAs (RunsOn before.left g) before after a) (sym is) ends
+    let ends : EndsAs IsEnd (RunsOn before.left g) before after (Ok given) = (outcome, (due, whole, none), (end-is came.stop answer came.end_is, refl, of (record { start = came.start; starts = came.starts; actions = came.actions; leads = came.machine }) came.sound)) in
+    subst (λ (a : Result Ended Stop). EndsAs IsEnd (RunsOn before.left g) before after a) (sym is) ends
 
 -- what was written of a run that could not go on is a beginning of what is due
 short-due : (g : Setup) (left taken taken' : Option (List ℕ)) (held : Held) → IsAccepted g → (short : FellShort g held left taken taken') → RunsOn left g (run_outcome g short.entries short.stop short.end)
@@ -73,7 +74,7 @@ short-due g left taken taken' held ok short = (ok, short.entries, short.stop, sh
 
 pub closed : (g : Setup) (before after : Outside) (held : Held) (answer : RunEnd) (r : Result Ended Stop) → IsAccepted g → KeepsFiles before.files after.files → after.loads ≡ before.loads → after.stores ≡ before.stores →
     (IsReachable g held.machine → IsSound (checked_of g) held.machine → IsWorldOf (record { setup = g; end = held.machine }) held) → IsRunEnd g held before.left before.taken after.taken before.reads after.reads before.writes after.writes answer →
-    IsClosed held answer r → EndsAs (RunsOn before.left g) before after r
+    IsClosed held answer r → EndsAs IsEnd (RunsOn before.left g) before after r
 closed g before after held end.Done r ok files loads stores of h is = at-stop g before after held end.Done r ok files loads stores of h.0 h.1 h.2 is
 closed g before after held (end.BadTrace line) r ok files loads stores of h is = at-stop g before after held (end.BadTrace line) r ok files loads stores of h.0 h.1 h.2 is
 closed g before after held end.Idle r ok files loads stores of h is = at-stop g before after held end.Idle r ok files loads stores of h.0 h.1 h.2 is
@@ -86,21 +87,21 @@ closed g before after held end.ReadFault r ok files loads stores of h is =
     let outcome : Outcome = run_outcome g short.entries short.stop short.end in
     let cut-short : IsCutInOut outcome before after = record { files = kept-are-stored before.files after.files files; trace = tt; out = (short.count, short.part, short.writes) } in
     let counted : TraceCounted before after = record { loads = loads; stores = stores; reads = record { rose = risen.rose; never_falls = risen.never_falls }; writes = h.2 } in
-    let ends : EndsAs (RunsOn before.left g) before after (Err (Failed Read)) =
+    let ends : EndsAs IsEnd (RunsOn before.left g) before after (Err (Failed Read)) =
     inr (outcome, refl, short-due g before.left before.taken after.taken held ok short, cut-short, counted) in
-    subst (λ (a : Result Ended Stop). EndsAs (RunsOn before.left g) before after a) (sym is) ends
+    subst (λ (a : Result Ended Stop). EndsAs IsEnd (RunsOn before.left g) before after a) (sym is) ends
 closed g before after held end.WriteFault r ok files loads stores of h is =
     let short = h.0 in let risen = h.2 in
     let outcome : Outcome = run_outcome g short.entries short.stop short.end in
     let cut-short : IsCutInOut outcome before after = record { files = kept-are-stored before.files after.files files; trace = tt; out = (short.count, short.part, short.writes) } in
     let counted : WriteCounted before after = record { loads = loads; stores = stores; reads = h.1; writes = record { rose = risen.rose; never_falls = risen.never_falls } } in
-    let ends : EndsAs (RunsOn before.left g) before after (Err (Failed Write)) =
+    let ends : EndsAs IsEnd (RunsOn before.left g) before after (Err (Failed Write)) =
     (outcome, short-due g before.left before.taken after.taken held ok short, inr (cut-short, counted)) in
-    subst (λ (a : Result Ended Stop). EndsAs (RunsOn before.left g) before after a) (sym is) ends
+    subst (λ (a : Result Ended Stop). EndsAs IsEnd (RunsOn before.left g) before after a) (sym is) ends
 closed g before after held end.Memory r ok files loads stores of h is =
     let short = h.0 in
     let outcome : Outcome = run_outcome g short.entries short.stop short.end in
     let cut-short : IsCutInOut outcome before after = record { files = kept-are-stored before.files after.files files; trace = tt; out = (short.count, short.part, short.writes) } in
-    let ends : EndsAs (RunsOn before.left g) before after (Err (Failed Memory)) =
+    let ends : EndsAs IsEnd (RunsOn before.left g) before after (Err (Failed Memory)) =
     inl (inr (outcome, short-due g before.left before.taken after.taken held ok short, inr cut-short), record { loads = loads; stores = stores; reads = h.1; writes = h.2 }) in
-    subst (λ (a : Result Ended Stop). EndsAs (RunsOn before.left g) before after a) (sym is) ends
+    subst (λ (a : Result Ended Stop). EndsAs IsEnd (RunsOn before.left g) before after a) (sym is) ends

@@ -5,7 +5,7 @@ use Rattle.runner.specs.declared.ends.RunEnd.TheVariants as end
 use Rattle.thread_core.specs.Worlds.{Held}
 use Rattle.command_outcomes.specs.declared.stops.Stop.{Stop}
 use Rattle.command_outcomes.specs.declared.stops.Stop.TheVariants.{Failed}
-use Rattle.command_outcomes.specs.declared.ended.Ended.{Ended}
+use Rattle.capriccio_commands.specs.declared.ended.Ended.{Ended}
 use Rattle.command_outcomes.specs.declared.faults.Fault.TheVariants.{Read, Write, Memory}
 
 -- how a command ends by the end of its run: with the status of the stop and the world, or with a fault

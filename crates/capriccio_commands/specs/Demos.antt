@@ -16,14 +16,14 @@ use Rattle.stack_certificate.specs.declared.certificates.Certificate.{Certificat
 use Rattle.workload_source.specs.Programs.{program_text}
 use Rattle.workload.specs.Traces.{trace_text}
 use Rattle.command_outcomes.specs.Outcome.{Outcome}
-use Rattle.command_outcomes.specs.Done.{IsLast}
+use Rattle.capriccio_commands.specs.Ends.{IsLast}
 use Rattle.command_files.specs.Loads.{IsSourceText}
 use Rattle.capriccio_commands.specs.declared.demo_command.Shown.{Shown}
 use Rattle.pair_commands.specs.Runs.{IsAccepted, IsRun, ServesProgram, setup_of, stop_status}
 use Rattle.pair_commands.specs.RunSteps.{LeadsOn}
 use Rattle.capriccio_commands.specs.Summary.{summary_of, summary_text, tally_of, last_from}
 use Rattle.capriccio_commands.specs.declared.summaries.Census.{Census}
-use Rattle.command_outcomes.specs.declared.ended.Ended.{Ended}
+use Rattle.capriccio_commands.specs.declared.ended.Ended.{Ended}
 use Rattle.schedule_log.specs.EntryText.{log_text}
 use Rattle.accepted_pairs.specs.Acceptance.{Acceptance}
 

@@ -1,4 +1,4 @@
-pub mod Due
+pub mod Ends
 pub mod MadeWorlds
 pub mod Closings
 pub mod Summary

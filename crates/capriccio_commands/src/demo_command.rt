@@ -15,6 +15,7 @@ ghost use Rattle.run_course.specs.Output.{IsFitText};
 ghost use Rattle.schedule_log.specs.EntryText.{log_text};
 ghost use Rattle.schedule_log.specs.declared.entries.Entry.{Entry};
 
+use crate::ended::Ended;
 use crate::running::run_accepted;
 use crate::summaries::{Census, summary, take_census};
 use accepted_pairs::Accepted;
@@ -22,7 +23,7 @@ use c_tree::Program;
 use cap_io::{CleanSink, CleanSource};
 use codegen_link::Options;
 use command_files::read_source;
-use command_outcomes::{Ended, Fault, Stop};
+use command_outcomes::{Fault, Stop};
 use command_words::{Policy, Rule};
 use pair_commands::accept_program;
 use std::alloc::{AllocError, Global};

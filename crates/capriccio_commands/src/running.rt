@@ -10,14 +10,16 @@ ghost use Rattle.thread_core.specs.Making.{IsStart};
 ghost use Rattle.choice_rules.specs.Policy.{by_graph, by_stride};
 ghost use Rattle.command_outcomes.specs.declared.stops.Stop.TheVariants.{Failed};
 ghost use Rattle.command_outcomes.specs.Steps.{RunEnds};
+ghost use Rattle.capriccio_commands.specs.Ends.{IsEnd};
 ghost use Rattle.resource_monitor.specs.Pressure.{AnswersCurve, IsReading, curve_value};
 ghost use Rattle.resource_monitor.specs.declared.curves.Curve.TheVariants.{Knee};
 ghost use Rattle.stride_rule.specs.State.{new_rule};
 
+use crate::ended::Ended;
 use accepted_pairs::Accepted;
 use cap_io::{Sink, Source};
 use command_options::{monitor_of, stride_rule_of};
-use command_outcomes::{Ended, Fault, Stop};
+use command_outcomes::{Fault, Stop};
 use command_words::{Policy, Rule};
 use resource_monitor::{Measure, Monitor, past_knee};
 use runner::{RunEnd, run, run_stride};
@@ -35,7 +37,7 @@ pub(crate) fn run_accepted<S: Source, K: Sink>(
 ) -> Result<Ended, Stop>
     requires range { IsRunPolicy policy }
     requires pool { pool_bytes policy accepted.certificate ≤ 67108864 }
-    ensures ends { RunEnds
+    ensures ends { RunEnds IsEnd
         (RunsOn (S.left trace.old)
         (setup_of (accepted_tree accepted) accepted.image accepted.certificate policy))
         (S.left trace.old) (S.left trace.new) (S.faults trace.old) (S.faults trace.new)
@@ -80,8 +82,8 @@ fn run_world<S: Source, K: Sink>(
 ) -> Result<Ended, Stop>
     requires range { IsRunPolicy policy }
     requires made { IsMade policy world }
-    ensures ends { RunEnds (RunsOn (S.left trace.old) (setup_in world policy)) (S.left trace.old)
-        (S.left trace.new) (S.faults trace.old) (S.faults trace.new) (K.taken out.old)
+    ensures ends { RunEnds IsEnd (RunsOn (S.left trace.old) (setup_in world policy))
+        (S.left trace.old) (S.left trace.new) (S.faults trace.old) (S.faults trace.new) (K.taken out.old)
         (K.taken out.new) (K.faults out.old) (K.faults out.new) result }
     ensures fits { OnOk result (TakesFit (K.taken out.old) (K.taken out.new)) }
 {
@@ -105,8 +107,8 @@ fn run_measured<S: Source, K: Sink, C: Measure + Copy + Drop>(
     requires curve { AnswersCurve (C.can_measure call) (C.measure_gives call) (Knee policy.knee) }
     requires range { IsRunPolicy policy }
     requires made { IsMade policy world }
-    ensures ends { RunEnds (RunsOn (S.left trace.old) (setup_in world policy)) (S.left trace.old)
-        (S.left trace.new) (S.faults trace.old) (S.faults trace.new) (K.taken out.old)
+    ensures ends { RunEnds IsEnd (RunsOn (S.left trace.old) (setup_in world policy))
+        (S.left trace.old) (S.left trace.new) (S.faults trace.old) (S.faults trace.new) (K.taken out.old)
         (K.taken out.new) (K.faults out.old) (K.faults out.new) result }
     ensures fits { OnOk result (TakesFit (K.taken out.old) (K.taken out.new)) }
 {
@@ -128,8 +130,8 @@ fn run_by_rule<S: Source, K: Sink, C: Measure + Drop>(
     requires range { IsRunPolicy policy }
     requires made { IsMade policy world }
     requires monitor { IsNewMonitor policy monitor }
-    ensures ends { RunEnds (RunsOn (S.left trace.old) (setup_in world policy)) (S.left trace.old)
-        (S.left trace.new) (S.faults trace.old) (S.faults trace.new) (K.taken out.old)
+    ensures ends { RunEnds IsEnd (RunsOn (S.left trace.old) (setup_in world policy))
+        (S.left trace.old) (S.left trace.new) (S.faults trace.old) (S.faults trace.new) (K.taken out.old)
         (K.taken out.new) (K.faults out.old) (K.faults out.new) result }
     ensures fits { OnOk result (TakesFit (K.taken out.old) (K.taken out.new)) }
 {
@@ -157,8 +159,8 @@ fn run_by_graph<S: Source, K: Sink, C: Measure + Drop>(
     requires made { IsMade policy world }
     requires monitor { IsNewMonitor policy monitor }
     requires rule { rule_of policy.rule ≡ by_graph }
-    ensures ends { RunEnds (RunsOn (S.left trace.old) (setup_in world policy)) (S.left trace.old)
-        (S.left trace.new) (S.faults trace.old) (S.faults trace.new) (K.taken out.old)
+    ensures ends { RunEnds IsEnd (RunsOn (S.left trace.old) (setup_in world policy))
+        (S.left trace.old) (S.left trace.new) (S.faults trace.old) (S.faults trace.new) (K.taken out.old)
         (K.taken out.new) (K.faults out.old) (K.faults out.new) result }
     ensures fits { OnOk result (TakesFit (K.taken out.old) (K.taken out.new)) }
 {
@@ -180,8 +182,8 @@ fn run_by_strides<S: Source, K: Sink, C: Measure + Drop>(
     requires monitor { IsNewMonitor policy monitor }
     requires rule { rule_of policy.rule ≡ by_stride rule.tickets }
     requires fresh { rule ≡ new_rule rule.tickets }
-    ensures ends { RunEnds (RunsOn (S.left trace.old) (setup_in world policy)) (S.left trace.old)
-        (S.left trace.new) (S.faults trace.old) (S.faults trace.new) (K.taken out.old)
+    ensures ends { RunEnds IsEnd (RunsOn (S.left trace.old) (setup_in world policy))
+        (S.left trace.old) (S.left trace.new) (S.faults trace.old) (S.faults trace.new) (K.taken out.old)
         (K.taken out.new) (K.faults out.old) (K.faults out.new) result }
     ensures fits { OnOk result (TakesFit (K.taken out.old) (K.taken out.new)) }
 {

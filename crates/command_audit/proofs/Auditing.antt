@@ -14,13 +14,12 @@ use Rattle.schedule_audit.specs.Verdicts.{IsVerdict}
 use Rattle.schedule_reading.specs.Limits.{MayAudit, given_of}
 use Rattle.schedule_audit.specs.declared.verdicts.Verdict.{Verdict}
 use Rattle.command_outcomes.specs.declared.documents.Document.TheVariants as document
-use Rattle.command_outcomes.specs.declared.ended.Ended.{Ended}
 use Rattle.command_outcomes.specs.declared.stops.Stop.{Stop}
 use Rattle.command_outcomes.specs.declared.stops.Stop.TheVariants.{Refused, Failed}
 use Rattle.command_outcomes.specs.Done.{Outside}
 use Rattle.command_files.specs.Loads.{AfterLoad, AfterSource, IsSourceText}
 use Rattle.command_outcomes.specs.Outcome.{Outcome, NoMore}
-use Rattle.command_outcomes.specs.Steps.{EndsAs, IsPrinted, IsShelfStop, IsStop}
+use Rattle.command_outcomes.specs.Steps.{EndsAs, IsPrinted, IsShelfStop, IsStatus, IsStop}
 use Rattle.command_files.specs.Loaded.{IsLoaded}
 use Rattle.command_outcomes.proofs.Ending.{kept-are-stored, keeps-itself, printed-ends, stopped-reading}
 use Rattle.command_files.proofs.Follows.{load-before, load-follows, loaded, shelf-stop-follows, source-follows, stop-on-shelf}
@@ -99,17 +98,17 @@ reads-no-run (Some bytes) options log program all =
 
 pub unjudged : (before after : Outside) (options : AuditOptions) (log : List ℕ) (program : ProgramTree) (stop : Stop) → KeepsFiles before.files after.files → after.loads ≡ before.loads → after.stores ≡ before.stores →
     after.taken ≡ before.taken → after.writes ≡ before.writes → IsJudged (reading_of program options) before.left log before.reads after.reads (Err stop) →
-    EndsAs (AuditsProgram before.left options log program) before after (Err stop)
+    EndsAs IsStatus (AuditsProgram before.left options log program) before after (Err stop)
 unjudged before after options log program (Failed fault) files loads stores taken writes h =
-    stopped-reading (AuditsProgram before.left options log program) before after fault (reads-no-run before.left options log program) files (same before.taken after.taken taken) loads stores writes h
+    stopped-reading IsStatus (AuditsProgram before.left options log program) before after fault (reads-no-run before.left options log program) files (same before.taken after.taken taken) loads stores writes h
   where
     same : (old new : Option (List ℕ)) → new ≡ old → Keeps old new
     same old new e = subst (λ (t : Option (List ℕ)). Keeps old t) (sym e) (keeps-itself old)
 unjudged before after options log program (Refused cause) files loads stores taken writes h = absurd h
 
-pub judgement-told : (before after : Outside) (options : AuditOptions) (log : List ℕ) (program : ProgramTree) (is : Judgement) (answer : Result Ended Stop) → KeepsFiles before.files after.files → after.loads ≡ before.loads → after.stores ≡ before.stores →
+pub judgement-told : (before after : Outside) (options : AuditOptions) (log : List ℕ) (program : ProgramTree) (is : Judgement) (answer : Result ℕ Stop) → KeepsFiles before.files after.files → after.loads ≡ before.loads → after.stores ≡ before.stores →
     IsJudged (reading_of program options) before.left log before.reads after.reads (Ok is) → IsPrinted (judgement_status is) (judgement_line is) before.taken after.taken before.writes after.writes answer →
-    EndsAs (AuditsProgram before.left options log program) before after answer
+    EndsAs IsStatus (AuditsProgram before.left options log program) before after answer
 judgement-told before after options log program is answer files loads stores h printed =
     printed-ends (AuditsProgram before.left options log program) before after (judged_outcome is) answer (is, h.0, refl) refl refl tt (kept-are-stored before.files after.files files) loads stores h.1 printed
 

@@ -4,7 +4,7 @@ ghost use Rattle.cap_io.specs.Files.{KeepsFiles};
 ghost use Rattle.c_tree.specs.ProgramView.{program_tree};
 ghost use Rattle.command_words.specs.declared.options.Audit.{Audit as AuditOptions};
 ghost use Rattle.command_outcomes.specs.Done.{Outside, outside_by};
-ghost use Rattle.command_outcomes.specs.Steps.{EndsAs, IsPrinted, IsShelfStop, RunEnds};
+ghost use Rattle.command_outcomes.specs.Steps.{EndsAs, IsPrinted, IsShelfStop, IsStatus, RunEnds};
 ghost use Rattle.resource_monitor.specs.Pressure.{AnswersCurve, IsReading, curve_value};
 ghost use Rattle.resource_monitor.specs.declared.curves.Curve.TheVariants.{Knee};
 ghost use Rattle.command_options.specs.Options.{AreAuditOptions, as_run};
@@ -15,7 +15,7 @@ use c_tree::Program;
 use cap_io::{Shelf, Sink, Source};
 use command_files::{load, read_source};
 use command_options::monitor_of;
-use command_outcomes::{Document, Ended, Fault, Stop, print};
+use command_outcomes::{Document, Fault, Stop, print};
 use command_words::{Audit, Policy, Rule};
 use resource_monitor::{Measure, past_knee};
 use schedule_audit::{AuditPolicy, Verdict, audit};
@@ -30,16 +30,16 @@ pub fn do_audit<F: Shelf, S: Source, K: Sink>(
     source: &str,
     log: &str,
     options: Audit,
-) -> Result<Ended, Stop>
+) -> Result<u8, Stop>
     requires { AreAuditOptions options }
     ensures { let outside = outside_by F.files F.load_faults F.store_faults S.left S.faults K.taken
         K.faults in
         let before : Outside = outside shelf.old trace.old out.old in
         let after : Outside = outside shelf.new trace.new out.new in
-        EndsAs (Audits before.files before.left source.now log.now options) before after result }
+        EndsAs IsStatus (Audits before.files before.left source.now log.now options) before after result }
 {
     let loaded = load_log(alloc, shelf, source, log)?;
-    let ended = tell_judgement(
+    let status = tell_judgement(
         alloc,
         trace,
         out,
@@ -48,7 +48,7 @@ pub fn do_audit<F: Shelf, S: Source, K: Sink>(
         options,
     );
     drop(loaded);
-    ended
+    status
 }
 
 /// A program, and a log that is said to be one of its own.
@@ -89,9 +89,10 @@ fn tell_judgement<S: Source, K: Sink>(
     program: &Program,
     log: &[u8],
     options: Audit,
-) -> Result<Ended, Stop>
+) -> Result<u8, Stop>
     requires { AreAuditOptions options }
-    ensures { RunEnds (AuditsProgram (S.left trace.old) options log.now (program_tree program.now))
+    ensures { RunEnds IsStatus
+        (AuditsProgram (S.left trace.old) options log.now (program_tree program.now))
         (S.left trace.old) (S.left trace.new) (S.faults trace.old) (S.faults trace.new)
         (K.taken out.old) (K.taken out.new) (K.faults out.old) (K.faults out.new) result }
 {
@@ -100,7 +101,7 @@ fn tell_judgement<S: Source, K: Sink>(
 }
 
 /// Writes the line that tells what is said of a log.
-fn print_judgement<K: Sink>(alloc: Global, out: &mut K, judgement: Judgement) -> Result<Ended, Stop>
+fn print_judgement<K: Sink>(alloc: Global, out: &mut K, judgement: Judgement) -> Result<u8, Stop>
     ensures { IsPrinted (judgement_status judgement) (judgement_line judgement) (K.taken out.old)
         (K.taken out.new) (K.faults out.old) (K.faults out.new) result }
 {

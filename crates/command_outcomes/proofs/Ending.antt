@@ -1,5 +1,5 @@
 -- How a command ends, from what its last step did.
-use Rattle.std.proofs.Common.{◌≡◌, ◌≢◌, ℕ, true, List, [], ◌∷◌, Option, Some, None, Result, Ok, Err, refl, sym, ap, ◌∙◌, subst, inl, inr, ⊎_elim}
+use Rattle.std.proofs.Common.{◌≡◌, ◌≢◌, ℕ, true, List, [], ◌∷◌, Option, Some, None, Result, Ok, Err, refl, sym, ◌∙◌, subst, inl, inr, ⊎_elim}
 use Rattle.std.proofs.lemmas.List.{append-nil}
 use Rattle.std.specs.Io.KnownBytes.{Keeps, Appends}
 use Rattle.cap_io.specs.Files.{Files, KeepsFiles, KeepsOthers}
@@ -8,12 +8,10 @@ use Rattle.command_outcomes.specs.declared.stops.Stop.{Stop}
 use Rattle.command_outcomes.specs.declared.stops.Stop.TheVariants.{Refused, Failed}
 use Rattle.command_outcomes.specs.declared.faults.Fault.{Fault}
 use Rattle.command_outcomes.specs.declared.faults.Fault.TheVariants.{Read, Write, Memory}
-use Rattle.thread_core.specs.Worlds.{Held}
-use Rattle.command_outcomes.specs.declared.ended.Ended.{Ended}
-use Rattle.command_outcomes.specs.Outcome.{Outcome, Ran, printed}
+use Rattle.command_outcomes.specs.Outcome.{Outcome, printed}
 use Rattle.command_outcomes.specs.CauseLines.{refusal}
-use Rattle.command_outcomes.specs.Done.{Outside, WhereTold, AreStored, AreCutShort, IsRisen, IsDone, IsOnlyRead, IsTraceLeft, IsLast}
-use Rattle.command_outcomes.specs.Steps.{IsReadStop, IsShelfStop, IsPrinted, AreStores, EndsAs, RunEnds}
+use Rattle.command_outcomes.specs.Done.{Outside, WhereTold, AreStored, AreCutShort, IsRisen, IsDone, IsOnlyRead, IsTraceLeft}
+use Rattle.command_outcomes.specs.Steps.{IsReadStop, IsShelfStop, IsPrinted, IsStatus, AreStores, EndsAs, RunEnds}
 
 pub keeps-itself : (bytes : Option (List ℕ)) → Keeps bytes bytes
 keeps-itself None = tt
@@ -68,32 +66,30 @@ stores-after files a b c l m n (Err (Failed Write)) keeps same h = (cut-after fi
 stores-after files a b c l m n (Err (Failed Memory)) keeps same h = (cut-after files a b c keeps h.0, h.1 ∙ same)
 
 -- a step that stops before anything is stored or printed
-pub stopped : (due : Outcome → Type 0) (before after : Outside) (stop : Stop) → KeepsFiles before.files after.files → after.stores ≡ before.stores → Keeps before.left after.left → after.reads ≡ before.reads → Keeps before.taken after.taken → after.writes ≡ before.writes →
-    IsShelfStop due before.loads after.loads stop → EndsAs due before after (Err stop)
-stopped due before after (Refused cause) files stores left reads taken writes h =
+pub stopped : {T : Type 0} (hands_on : Outcome → T → Type 0) (due : Outcome → Type 0) (before after : Outside) (stop : Stop) → KeepsFiles before.files after.files → after.stores ≡ before.stores → Keeps before.left after.left → after.reads ≡ before.reads → Keeps before.taken after.taken → after.writes ≡ before.writes →
+    IsShelfStop due before.loads after.loads stop → EndsAs hands_on due before after (Err stop)
+stopped hands_on due before after (Refused cause) files stores left reads taken writes h =
     (h.0, record { files = kept-are-stored before.files after.files files; trace = left; out = append-nothing before.taken after.taken taken }, record { loads = h.1; stores = stores; reads = reads; writes = writes })
-stopped due before after (Failed Read) files stores left reads taken writes h =
+stopped hands_on due before after (Failed Read) files stores left reads taken writes h =
     inl (inl (record { files = files; trace = left; out = taken }, record { loads = h; stores = stores; reads = reads; writes = writes }))
-stopped due before after (Failed Write) files stores left reads taken writes h = absurd h
-stopped due before after (Failed Memory) files stores left reads taken writes h =
+stopped hands_on due before after (Failed Write) files stores left reads taken writes h = absurd h
+stopped hands_on due before after (Failed Memory) files stores left reads taken writes h =
     inl (inl (record { files = files; trace = left; out = taken }), record { loads = h; stores = stores; reads = reads; writes = writes })
 
 -- a step that stops after the trace was read, before anything is printed
-pub stopped-reading : (due : Outcome → Type 0) (before after : Outside) (fault : Fault) → (((outcome : Outcome) → due outcome → outcome.reads_trace ≡ true → outcome.last ≢ None) → ⊥) → KeepsFiles before.files after.files → Keeps before.taken after.taken →
-    after.loads ≡ before.loads → after.stores ≡ before.stores → after.writes ≡ before.writes → IsReadStop fault before.reads after.reads → EndsAs due before after (Err (Failed fault))
-stopped-reading due before after Read reads files taken loads stores writes h =
+pub stopped-reading : {T : Type 0} (hands_on : Outcome → T → Type 0) (due : Outcome → Type 0) (before after : Outside) (fault : Fault) → (((outcome : Outcome) → due outcome → outcome.reads_trace ≡ true → outcome.last ≢ None) → ⊥) → KeepsFiles before.files after.files → Keeps before.taken after.taken →
+    after.loads ≡ before.loads → after.stores ≡ before.stores → after.writes ≡ before.writes → IsReadStop fault before.reads after.reads → EndsAs hands_on due before after (Err (Failed fault))
+stopped-reading hands_on due before after Read reads files taken loads stores writes h =
     inl (inr (record { reads = reads; files = files; out = taken }, record { loads = loads; stores = stores; reads = h; writes = writes }))
-stopped-reading due before after Write reads files taken loads stores writes h = absurd h
-stopped-reading due before after Memory reads files taken loads stores writes h =
+stopped-reading hands_on due before after Write reads files taken loads stores writes h = absurd h
+stopped-reading hands_on due before after Memory reads files taken loads stores writes h =
     inr (record { reads = reads; files = files; out = taken }, record { loads = loads; stores = stores; writes = writes })
 
 -- the stores of an outcome are made, and its text is printed
-pub printed-ends : (due : Outcome → Type 0) (before after : Outside) (o : Outcome) (r : Result Ended Stop) → due o → o.line ≡ [] → o.last ≡ None → IsTraceLeft o.reads_trace before.left after.left → WhereTold (AreStored o.stores) before.files after.files → after.loads ≡ before.loads → after.stores ≡ before.stores → after.reads ≡ before.reads →
-    IsPrinted o.status o.out before.taken after.taken before.writes after.writes r → EndsAs due before after r
+pub printed-ends : (due : Outcome → Type 0) (before after : Outside) (o : Outcome) (r : Result ℕ Stop) → due o → o.line ≡ [] → o.last ≡ None → IsTraceLeft o.reads_trace before.left after.left → WhereTold (AreStored o.stores) before.files after.files → after.loads ≡ before.loads → after.stores ≡ before.stores → after.reads ≡ before.reads →
+    IsPrinted o.status o.out before.taken after.taken before.writes after.writes r → EndsAs IsStatus due before after r
 printed-ends due before after o (Ok given) is line none trace files loads stores reads h =
-    let here = subst (λ (ran : Option Ran). IsLast ran None) (sym none) tt in
-    let last = subst (λ (held : Option Held). IsLast o.last held) (sym (ap (λ (e : Ended). e.last) h.0)) here in
-    (o, (is, record { files = files; trace = trace; out = h.1 }, record { loads = loads; stores = stores; reads = reads; writes = h.2 }), sym (ap (λ (e : Ended). e.status) h.0), line, last)
+    (o, (is, record { files = files; trace = trace; out = h.1 }, record { loads = loads; stores = stores; reads = reads; writes = h.2 }), (sym h.0, line, none))
 printed-ends due before after o (Err (Refused cause)) is line none trace files loads stores reads h = absurd h
 printed-ends due before after o (Err (Failed Read)) is line none trace files loads stores reads h = absurd h
 printed-ends due before after o (Err (Failed Write)) is line none trace files loads stores reads h =
@@ -103,7 +99,7 @@ printed-ends due before after o (Err (Failed Memory)) is line none trace files l
 
 -- a store of an outcome was cut short
 pub stores-cut : (due : Outcome → Type 0) (before after : Outside) (o : Outcome) (stop : Stop) → due o → o.stores ≢ [] → Keeps before.left after.left → Keeps before.taken after.taken → after.loads ≡ before.loads → after.reads ≡ before.reads → after.writes ≡ before.writes →
-    AreStores o.stores before.files after.files before.stores after.stores (Err stop) → EndsAs due before after (Err stop)
+    AreStores o.stores before.files after.files before.stores after.stores (Err stop) → EndsAs IsStatus due before after (Err stop)
 stores-cut due before after o (Refused cause) is some left taken loads reads writes h = absurd h
 stores-cut due before after o (Failed Read) is some left taken loads reads writes h = absurd h
 stores-cut due before after o (Failed Write) is some left taken loads reads writes h =
@@ -111,8 +107,8 @@ stores-cut due before after o (Failed Write) is some left taken loads reads writ
 stores-cut due before after o (Failed Memory) is some left taken loads reads writes h =
     inl (inr (o, is, inl (record { some = some; files = h.0; trace = left; out = taken })), record { loads = loads; stores = h.1; reads = reads; writes = writes })
 
-pub printed-now : (due : Outcome → Type 0) (before after : Outside) (status : ℕ) (text : List ℕ) (r : Result Ended Stop) → due (printed status text) → KeepsFiles before.files after.files → Keeps before.left after.left → after.loads ≡ before.loads → after.stores ≡ before.stores → after.reads ≡ before.reads →
-    IsPrinted status text before.taken after.taken before.writes after.writes r → EndsAs due before after r
+pub printed-now : (due : Outcome → Type 0) (before after : Outside) (status : ℕ) (text : List ℕ) (r : Result ℕ Stop) → due (printed status text) → KeepsFiles before.files after.files → Keeps before.left after.left → after.loads ≡ before.loads → after.stores ≡ before.stores → after.reads ≡ before.reads →
+    IsPrinted status text before.taken after.taken before.writes after.writes r → EndsAs IsStatus due before after r
 printed-now due before after status text r is files left loads stores reads h =
     printed-ends due before after (printed status text) r is refl refl left (kept-are-stored before.files after.files files) loads stores reads h
 
@@ -122,16 +118,16 @@ pub files-keep : (files : Option Files) → KeepsFiles files files
 files-keep None = tt
 files-keep (Some f) = λ name. refl
 
-pub refused-at-once : (due : Outcome → Type 0) (o : Outside) (cause : Cause) → due (refusal cause) → EndsAs due o o (Err (Refused cause))
-refused-at-once due o cause h = stopped due o o (Refused cause) (files-keep o.files) refl (keeps-itself o.left) refl (keeps-itself o.taken) refl (h, refl)
+pub refused-at-once : {T : Type 0} (hands_on : Outcome → T → Type 0) (due : Outcome → Type 0) (o : Outside) (cause : Cause) → due (refusal cause) → EndsAs hands_on due o o (Err (Refused cause))
+refused-at-once hands_on due o cause h = stopped hands_on due o o (Refused cause) (files-keep o.files) refl (keeps-itself o.left) refl (keeps-itself o.taken) refl (h, refl)
 
-pub memory-at-once : (due : Outcome → Type 0) (o : Outside) → EndsAs due o o (Err (Failed Memory))
-memory-at-once due o = stopped due o o (Failed Memory) (files-keep o.files) refl (keeps-itself o.left) refl (keeps-itself o.taken) refl refl
+pub memory-at-once : {T : Type 0} (hands_on : Outcome → T → Type 0) (due : Outcome → Type 0) (o : Outside) → EndsAs hands_on due o o (Err (Failed Memory))
+memory-at-once hands_on due o = stopped hands_on due o o (Failed Memory) (files-keep o.files) refl (keeps-itself o.left) refl (keeps-itself o.taken) refl refl
 
 -- memory is wanting before the trace is read
-pub memory-before : (due : Outcome → Type 0) (left : Option (List ℕ)) (reads : ℕ) (taken : Option (List ℕ)) (writes : ℕ) → RunEnds due left left reads reads taken taken writes writes (Err (Failed Memory))
-memory-before due left reads taken writes = λ files files' loads loads' stores stores' keeps same again.
-    stopped due (record { files = files; loads = loads; stores = stores; left = left; reads = reads; taken = taken; writes = writes })
+pub memory-before : {T : Type 0} (hands_on : Outcome → T → Type 0) (due : Outcome → Type 0) (left : Option (List ℕ)) (reads : ℕ) (taken : Option (List ℕ)) (writes : ℕ) → RunEnds hands_on due left left reads reads taken taken writes writes (Err (Failed Memory))
+memory-before hands_on due left reads taken writes = λ files files' loads loads' stores stores' keeps same again.
+    stopped hands_on due (record { files = files; loads = loads; stores = stores; left = left; reads = reads; taken = taken; writes = writes })
     (record { files = files'; loads = loads'; stores = stores'; left = left; reads = reads; taken = taken; writes = writes }) (Failed Memory) keeps again (keeps-itself left) refl (keeps-itself taken) refl same
 
 -- What is due may be put in the place of what implies it.
@@ -146,7 +142,7 @@ done-follows P Q before after (Err Write) step h = (h.0, step h.0 h.1, h.2)
 done-follows P Q before after (Err Memory) step h =
     ⊎_elim (λ x. inl (⊎_elim (λ y. inl y) (λ y. inr (y.0, step y.0 y.1, y.2)) x.0, x.1)) (λ x. inr (read-follows P Q before after step x.0, x.1)) h
 
-pub ends-follow : (P Q : Outcome → Type 0) (before after : Outside) (r : Result Ended Stop) → ((o : Outcome) → P o → Q o) → EndsAs P before after r → EndsAs Q before after r
-ends-follow P Q before after (Ok given) step h = (h.0, done-follows P Q before after (Ok h.0) step h.1, h.2, h.3, h.4)
-ends-follow P Q before after (Err (Refused cause)) step h = done-follows P Q before after (Ok (refusal cause)) step h
-ends-follow P Q before after (Err (Failed fault)) step h = done-follows P Q before after (Err fault) step h
+pub ends-follow : {T : Type 0} (hands_on : Outcome → T → Type 0) (P Q : Outcome → Type 0) (before after : Outside) (r : Result T Stop) → ((o : Outcome) → P o → Q o) → EndsAs hands_on P before after r → EndsAs hands_on Q before after r
+ends-follow hands_on P Q before after (Ok given) step h = (h.0, done-follows P Q before after (Ok h.0) step h.1, h.2)
+ends-follow hands_on P Q before after (Err (Refused cause)) step h = done-follows P Q before after (Ok (refusal cause)) step h
+ends-follow hands_on P Q before after (Err (Failed fault)) step h = done-follows P Q before after (Err fault) step h

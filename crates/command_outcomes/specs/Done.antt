@@ -1,5 +1,5 @@
 -- What a call leaves outside: of an outcome that is due all, or after a fault or where memory is wanting a part.
-use Rattle.std.specs.Prelude.{ℕ, ◌≡◌, ◌≢◌, ◌+◌, ◌≤◌, ◌⊎◌, Bool, true, false, List, [], ◌∷◌, Option, Some, None, Result, Ok, Err}
+use Rattle.std.specs.Prelude.{ℕ, ◌≡◌, ◌≢◌, ◌≤◌, ◌⊎◌, Bool, true, false, List, [], ◌∷◌, Option, Some, None, Result, Ok, Err}
 use Rattle.std.specs.Io.KnownBytes.{Keeps, Appends}
 use Rattle.cap_io.specs.Faults.{Rose, Stayed}
 use Rattle.cap_io.specs.Files.{Files, KeepsFiles, KeepsOthers}
@@ -8,13 +8,6 @@ use Rattle.command_outcomes.specs.declared.faults.Fault.{Fault}
 use Rattle.command_outcomes.specs.declared.faults.Fault.TheVariants.{Read, Write, Memory}
 use Rattle.command_outcomes.specs.FaultLines.{fault_status, fault_line}
 use Rattle.command_outcomes.specs.Outcome.{Outcome, Ran}
-use Rattle.accepted_pairs.specs.Accepting.{accepted_tree}
-use Rattle.lawful_log.specs.Good.{checked_of}
-use Rattle.lawful_log.specs.Setup.{Setup, setting_of, start_machine}
-use Rattle.machine_world.specs.Runs.{Action, after_actions}
-use Rattle.machine_world.specs.Stretches.{IsSound}
-use Rattle.machine_world.specs.Threads.{World}
-use Rattle.thread_core.specs.Worlds.{Held}
 use Rattle.command_outcomes.specs.Prefixes.{TakesPrefix}
 
 -- what a shelf, a trace and the output tell at a moment: the files and the counts of faults of loads and of stores, the bytes
@@ -32,6 +25,11 @@ pub record Outside : Type 0 where
 abbrev pub outside_by : {F S K : Type 0} → (files : F → Option Files) → (loads stores : F → ℕ) → (left : S → Option (List ℕ)) → (reads : S → ℕ) → (taken : K → Option (List ℕ)) → (writes : K → ℕ) → F → S → K → Outside
 outside_by files loads stores left reads taken writes shelf trace out =
     record { files = files shelf; loads = loads shelf; stores = stores shelf; left = left trace; reads = reads trace; taken = taken out; writes = writes out }
+
+-- the same of a shelf and an output, beside a trace that isn't touched
+abbrev pub outside_beside : {F K : Type 0} → (files : F → Option Files) → (loads stores : F → ℕ) → (left : Option (List ℕ)) → (reads : ℕ) → (taken : K → Option (List ℕ)) → (writes : K → ℕ) → F → K → Outside
+outside_beside files loads stores left reads taken writes shelf out =
+    record { files = files shelf; loads = loads shelf; stores = stores shelf; left = left; reads = reads; taken = taken out; writes = writes out }
 
 -- Files.
 
@@ -194,33 +192,7 @@ IsTold status line old new faults faults' answer =
     ⊎ ((line ≢ []) × TakesPrefix old new line
     × (((answer ≡ status) × IsRisen faults faults') ⊎ ((answer ≡ fault_status Memory) × (faults' ≡ faults))))
 
--- The world that is handed out.
-
--- some actions of the machine lead to this world from the one in which a run of the setup starts
-pub record IsReachable (setup : Setup) (machine : World) : Type 0 where
-  pub start : World
-  pub starts : start_machine setup ≡ Some start
-  pub actions : List Action
-  pub leads : after_actions (setting_of setup) actions start ≡ Some machine
-
--- the world that was run: it was made from this program, image, certificate and policy, and is the machine world at the stop;
--- the machine reaches it from its start, every live thread in it is in place, and held and free chunks are exactly the pool
-pub record IsWorldOf (ran : Ran) (world : Held) : Type 0 where
-  pub program : accepted_tree world.accepted ≡ ran.setup.program
-  pub image : world.accepted.image ≡ ran.setup.image
-  pub certificate : world.accepted.certificate ≡ ran.setup.certificate
-  pub setting : world.setting ≡ setting_of ran.setup
-  pub chunks : world.machine.areas.pool.count ≡ ran.setup.policy.chunks + ran.setup.policy.extra
-  pub machine : world.machine ≡ ran.end
-  pub reached : IsReachable ran.setup world.machine
-  pub sound : IsSound (checked_of ran.setup) world.machine
-
--- it is there exactly where a run came to its stop
-abbrev pub IsLast : Option Ran → Option Held → Type 0
-IsLast None None = Unit {0}
-IsLast (Some ran) (Some world) = IsWorldOf ran world
-IsLast _ _ = ⊥
-
+-- the run that came to its stop, if one did
 abbrev pub last_of : Result Outcome Fault → Option Ran
 last_of (Ok outcome) = outcome.last
 last_of (Err fault) = None

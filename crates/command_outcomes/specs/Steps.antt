@@ -1,18 +1,15 @@
 -- What the steps of a command answer, by what is due.
-use Rattle.std.specs.Prelude.{ℕ, ◌≡◌, ◌≤◌, ◌⊎◌, List, [], length, Option, IfSome, Some, None, Result, Ok, Err}
-use Rattle.std.specs.Global.{Vec}
+use Rattle.std.specs.Prelude.{ℕ, ◌≡◌, ◌⊎◌, List, [], Option, None, Result, Ok, Err}
 use Rattle.std.specs.Io.KnownBytes.{Appends}
 use Rattle.cap_io.specs.Faults.{Rose}
 use Rattle.cap_io.specs.Files.{Files, KeepsFiles}
-use Rattle.command_outcomes.specs.declared.documents.Document.{Document}
 use Rattle.command_outcomes.specs.declared.stops.Stop.{Stop}
 use Rattle.command_outcomes.specs.declared.stops.Stop.TheVariants.{Refused, Failed}
-use Rattle.command_outcomes.specs.declared.ended.Ended.{Ended}
 use Rattle.command_outcomes.specs.declared.faults.Fault.{Fault}
 use Rattle.command_outcomes.specs.declared.faults.Fault.TheVariants.{Read, Write, Memory}
-use Rattle.command_outcomes.specs.Outcome.{Outcome, NoMore}
-use Rattle.command_outcomes.specs.CauseLines.{most_bytes, refusal}
-use Rattle.command_outcomes.specs.Done.{Outside, WhereTold, AreStored, AreCutShort, IsRisen, IsDone, IsTold, IsLast}
+use Rattle.command_outcomes.specs.Outcome.{Outcome}
+use Rattle.command_outcomes.specs.CauseLines.{refusal}
+use Rattle.command_outcomes.specs.Done.{Outside, WhereTold, AreStored, AreCutShort, IsRisen, IsDone, IsTold}
 use Rattle.command_outcomes.specs.Prefixes.{TakesPrefix}
 use Rattle.command_outcomes.specs.FaultLines.{fault_status, fault_line}
 
@@ -37,9 +34,9 @@ IsReadStop Memory reads reads' = Unit {0}
 IsReadStop Write reads reads' = ⊥
 
 -- a text was printed, and a status goes with it; or the text is cut short
-abbrev pub IsPrinted : ℕ → List ℕ → (old new : Option (List ℕ)) → (writes writes' : ℕ) → Result Ended Stop → Type 0
+abbrev pub IsPrinted : ℕ → List ℕ → (old new : Option (List ℕ)) → (writes writes' : ℕ) → Result ℕ Stop → Type 0
 IsPrinted status text old new writes writes' (Ok given) =
-    (given ≡ record { status = status; last = None }) × Appends old new text × (writes' ≡ writes)
+    (given ≡ status) × Appends old new text × (writes' ≡ writes)
 IsPrinted status text old new writes writes' (Err (Failed Write)) = TakesPrefix old new text × IsRisen writes writes'
 IsPrinted status text old new writes writes' (Err (Failed Memory)) = TakesPrefix old new text × (writes' ≡ writes)
 IsPrinted status text old new writes writes' (Err (Failed Read)) = ⊥
@@ -53,18 +50,21 @@ AreStores files old new stores stores' (Err (Failed Memory)) = WhereTold (AreCut
 AreStores files old new stores stores' (Err (Failed Read)) = ⊥
 AreStores files old new stores stores' (Err (Refused cause)) = ⊥
 
--- how a command ended, before standard error takes anything: with its status and the world that it ran, or with its last step
-abbrev pub EndsAs : (Outcome → Type 0) → (before after : Outside) → Result Ended Stop → Type 0
-EndsAs due before after (Ok given) =
-    (outcome : Outcome) × IsDone due before after (Ok outcome) × (outcome.status ≡ given.status) × (outcome.line ≡ []) × IsLast outcome.last given.last
-EndsAs due before after (Err (Refused cause)) = IsDone due before after (Ok (refusal cause))
-EndsAs due before after (Err (Failed fault)) = IsDone due before after (Err fault)
+-- the status of an outcome for which standard error takes nothing and no world is handed out
+abbrev pub IsStatus : Outcome → ℕ → Type 0
+IsStatus outcome status = (outcome.status ≡ status) × (outcome.line ≡ []) × (outcome.last ≡ None)
 
--- how a run ended, whatever was loaded before it
-abbrev pub RunEnds : (Outcome → Type 0) → (left left' : Option (List ℕ)) → (reads reads' : ℕ) → (taken taken' : Option (List ℕ)) → (writes writes' : ℕ) → Result Ended Stop → Type 0
-RunEnds due left left' reads reads' taken taken' writes writes' answer =
+-- how a command ended, before standard error takes anything: it did what is due and hands on what belongs to that, or this is its last step
+abbrev pub EndsAs : {T : Type 0} → (hands_on : Outcome → T → Type 0) → (due : Outcome → Type 0) → (before after : Outside) → Result T Stop → Type 0
+EndsAs hands_on due before after (Ok given) = (outcome : Outcome) × IsDone due before after (Ok outcome) × hands_on outcome given
+EndsAs hands_on due before after (Err (Refused cause)) = IsDone due before after (Ok (refusal cause))
+EndsAs hands_on due before after (Err (Failed fault)) = IsDone due before after (Err fault)
+
+-- the same of what reads the trace and writes to the output, whatever was loaded before it
+abbrev pub RunEnds : {T : Type 0} → (hands_on : Outcome → T → Type 0) → (due : Outcome → Type 0) → (left left' : Option (List ℕ)) → (reads reads' : ℕ) → (taken taken' : Option (List ℕ)) → (writes writes' : ℕ) → Result T Stop → Type 0
+RunEnds hands_on due left left' reads reads' taken taken' writes writes' answer =
     (files files' : Option Files) (loads loads' stores stores' : ℕ) → KeepsFiles files files' → loads' ≡ loads → stores' ≡ stores →
-    EndsAs due (record { files = files; loads = loads; stores = stores; left = left; reads = reads; taken = taken; writes = writes })
+    EndsAs hands_on due (record { files = files; loads = loads; stores = stores; left = left; reads = reads; taken = taken; writes = writes })
     (record { files = files'; loads = loads'; stores = stores'; left = left'; reads = reads'; taken = taken'; writes = writes' }) answer
 
 -- what is told of a last step: the line of a refusal needs memory

@@ -1,20 +1,19 @@
 // What sinks take of a text and of a line.
-ghost use Rattle.std.specs.Prelude.{◌≡◌, ◌≢◌, []};
+ghost use Rattle.std.specs.Prelude.{◌≢◌, []};
 ghost use Rattle.command_outcomes.specs.Done.{IsTold};
 ghost use Rattle.command_outcomes.specs.Steps.{IsPrinted};
 
-use crate::ended::Ended;
 use crate::faults::Fault;
 use crate::stops::Stop;
 use cap_io::{Sink, SinkError, put_all};
 
-/// Writes a text to the output, and answers the end that goes with it.
-pub fn print<K: Sink>(out: &mut K, text: &[u8], status: u8) -> Result<Ended, Stop>
+/// Writes a text to the output, and answers the status that goes with it.
+pub fn print<K: Sink>(out: &mut K, text: &[u8], status: u8) -> Result<u8, Stop>
     ensures { IsPrinted status text.now (K.taken out.old) (K.taken out.new) (K.faults out.old)
         (K.faults out.new) result }
 {
     match put_all(out, text) {
-        Ok(()) => Ok(Ended { status, last: None }),
+        Ok(()) => Ok(status),
         Err(SinkError::Failed) => Err(Stop::Failed(Fault::Write)),
         Err(SinkError::Memory) => Err(Stop::Failed(Fault::Memory)),
     }

@@ -9,7 +9,7 @@ use Rattle.command_outcomes.specs.declared.faults.Fault.TheVariants.{Read, Write
 use Rattle.command_outcomes.specs.Done.{Outside, IsRisen, NoFault, IsDone, IsWhole, IsTold, status_of, line_of}
 use Rattle.command_outcomes.specs.FaultLines.{fault_status}
 use Rattle.command_outcomes.specs.Outcome.{Outcome}
-use Rattle.capriccio_commands.specs.Due.{Does, IsDue}
+use Rattle.capriccio_call.specs.Due.{Does, IsDue}
 use Rattle.outcome_laws.specs.Given.{HasAnswered}
 use Rattle.outcome_laws.specs.Written.{UnlessMemory}
 

@@ -14,7 +14,7 @@ use Rattle.command_files.specs.Loads.{AfterLoad, AfterSource, IsSourceText, OfFi
 use Rattle.command_outcomes.specs.Outcome.{Outcome}
 use Rattle.command_audit.specs.Audits.{Audits, AuditsBytes, AuditsProgram, judged_outcome, reading_of}
 use Rattle.command_audit.specs.declared.judgements.Judgement.TheVariants as judgement
-use Rattle.capriccio_commands.specs.Due.{IsDue}
+use Rattle.capriccio_call.specs.Due.{IsDue}
 use Rattle.lawful_reading.proofs.Some.{some_verdict}
 use Rattle.decisions.proofs.Sources.{AProgram, AnError, source_decided}
 

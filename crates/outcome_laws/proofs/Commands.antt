@@ -20,7 +20,7 @@ use Rattle.pair_commands.specs.Budgets.{BudgetsBytes, Budgets}
 use Rattle.pair_commands.specs.Checks.{verdict_outcome, ChecksPair, ChecksBytes, Checks}
 use Rattle.command_options.specs.Options.{IsRunPolicy, sizes_of}
 use Rattle.pair_commands.specs.Runs.{setup_of, pool_bytes, RunsPair, RunsBytes, Runs}
-use Rattle.capriccio_commands.specs.Due.{Does, IsDue}
+use Rattle.capriccio_call.specs.Due.{Does, IsDue}
 use Rattle.command_options.proofs.Options.{run-policy}
 use Rattle.decisions.proofs.Pairs.{pair_decided}
 use Rattle.outcome_laws.specs.Told.{HoldBytes}

@@ -3,7 +3,7 @@ use Rattle.std.proofs.Common.{ℕ, ⊎_elim, List}
 use Rattle.command_words.specs.WordList.{Request, Serve, Run, Build, Check, Graph, Demo, Audit, Budget, IsWordList}
 use Rattle.command_words.specs.declared.options.Audit.{Audit as AuditOptions}
 use Rattle.command_outcomes.specs.Done.{Outside}
-use Rattle.capriccio_commands.specs.Due.{IsDue}
+use Rattle.capriccio_call.specs.Due.{IsDue}
 use Rattle.decisions.proofs.Requests.{list_or_none}
 use Rattle.outcome_laws.specs.Told.{HoldBytes}
 use Rattle.outcome_laws.proofs.Auditing.{Never_none, audit_words_due}

@@ -21,7 +21,7 @@ use Rattle.pair_commands.specs.BuildsFiles.{IsUnbuilt}
 use Rattle.command_options.specs.Options.{IsRunPolicy, sizes_of}
 use Rattle.pair_commands.specs.Runs.{setup_of, pool_bytes, IsAccepted, ServesProgram, Serves}
 use Rattle.capriccio_commands.specs.Demos.{demo_sizes, demo_policy, Demos}
-use Rattle.capriccio_commands.specs.Due.{IsDue}
+use Rattle.capriccio_call.specs.Due.{IsDue}
 use Rattle.command_options.proofs.Options.{serve-sizes, serve-policy, serve-pool}
 use Rattle.capriccio_commands.proofs.Workloads.{always-built, demo-in-range, demo-run-policy, demo-pool}
 use Rattle.decisions.proofs.Sources.{AProgram, AnError, source_decided}

@@ -13,7 +13,7 @@ ghost use Rattle.command_words.specs.WordList.{Request, Serve, Run, Build, Check
 ghost use Rattle.command_outcomes.specs.Outcome.{Outcome};
 ghost use Rattle.command_outcomes.specs.Done.{Outside};
 ghost use Rattle.pair_commands.specs.BuildsFiles.{HasFittingCode};
-ghost use Rattle.capriccio_commands.specs.Due.{IsDue};
+ghost use Rattle.capriccio_call.specs.Due.{IsDue};
 ghost use Rattle.pair_commands.specs.Graphs.{HasFittingFrames};
 ghost use Rattle.stack_build.specs.Builds.{IsLaidOut};
 ghost use Rattle.stack_certificate.specs.declared.certificates.Certificate.{Certificate};

@@ -7,8 +7,8 @@ ghost use Rattle.call_cycles.specs.Cycles.{IsLeast, IsOnCycle};
 ghost use Rattle.accepted_pairs.specs.Accepting.{accepted_tree};
 ghost use Rattle.pair_commands.specs.Budgets.{Budgets, BudgetsBytes, BudgetsPair, IsBudgetPrinted, IsCycleRefused, budget_text, height_line, height_lines};
 ghost use Rattle.command_outcomes.specs.Outcome.{printed};
-ghost use Rattle.command_outcomes.specs.Steps.{EndsAs, IsStop, IsShelfStop};
-ghost use Rattle.command_outcomes.specs.Done.{Outside};
+ghost use Rattle.command_outcomes.specs.Steps.{EndsAs, IsStatus, IsStop, IsShelfStop};
+ghost use Rattle.command_outcomes.specs.Done.{Outside, outside_beside};
 
 use crate::pairs::{ReadPair, read_pair};
 use crate::run_command::check_stop;
@@ -18,7 +18,7 @@ use cap_io::{Shelf, Sink};
 use certificate_check::check;
 use chunk_budget::{Budget, MakeBudgetError, make_budget};
 use command_files::load_three;
-use command_outcomes::{Cause, Ended, Fault, Stop, print, put_number, put_text};
+use command_outcomes::{Cause, Fault, Stop, print, put_number, put_text};
 use stack_certificate::Certificate;
 use stack_image::Image;
 use std::alloc::{AllocError, Global};
@@ -31,27 +31,12 @@ pub fn do_budget<F: Shelf, K: Sink>(
     source: &str,
     image: &str,
     certificate: &str,
-) -> Result<Ended, Stop>
+) -> Result<u8, Stop>
     ensures { (left : Option (List ℕ)) (reads : ℕ) →
-        let before : Outside = record {
-          files = F.files shelf.old;
-          loads = F.load_faults shelf.old;
-          stores = F.store_faults shelf.old;
-          left = left;
-          reads = reads;
-          taken = K.taken out.old;
-          writes = K.faults out.old;
-        } in
-        let after : Outside = record {
-          files = F.files shelf.new;
-          loads = F.load_faults shelf.new;
-          stores = F.store_faults shelf.new;
-          left = left;
-          reads = reads;
-          taken = K.taken out.new;
-          writes = K.faults out.new;
-        } in
-        EndsAs (Budgets before.files source.now image.now certificate.now) before after result }
+        let outside = outside_beside F.files F.load_faults F.store_faults left reads K.taken K.faults in
+        let before : Outside = outside shelf.old out.old in
+        let after : Outside = outside shelf.new out.new in
+        EndsAs IsStatus (Budgets before.files source.now image.now certificate.now) before after result }
 {
     let text = budget_files(alloc, shelf, source, image, certificate)?;
     print(out, text.as_slice(), 0)

@@ -7,8 +7,8 @@ ghost use Rattle.stack_image.specs.Spelling as images;
 ghost use Rattle.certificate_text.specs.Text as texts;
 ghost use Rattle.command_files.specs.Loads.{AfterSource};
 ghost use Rattle.pair_commands.specs.BuildsFiles.{Builds, BuildsProgram, built_line, IsProductsOf, stored_products};
-ghost use Rattle.command_outcomes.specs.Steps.{EndsAs, IsStop, IsShelfStop};
-ghost use Rattle.command_outcomes.specs.Done.{Outside};
+ghost use Rattle.command_outcomes.specs.Steps.{EndsAs, IsStatus, IsStop, IsShelfStop};
+ghost use Rattle.command_outcomes.specs.Done.{Outside, outside_beside};
 
 use crate::layouts::layout_stop;
 use c_tree::Program;
@@ -16,7 +16,7 @@ use cap_io::{Shelf, Sink};
 use certificate_text::write_cert;
 use codegen_link::Options;
 use command_files::{load, read_source, store_both};
-use command_outcomes::{Document, Ended, Fault, Stop, print, put_number, put_text};
+use command_outcomes::{Document, Fault, Stop, print, put_number, put_text};
 use stack_build::{Built, lay_out};
 use stack_image::{Image, write_image};
 use std::alloc::{AllocError, Global};
@@ -41,28 +41,13 @@ pub fn do_build<F: Shelf, K: Sink>(
     image: &str,
     certificate: &str,
     options: Options,
-) -> Result<Ended, Stop>
+) -> Result<u8, Stop>
     requires { AreInRange options }
     ensures { (left : Option (List ℕ)) (reads : ℕ) →
-        let before : Outside = record {
-          files = F.files shelf.old;
-          loads = F.load_faults shelf.old;
-          stores = F.store_faults shelf.old;
-          left = left;
-          reads = reads;
-          taken = K.taken out.old;
-          writes = K.faults out.old;
-        } in
-        let after : Outside = record {
-          files = F.files shelf.new;
-          loads = F.load_faults shelf.new;
-          stores = F.store_faults shelf.new;
-          left = left;
-          reads = reads;
-          taken = K.taken out.new;
-          writes = K.faults out.new;
-        } in
-        EndsAs (Builds before.files source.now image.now certificate.now options) before after
+        let outside = outside_beside F.files F.load_faults F.store_faults left reads K.taken K.faults in
+        let before : Outside = outside shelf.old out.old in
+        let after : Outside = outside shelf.new out.new in
+        EndsAs IsStatus (Builds before.files source.now image.now certificate.now options) before after
         result }
 {
     let products = build_source(alloc, shelf, source, options)?;

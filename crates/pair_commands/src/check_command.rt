@@ -3,15 +3,15 @@ ghost use Rattle.std.specs.Prelude.{ℕ, List, Option, ◌≡◌, ◌++◌, ◌�
 ghost use Rattle.cap_io.specs.Files.{KeepsFiles};
 ghost use Rattle.c_tree.specs.ProgramView.{program_tree};
 ghost use Rattle.pair_commands.specs.Checks.{Checks, ChecksBytes, ChecksPair, verdict_status, verdict_line, verdict_outcome};
-ghost use Rattle.command_outcomes.specs.Steps.{EndsAs, IsStop, IsShelfStop};
-ghost use Rattle.command_outcomes.specs.Done.{Outside};
+ghost use Rattle.command_outcomes.specs.Steps.{EndsAs, IsStatus, IsStop, IsShelfStop};
+ghost use Rattle.command_outcomes.specs.Done.{Outside, outside_beside};
 
 use crate::pairs::{ReadPair, read_pair};
 use c_tree::Program;
 use cap_io::{Shelf, Sink};
 use certificate_check::{CheckError, check};
 use command_files::load_three;
-use command_outcomes::{Ended, Fault, Stop, print, put_rejected, put_text};
+use command_outcomes::{Fault, Stop, print, put_rejected, put_text};
 use stack_certificate::Certificate;
 use stack_image::Image;
 use std::alloc::{AllocError, Global};
@@ -69,27 +69,12 @@ pub fn do_check<F: Shelf, K: Sink>(
     source: &str,
     image: &str,
     certificate: &str,
-) -> Result<Ended, Stop>
+) -> Result<u8, Stop>
     ensures { (left : Option (List ℕ)) (reads : ℕ) →
-        let before : Outside = record {
-          files = F.files shelf.old;
-          loads = F.load_faults shelf.old;
-          stores = F.store_faults shelf.old;
-          left = left;
-          reads = reads;
-          taken = K.taken out.old;
-          writes = K.faults out.old;
-        } in
-        let after : Outside = record {
-          files = F.files shelf.new;
-          loads = F.load_faults shelf.new;
-          stores = F.store_faults shelf.new;
-          left = left;
-          reads = reads;
-          taken = K.taken out.new;
-          writes = K.faults out.new;
-        } in
-        EndsAs (Checks before.files source.now image.now certificate.now) before after result }
+        let outside = outside_beside F.files F.load_faults F.store_faults left reads K.taken K.faults in
+        let before : Outside = outside shelf.old out.old in
+        let after : Outside = outside shelf.new out.new in
+        EndsAs IsStatus (Checks before.files source.now image.now certificate.now) before after result }
 {
     let verdict = check_files(alloc, shelf, source, image, certificate)?;
     match verdict.line(alloc) {

@@ -6,11 +6,11 @@ ghost use Rattle.c_lower.specs.ProgramCode.{lowered};
 ghost use Rattle.stack_build.specs.Builds.{frame_refusal, IsPlacedBy};
 ghost use Rattle.stack_build.specs.declared.refusals.BuildError.TheVariants as errors;
 ghost use Rattle.stack_plan.specs.Plans.{IsEnough};
-ghost use Rattle.command_outcomes.specs.Done.{Outside};
+ghost use Rattle.command_outcomes.specs.Done.{Outside, outside_beside};
 ghost use Rattle.command_outcomes.specs.Outcome.{printed};
 ghost use Rattle.command_files.specs.Loads.{AfterSource};
 ghost use Rattle.pair_commands.specs.Graphs.{Graphs, GraphsProgram, IsFrameRefused, IsAnalysed};
-ghost use Rattle.command_outcomes.specs.Steps.{EndsAs, IsStop, IsShelfStop};
+ghost use Rattle.command_outcomes.specs.Steps.{EndsAs, IsStatus, IsStop, IsShelfStop};
 
 use crate::frames::frame_stop;
 use analysis_lines::{Findings, analysis_text};
@@ -18,7 +18,7 @@ use c_tree::Program;
 use cap_io::{Shelf, Sink};
 use codegen_link::Options;
 use command_files::{load, read_source};
-use command_outcomes::{Document, Ended, Fault, Stop, print};
+use command_outcomes::{Document, Fault, Stop, print};
 use stack_build::{Analysis, BuildError, analyse};
 use std::alloc::{AllocError, Global};
 
@@ -29,27 +29,12 @@ pub fn do_graph<F: Shelf, K: Sink>(
     out: &mut K,
     source: &str,
     options: Options,
-) -> Result<Ended, Stop>
+) -> Result<u8, Stop>
     ensures { (left : Option (List ℕ)) (reads : ℕ) →
-        let before : Outside = record {
-          files = F.files shelf.old;
-          loads = F.load_faults shelf.old;
-          stores = F.store_faults shelf.old;
-          left = left;
-          reads = reads;
-          taken = K.taken out.old;
-          writes = K.faults out.old;
-        } in
-        let after : Outside = record {
-          files = F.files shelf.new;
-          loads = F.load_faults shelf.new;
-          stores = F.store_faults shelf.new;
-          left = left;
-          reads = reads;
-          taken = K.taken out.new;
-          writes = K.faults out.new;
-        } in
-        EndsAs (Graphs before.files source.now options.max_path) before after result }
+        let outside = outside_beside F.files F.load_faults F.store_faults left reads K.taken K.faults in
+        let before : Outside = outside shelf.old out.old in
+        let after : Outside = outside shelf.new out.new in
+        EndsAs IsStatus (Graphs before.files source.now options.max_path) before after result }
 {
     let text = graph_source(alloc, shelf, source, options)?;
     print(out, text.as_slice(), 0)

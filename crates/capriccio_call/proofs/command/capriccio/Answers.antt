@@ -1,6 +1,6 @@
 use Rattle.std.proofs.Common.{map, refl}
 use Rattle.std.specs.String.{string_bytes}
-use Rattle.capriccio_commands.specs.Due.{IsDue}
+use Rattle.capriccio_call.specs.Due.{IsDue}
 use Rattle.command_outcomes.proofs.Ending.{keeps-itself}
 use Rattle.capriccio_call.proofs.Told.{told-done, told-stop}
 use Rattle.capriccio_call.proofs.GoodRun.{good-without, was-good}

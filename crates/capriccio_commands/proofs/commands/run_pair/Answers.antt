@@ -4,6 +4,7 @@ use Rattle.accepted_pairs.specs.Accepting.{accepted_tree}
 use Rattle.command_outcomes.specs.Done.{Outside}
 use Rattle.pair_commands.specs.Runs.{RunsOn, Runs, setup_of}
 use Rattle.command_outcomes.proofs.Ending.{ends-follow, stopped, keeps-itself}
+use Rattle.capriccio_commands.specs.Ends.{IsEnd}
 use Rattle.capriccio_commands.proofs.commands.run_pair.Goals as goal
 
 pub run_accepted-requires-clause-pool : goal.run_accepted-requires-clause-pool
@@ -19,7 +20,7 @@ returns-in_err-accepted g c =
     let before : Outside = record { files = F.files a.shelf.now; loads = F.load_faults a.shelf.now; stores = F.store_faults a.shelf.now; left = S.left a.trace.now; reads = S.faults a.trace.now; taken = K.taken a.out.now; writes = K.faults a.out.now } in
     let after : Outside = record { files = F.files shelf; loads = F.load_faults shelf; stores = F.store_faults shelf; left = S.left a.trace.now; reads = S.faults a.trace.now; taken = K.taken a.out.now; writes = K.faults a.out.now } in
     let step = c.in_err-accepted.ensures in
-    rw (p.1, p.2) (stopped (Runs before.files before.left a.source.now a.image.now a.certificate.now a.policy) before after c.in_err-accepted.field-0.0 step.files step.stores
+    rw (p.1, p.2) (stopped IsEnd (Runs before.files before.left a.source.now a.image.now a.certificate.now a.policy) before after c.in_err-accepted.field-0.0 step.files step.stores
     (keeps-itself before.left) refl (keeps-itself before.taken) refl (step.answer before.left))
 
 pub returns : goal.returns
@@ -29,5 +30,5 @@ returns g c =
     let accepted = c.in_ok-accepted.accepted in
     let step = c.in_ok-accepted.ensures in
     let is = step.answer before.left in
-    ends-follow (RunsOn before.left (setup_of (accepted_tree accepted) accepted.image accepted.certificate a.policy)) (Runs before.files before.left a.source.now a.image.now a.certificate.now a.policy) _ _ c.run_accepted.result is.0
+    ends-follow IsEnd (RunsOn before.left (setup_of (accepted_tree accepted) accepted.image accepted.certificate a.policy)) (Runs before.files before.left a.source.now a.image.now a.certificate.now a.policy) _ _ c.run_accepted.result is.0
     (c.run_accepted.ensures.ends _ _ _ _ _ _ step.files is.2 step.stores)

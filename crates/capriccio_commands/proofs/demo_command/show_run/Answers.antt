@@ -10,6 +10,7 @@ use Rattle.pair_commands.specs.Runs.{RunsOn, pool_bytes, setup_of}
 use Rattle.capriccio_commands.proofs.FitCounting.{clean-fits}
 use Rattle.capriccio_commands.proofs.Shown.{no-stop, served, served-world, shows-due}
 use Rattle.capriccio_commands.proofs.Workloads.{demo-run-policy, demo-pool}
+use Rattle.capriccio_commands.specs.Ends.{IsEnd}
 use Rattle.capriccio_commands.proofs.demo_command.show_run.Goals as goal
 
 pub run_accepted-requires-clause-range : goal.run_accepted-requires-clause-range
@@ -23,7 +24,7 @@ pub show-requires-clause-world : goal.show-requires-clause-world
 show-requires-clause-world c =
     let a = c.args.accepted in
     let g = setup_of (accepted_tree a) a.image a.certificate demo_policy in
-    let R : Policy → List ℕ → List ℕ → Type 0 = λ p t l. RunEnds (RunsOn (Some t) (setup_of (accepted_tree a) a.image a.certificate p)) (Some t) (Some c.run_accepted.new.trace) 0 0 (Some l) (Some c.run_accepted.new.out) 0 0 (Ok c.in_ok-ended.ended) in
+    let R : Policy → List ℕ → List ℕ → Type 0 = λ p t l. RunEnds IsEnd (RunsOn (Some t) (setup_of (accepted_tree a) a.image a.certificate p)) (Some t) (Some c.run_accepted.new.trace) 0 0 (Some l) (Some c.run_accepted.new.out) 0 0 (Ok c.in_ok-ended.ended) in
     let one = subst (λ p. R p c.new-source.result c.new-log.result) c.workload_policy.ensures c.in_ok-ended.ensures.ends in
     let two = subst (λ t. R demo_policy t c.new-log.result) c.new-source.ensures one in
     let ran = subst (λ l. R demo_policy c.args.trace.items l) c.new-log.ensures two in
@@ -39,7 +40,7 @@ returns-in_err-ended c =
     let p = err_from_is_err_and c.from_residual.result c.from_residual.ensures.1 in
     let a = c.args.accepted in
     let g = setup_of (accepted_tree a) a.image a.certificate demo_policy in
-    let R : Policy → List ℕ → List ℕ → Type 0 = λ p t l. RunEnds (RunsOn (Some t) (setup_of (accepted_tree a) a.image a.certificate p)) (Some t) (Some c.run_accepted.new.trace) 0 0 (Some l) (Some c.run_accepted.new.out) 0 0 (Err c.in_err-ended.field-0.0) in
+    let R : Policy → List ℕ → List ℕ → Type 0 = λ p t l. RunEnds IsEnd (RunsOn (Some t) (setup_of (accepted_tree a) a.image a.certificate p)) (Some t) (Some c.run_accepted.new.trace) 0 0 (Some l) (Some c.run_accepted.new.out) 0 0 (Err c.in_err-ended.field-0.0) in
     let one = subst (λ p. R p c.new-source.result c.new-log.result) c.workload_policy.ensures c.in_err-ended.ensures.ends in
     let two = subst (λ t. R demo_policy t c.new-log.result) c.new-source.ensures one in
     let ran = subst (λ l. R demo_policy c.args.trace.items l) c.new-log.ensures two in
@@ -49,7 +50,7 @@ pub returns : goal.returns
 returns c =
     let a = c.args.accepted in
     let g = setup_of (accepted_tree a) a.image a.certificate demo_policy in
-    let R : Policy → List ℕ → List ℕ → Type 0 = λ p t l. RunEnds (RunsOn (Some t) (setup_of (accepted_tree a) a.image a.certificate p)) (Some t) (Some c.run_accepted.new.trace) 0 0 (Some l) (Some c.run_accepted.new.out) 0 0 (Ok c.in_ok-ended.ended) in
+    let R : Policy → List ℕ → List ℕ → Type 0 = λ p t l. RunEnds IsEnd (RunsOn (Some t) (setup_of (accepted_tree a) a.image a.certificate p)) (Some t) (Some c.run_accepted.new.trace) 0 0 (Some l) (Some c.run_accepted.new.out) 0 0 (Ok c.in_ok-ended.ended) in
     let one = subst (λ p. R p c.new-source.result c.new-log.result) c.workload_policy.ensures c.in_ok-ended.ensures.ends in
     let two = subst (λ t. R demo_policy t c.new-log.result) c.new-source.ensures one in
     let ran = subst (λ l. R demo_policy c.args.trace.items l) c.new-log.ensures two in

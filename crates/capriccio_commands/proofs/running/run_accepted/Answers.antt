@@ -4,6 +4,7 @@ use Rattle.accepted_pairs.specs.Acceptance.{Acceptance}
 use Rattle.pair_commands.specs.Runs.{RunsOn, setup_of}
 use Rattle.command_outcomes.specs.Steps.{RunEnds}
 use Rattle.capriccio_commands.proofs.Making.{made-world}
+use Rattle.capriccio_commands.specs.Ends.{IsEnd}
 use Rattle.capriccio_commands.proofs.running.run_accepted.Goals as goal
 
 pub run_world-requires-clause-made : goal.run_world-requires-clause-made
@@ -15,6 +16,6 @@ returns-in-Ok-clause-ends g c =
     let made = c.in-Ok.ensures in
     let S = g.S.Source in let K = g.K.Sink in
     let a = c.args in
-    let P : Acceptance → Type 0 = λ x. RunEnds (RunsOn (S.left a.trace.now) (setup_of (accepted_tree x) x.image x.certificate a.policy)) (S.left a.trace.now) (S.left c.run_world.new.trace) (S.faults a.trace.now) (S.faults c.run_world.new.trace)
+    let P : Acceptance → Type 0 = λ x. RunEnds IsEnd (RunsOn (S.left a.trace.now) (setup_of (accepted_tree x) x.image x.certificate a.policy)) (S.left a.trace.now) (S.left c.run_world.new.trace) (S.faults a.trace.now) (S.faults c.run_world.new.trace)
     (K.taken a.out.now) (K.taken c.run_world.new.out) (K.faults a.out.now) (K.faults c.run_world.new.out) c.run_world.result in
     subst P made.accepted_is c.run_world.ensures.ends

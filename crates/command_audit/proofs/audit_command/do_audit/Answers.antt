@@ -3,6 +3,7 @@ use Rattle.std.proofs.lemmas.Result.{err_from_is_err_and}
 use Rattle.c_tree.specs.ProgramView.{program_tree}
 use Rattle.command_outcomes.specs.Done.{Outside}
 use Rattle.command_audit.specs.Audits.{Audits, AuditsProgram}
+use Rattle.command_outcomes.specs.Steps.{IsStatus}
 use Rattle.command_outcomes.proofs.Ending.{ends-follow, stopped, keeps-itself}
 use Rattle.command_audit.proofs.Auditing.{audit-follows}
 use Rattle.command_audit.proofs.audit_command.do_audit.Goals as goal
@@ -14,7 +15,7 @@ returns-in_err-loaded g c =
     let before : Outside = record { files = F.files a.shelf.now; loads = F.load_faults a.shelf.now; stores = F.store_faults a.shelf.now; left = S.left a.trace.now; reads = S.faults a.trace.now; taken = K.taken a.out.now; writes = K.faults a.out.now } in
     let after : Outside = record { files = F.files shelf; loads = F.load_faults shelf; stores = F.store_faults shelf; left = S.left a.trace.now; reads = S.faults a.trace.now; taken = K.taken a.out.now; writes = K.faults a.out.now } in
     let step = c.in_err-loaded.ensures in
-    rw (p.1, p.2) (stopped (Audits before.files before.left a.source.now a.log.now a.options) before after c.in_err-loaded.field-0.0 step.files step.stores
+    rw (p.1, p.2) (stopped IsStatus (Audits before.files before.left a.source.now a.log.now a.options) before after c.in_err-loaded.field-0.0 step.files step.stores
     (keeps-itself before.left) refl (keeps-itself before.taken) refl (step.answer before.left a.options))
 
 pub returns : goal.returns
@@ -24,7 +25,7 @@ returns g c =
     let loaded = c.in_ok-loaded.loaded in
     let step = c.in_ok-loaded.ensures in
     let is = step.answer before.left a.options in
-    let told = rw c.as_slice.ensures.value at c.tell_judgement-ended.ensures in
-    ends-follow (AuditsProgram before.left a.options loaded.log.items (program_tree loaded.program)) (Audits before.files before.left a.source.now a.log.now a.options) _ _ c.tell_judgement-ended.result
+    let told = rw c.as_slice.ensures.value at c.tell_judgement-status.ensures in
+    ends-follow IsStatus (AuditsProgram before.left a.options loaded.log.items (program_tree loaded.program)) (Audits before.files before.left a.source.now a.log.now a.options) _ _ c.tell_judgement-status.result
     (audit-follows before.files a.source.now a.log.now loaded.log.items (program_tree loaded.program) before.left a.options is.0)
     (told _ _ _ _ _ _ step.files is.1 step.stores)

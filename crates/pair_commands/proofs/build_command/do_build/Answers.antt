@@ -2,7 +2,7 @@ use Rattle.std.proofs.Common.{◌≡◌, ◌≢◌, ◌∙◌, ℕ, List, [], �
 use Rattle.std.proofs.lemmas.Result.{err_from_is_err_and}
 use Rattle.pair_commands.specs.BuildsFiles.{Builds, stored_products}
 use Rattle.command_outcomes.specs.Done.{Outside, WhereTold, AreStored}
-use Rattle.command_outcomes.specs.Steps.{AreStores, IsPrinted}
+use Rattle.command_outcomes.specs.Steps.{AreStores, IsPrinted, IsStatus}
 use Rattle.command_outcomes.proofs.Ending.{keeps-itself, stopped, stores-cut, printed-ends, stored-after, stores-after}
 use Rattle.pair_commands.proofs.build_command.do_build.Goals as goal
 
@@ -13,7 +13,7 @@ returns-in_err-products g c = λ left reads.
     let before : Outside = record { files = F.files a.shelf.now; loads = F.load_faults a.shelf.now; stores = F.store_faults a.shelf.now; left = left; reads = reads; taken = K.taken a.out.now; writes = K.faults a.out.now } in
     let after : Outside = record { files = F.files shelf; loads = F.load_faults shelf; stores = F.store_faults shelf; left = left; reads = reads; taken = K.taken a.out.now; writes = K.faults a.out.now } in
     let step = c.in_err-products.ensures in
-    rw (p.1, p.2) (stopped (Builds before.files a.source.now a.image.now a.certificate.now a.options) before after c.in_err-products.field-0.0 step.files step.stores (keeps-itself left) refl (keeps-itself before.taken) refl (step.answer a.image.now a.certificate.now))
+    rw (p.1, p.2) (stopped IsStatus (Builds before.files a.source.now a.image.now a.certificate.now a.options) before after c.in_err-products.field-0.0 step.files step.stores (keeps-itself left) refl (keeps-itself before.taken) refl (step.answer a.image.now a.certificate.now))
 
 pub returns-in_err-store_both : goal.returns-in_err-store_both
 returns-in_err-store_both g c = λ left reads.

@@ -4,6 +4,7 @@ use Rattle.command_outcomes.specs.Done.{Outside}
 use Rattle.pair_commands.specs.Checks.{Checks, verdict_status, verdict_line}
 use Rattle.command_outcomes.specs.declared.faults.Fault.TheVariants.{Memory}
 use Rattle.command_outcomes.specs.declared.stops.Stop.TheVariants.{Failed}
+use Rattle.command_outcomes.specs.Steps.{IsStatus}
 use Rattle.command_outcomes.proofs.Ending.{stopped, printed-now, keeps-itself}
 use Rattle.pair_commands.proofs.check_command.do_check.Goals as goal
 
@@ -14,7 +15,7 @@ returns-in_err-verdict g c = λ left reads.
     let before : Outside = record { files = F.files a.shelf.now; loads = F.load_faults a.shelf.now; stores = F.store_faults a.shelf.now; left = left; reads = reads; taken = K.taken a.out.now; writes = K.faults a.out.now } in
     let after : Outside = record { files = F.files shelf; loads = F.load_faults shelf; stores = F.store_faults shelf; left = left; reads = reads; taken = K.taken a.out.now; writes = K.faults a.out.now } in
     let step = c.in_err-verdict.ensures in
-    rw (p.1, p.2) (stopped (Checks before.files a.source.now a.image.now a.certificate.now) before after c.in_err-verdict.field-0.0 step.files step.stores (keeps-itself left) refl (keeps-itself before.taken) refl step.answer)
+    rw (p.1, p.2) (stopped IsStatus (Checks before.files a.source.now a.image.now a.certificate.now) before after c.in_err-verdict.field-0.0 step.files step.stores (keeps-itself left) refl (keeps-itself before.taken) refl step.answer)
 
 pub returns-in-Ok : goal.returns-in-Ok
 returns-in-Ok g c = λ left reads.
@@ -34,4 +35,4 @@ returns-in-Err g c = λ left reads.
     let after : Outside = record { files = F.files shelf; loads = F.load_faults shelf; stores = F.store_faults shelf; left = left; reads = reads; taken = K.taken a.out.now; writes = K.faults a.out.now } in
     let step = c.in_ok-verdict.ensures in
     let is = step.answer in
-    stopped (Checks before.files a.source.now a.image.now a.certificate.now) before after (Failed Memory) step.files step.stores (keeps-itself left) refl (keeps-itself before.taken) refl is.1
+    stopped IsStatus (Checks before.files a.source.now a.image.now a.certificate.now) before after (Failed Memory) step.files step.stores (keeps-itself left) refl (keeps-itself before.taken) refl is.1

@@ -2,6 +2,7 @@ use Rattle.std.proofs.Common.{refl}
 use Rattle.std.proofs.lemmas.Result.{err_from_is_err_and}
 use Rattle.command_outcomes.specs.Done.{Outside}
 use Rattle.pair_commands.specs.Graphs.{Graphs}
+use Rattle.command_outcomes.specs.Steps.{IsStatus}
 use Rattle.command_outcomes.proofs.Ending.{stopped, printed-now, keeps-itself}
 use Rattle.pair_commands.proofs.graph_command.do_graph.Goals as goal
 
@@ -12,7 +13,7 @@ returns-in_err-text g c = λ left reads.
     let before : Outside = record { files = F.files a.shelf.now; loads = F.load_faults a.shelf.now; stores = F.store_faults a.shelf.now; left = left; reads = reads; taken = K.taken a.out.now; writes = K.faults a.out.now } in
     let after : Outside = record { files = F.files shelf; loads = F.load_faults shelf; stores = F.store_faults shelf; left = left; reads = reads; taken = K.taken a.out.now; writes = K.faults a.out.now } in
     let step = c.in_err-text.ensures in
-    rw (p.1, p.2) (stopped (Graphs before.files a.source.now a.options.max_path) before after c.in_err-text.field-0.0 step.files step.stores (keeps-itself left) refl (keeps-itself before.taken) refl step.answer)
+    rw (p.1, p.2) (stopped IsStatus (Graphs before.files a.source.now a.options.max_path) before after c.in_err-text.field-0.0 step.files step.stores (keeps-itself left) refl (keeps-itself before.taken) refl step.answer)
 
 pub returns : goal.returns
 returns g c = λ left reads.

@@ -3,10 +3,11 @@ use Rattle.std.specs.String.{string_bytes}
 use Rattle.command_words.specs.WordList.{request_of}
 use Rattle.command_words.specs.declared.commands.WordsError.{WordsError}
 use Rattle.command_outcomes.specs.declared.stops.Cause.TheVariants.{Usage}
-use Rattle.capriccio_commands.specs.Due.{Does, IsDue}
+use Rattle.capriccio_call.specs.Due.{Does, IsDue}
 use Rattle.command_outcomes.specs.Done.{Outside}
 use Rattle.command_outcomes.proofs.Ending.{ends-follow, refused-at-once, memory-at-once}
-use Rattle.capriccio_commands.proofs.commands.do_words.Goals as goal
+use Rattle.capriccio_commands.specs.Ends.{IsEnd}
+use Rattle.capriccio_call.proofs.dispatch.do_words.Goals as goal
 
 pub do_command-requires : goal.do_command-requires
 do_command-requires g c = (map (λ word. string_bytes word) c.args.words.now.items, c.in-Ok.ensures.read)
@@ -17,7 +18,7 @@ returns-in-Ok g c =
     let F = g.F.Shelf in let S = g.S.Source in let K = g.K.Sink in
     let a = c.args in
     let before : Outside = record { files = F.files a.shelf.now; loads = F.load_faults a.shelf.now; stores = F.store_faults a.shelf.now; left = S.left a.trace.now; reads = S.faults a.trace.now; taken = K.taken a.out.now; writes = K.faults a.out.now } in
-    ends-follow (Does request before) (IsDue (map (λ word. string_bytes word) a.words.now.items) before) _ _ c.do_command.result (λ o h. inl (request, c.in-Ok.ensures.read, h)) c.do_command.ensures
+    ends-follow IsEnd (Does request before) (IsDue (map (λ word. string_bytes word) a.words.now.items) before) _ _ c.do_command.result (λ o h. inl (request, c.in-Ok.ensures.read, h)) c.do_command.ensures
 
 pub returns-in-Err-NotWords : goal.returns-in-Err-NotWords
 returns-in-Err-NotWords g c =
@@ -25,11 +26,11 @@ returns-in-Err-NotWords g c =
     let a = c.args in
     let before : Outside = record { files = F.files a.shelf.now; loads = F.load_faults a.shelf.now; stores = F.store_faults a.shelf.now; left = S.left a.trace.now; reads = S.faults a.trace.now; taken = K.taken a.out.now; writes = K.faults a.out.now } in
     let none = c.in-Err-NotWords.ensures.refused (ap (λ (e : WordsError). Err e) c.in-Err-NotWords.field-0-is) in
-    refused-at-once (IsDue (map (λ word. string_bytes word) a.words.now.items) before) before Usage (inr (none, refl))
+    refused-at-once IsEnd (IsDue (map (λ word. string_bytes word) a.words.now.items) before) before Usage (inr (none, refl))
 
 pub returns-in-Err-Memory : goal.returns-in-Err-Memory
 returns-in-Err-Memory g c =
     let F = g.F.Shelf in let S = g.S.Source in let K = g.K.Sink in
     let a = c.args in
     let before : Outside = record { files = F.files a.shelf.now; loads = F.load_faults a.shelf.now; stores = F.store_faults a.shelf.now; left = S.left a.trace.now; reads = S.faults a.trace.now; taken = K.taken a.out.now; writes = K.faults a.out.now } in
-    memory-at-once (IsDue (map (λ word. string_bytes word) a.words.now.items) before) before
+    memory-at-once IsEnd (IsDue (map (λ word. string_bytes word) a.words.now.items) before) before

@@ -1,16 +1,23 @@
-use Rattle.std.proofs.Common.{sym, subst}
+use Rattle.std.proofs.Common.{Result, sym, subst}
 use Rattle.codegen_link.specs.declared.options.Options.{Options}
 use Rattle.command_words.specs.declared.commands.Command.{Command}
 use Rattle.command_words.specs.WordList.{request_of}
 use Rattle.pair_commands.specs.BuildsFiles.{Builds}
 use Rattle.command_outcomes.specs.Done.{Outside}
-use Rattle.capriccio_commands.specs.Due.{Does}
+use Rattle.capriccio_call.specs.Due.{Does}
 use Rattle.command_options.specs.Options.{sizes_of}
 use Rattle.pair_commands.specs.Graphs.{Graphs}
+use Rattle.pair_commands.specs.Checks.{Checks}
+use Rattle.pair_commands.specs.Budgets.{Budgets}
+use Rattle.command_audit.specs.Audits.{Audits}
+use Rattle.command_outcomes.specs.declared.stops.Stop.{Stop}
+use Rattle.capriccio_commands.specs.declared.ended.Ended.{Ended}
 use Rattle.pair_commands.specs.Runs.{Serves}
-use Rattle.command_outcomes.specs.Steps.{EndsAs}
+use Rattle.command_outcomes.specs.Steps.{EndsAs, IsStatus}
+use Rattle.capriccio_call.proofs.Handed.{ends-without}
 use Rattle.command_options.proofs.Options.{audit-options, build-sizes, serve-sizes, serve-policy, serve-pool, run-policy}
-use Rattle.capriccio_commands.proofs.commands.do_command.Goals as goal
+use Rattle.capriccio_commands.specs.Ends.{IsEnd}
+use Rattle.capriccio_call.proofs.dispatch.do_command.Goals as goal
 
 pub do_build-requires : goal.do_build-requires
 do_build-requires g c =
@@ -42,26 +49,28 @@ returns-in-Graph g c =
     let F = g.F.Shelf in let S = g.S.Source in let K = g.K.Sink in let a = c.args in
     let before : Outside = record { files = F.files a.shelf.now; loads = F.load_faults a.shelf.now; stores = F.store_faults a.shelf.now; left = S.left a.trace.now; reads = S.faults a.trace.now; taken = K.taken a.out.now; writes = K.faults a.out.now } in
     let after : Outside = record { files = F.files c.do_graph.new.shelf; loads = F.load_faults c.do_graph.new.shelf; stores = F.store_faults c.do_graph.new.shelf; left = S.left a.trace.now; reads = S.faults a.trace.now; taken = K.taken c.do_graph.new.out; writes = K.faults c.do_graph.new.out } in
-    let P : Options → Type 0 = λ o. EndsAs (Graphs before.files c.in-Graph.source.now o.max_path) before after c.do_graph.result in
-    let Q : Command → Type 0 = λ x. EndsAs (Does (request_of x) before) before after c.do_graph.result in
-    let done : P (sizes_of c.in-Graph.placement) = subst P c.options_of.ensures (c.do_graph.ensures before.left before.reads) in
-    subst Q (sym c.in-Graph.is) done
+    let R : Options → Type 0 = λ o. EndsAs IsStatus (Graphs before.files c.in-Graph.source.now o.max_path) before after c.do_graph.result in
+    let done : R (sizes_of c.in-Graph.placement) = subst R c.options_of.ensures (c.do_graph.ensures before.left before.reads) in
+    let Q : Command → Type 0 = λ x. EndsAs IsEnd (Does (request_of x) before) before after c.ended_without_world.result in
+    let P : Result Ended Stop → Type 0 = λ r. EndsAs IsEnd (Graphs before.files c.in-Graph.source.now c.in-Graph.placement.max_path) before after r in
+    subst Q (sym c.in-Graph.is) (subst P (sym c.ended_without_world.ensures) (ends-without (Graphs before.files c.in-Graph.source.now c.in-Graph.placement.max_path) before after c.do_graph.result done))
 
 pub returns-in-Check : goal.returns-in-Check
 returns-in-Check g c =
     let F = g.F.Shelf in let S = g.S.Source in let K = g.K.Sink in let a = c.args in
     let before : Outside = record { files = F.files a.shelf.now; loads = F.load_faults a.shelf.now; stores = F.store_faults a.shelf.now; left = S.left a.trace.now; reads = S.faults a.trace.now; taken = K.taken a.out.now; writes = K.faults a.out.now } in
     let after : Outside = record { files = F.files c.do_check.new.shelf; loads = F.load_faults c.do_check.new.shelf; stores = F.store_faults c.do_check.new.shelf; left = S.left a.trace.now; reads = S.faults a.trace.now; taken = K.taken c.do_check.new.out; writes = K.faults c.do_check.new.out } in
-    let Q : Command → Type 0 = λ x. EndsAs (Does (request_of x) before) before after c.do_check.result in
-    subst Q (sym c.in-Check.is) (c.do_check.ensures before.left before.reads)
+    let Q : Command → Type 0 = λ x. EndsAs IsEnd (Does (request_of x) before) before after c.ended_without_world-in-Check.result in
+    let P : Result Ended Stop → Type 0 = λ r. EndsAs IsEnd (Checks before.files c.in-Check.source.now c.in-Check.image.now c.in-Check.certificate.now) before after r in
+    subst Q (sym c.in-Check.is) (subst P (sym c.ended_without_world-in-Check.ensures) (ends-without (Checks before.files c.in-Check.source.now c.in-Check.image.now c.in-Check.certificate.now) before after c.do_check.result (c.do_check.ensures before.left before.reads)))
 
 pub returns-in-Serve : goal.returns-in-Serve
 returns-in-Serve g c =
     let F = g.F.Shelf in let S = g.S.Source in let K = g.K.Sink in let a = c.args in
     let before : Outside = record { files = F.files a.shelf.now; loads = F.load_faults a.shelf.now; stores = F.store_faults a.shelf.now; left = S.left a.trace.now; reads = S.faults a.trace.now; taken = K.taken a.out.now; writes = K.faults a.out.now } in
     let after : Outside = record { files = F.files c.serve.new.shelf; loads = F.load_faults c.serve.new.shelf; stores = F.store_faults c.serve.new.shelf; left = S.left c.serve.new.trace; reads = S.faults c.serve.new.trace; taken = K.taken c.serve.new.out; writes = K.faults c.serve.new.out } in
-    let P : Options → Type 0 = λ o. EndsAs (Serves before.files before.left c.in-Serve.source.now o c.in-Serve.policy) before after c.serve.result in
-    let Q : Command → Type 0 = λ x. EndsAs (Does (request_of x) before) before after c.serve.result in
+    let P : Options → Type 0 = λ o. EndsAs IsEnd (Serves before.files before.left c.in-Serve.source.now o c.in-Serve.policy) before after c.serve.result in
+    let Q : Command → Type 0 = λ x. EndsAs IsEnd (Does (request_of x) before) before after c.serve.result in
     let done : P (sizes_of c.in-Serve.placement) = subst P c.options_of-in-Serve.ensures (c.serve.ensures) in
     subst Q (sym c.in-Serve.is) done
 
@@ -70,7 +79,7 @@ returns-in-Run g c =
     let F = g.F.Shelf in let S = g.S.Source in let K = g.K.Sink in let a = c.args in
     let before : Outside = record { files = F.files a.shelf.now; loads = F.load_faults a.shelf.now; stores = F.store_faults a.shelf.now; left = S.left a.trace.now; reads = S.faults a.trace.now; taken = K.taken a.out.now; writes = K.faults a.out.now } in
     let after : Outside = record { files = F.files c.run_pair.new.shelf; loads = F.load_faults c.run_pair.new.shelf; stores = F.store_faults c.run_pair.new.shelf; left = S.left c.run_pair.new.trace; reads = S.faults c.run_pair.new.trace; taken = K.taken c.run_pair.new.out; writes = K.faults c.run_pair.new.out } in
-    let Q : Command → Type 0 = λ x. EndsAs (Does (request_of x) before) before after c.run_pair.result in
+    let Q : Command → Type 0 = λ x. EndsAs IsEnd (Does (request_of x) before) before after c.run_pair.result in
     subst Q (sym c.in-Run.is) (c.run_pair.ensures)
 
 pub returns-in-Build : goal.returns-in-Build
@@ -78,10 +87,11 @@ returns-in-Build g c =
     let F = g.F.Shelf in let S = g.S.Source in let K = g.K.Sink in let a = c.args in
     let before : Outside = record { files = F.files a.shelf.now; loads = F.load_faults a.shelf.now; stores = F.store_faults a.shelf.now; left = S.left a.trace.now; reads = S.faults a.trace.now; taken = K.taken a.out.now; writes = K.faults a.out.now } in
     let after : Outside = record { files = F.files c.do_build.new.shelf; loads = F.load_faults c.do_build.new.shelf; stores = F.store_faults c.do_build.new.shelf; left = S.left a.trace.now; reads = S.faults a.trace.now; taken = K.taken c.do_build.new.out; writes = K.faults c.do_build.new.out } in
-    let P : Options → Type 0 = λ o. EndsAs (Builds before.files c.in-Build.source.now c.in-Build.image.now c.in-Build.certificate.now o) before after c.do_build.result in
-    let Q : Command → Type 0 = λ x. EndsAs (Does (request_of x) before) before after c.do_build.result in
-    let done : P (sizes_of c.in-Build.placement) = subst P c.options_of-in-Build.ensures (c.do_build.ensures before.left before.reads) in
-    subst Q (sym c.in-Build.is) done
+    let R : Options → Type 0 = λ o. EndsAs IsStatus (Builds before.files c.in-Build.source.now c.in-Build.image.now c.in-Build.certificate.now o) before after c.do_build.result in
+    let done : R (sizes_of c.in-Build.placement) = subst R c.options_of-in-Build.ensures (c.do_build.ensures before.left before.reads) in
+    let Q : Command → Type 0 = λ x. EndsAs IsEnd (Does (request_of x) before) before after c.ended_without_world-in-Build.result in
+    let P : Result Ended Stop → Type 0 = λ r. EndsAs IsEnd (Builds before.files c.in-Build.source.now c.in-Build.image.now c.in-Build.certificate.now (sizes_of c.in-Build.placement)) before after r in
+    subst Q (sym c.in-Build.is) (subst P (sym c.ended_without_world-in-Build.ensures) (ends-without (Builds before.files c.in-Build.source.now c.in-Build.image.now c.in-Build.certificate.now (sizes_of c.in-Build.placement)) before after c.do_build.result done))
 
 pub demo-requires-clause-some : goal.demo-requires-clause-some
 demo-requires-clause-some g c =
@@ -98,7 +108,7 @@ returns-in-Demo g c =
     let F = g.F.Shelf in let S = g.S.Source in let K = g.K.Sink in let a = c.args in
     let before : Outside = record { files = F.files a.shelf.now; loads = F.load_faults a.shelf.now; stores = F.store_faults a.shelf.now; left = S.left a.trace.now; reads = S.faults a.trace.now; taken = K.taken a.out.now; writes = K.faults a.out.now } in
     let after : Outside = record { files = F.files a.shelf.now; loads = F.load_faults a.shelf.now; stores = F.store_faults a.shelf.now; left = S.left a.trace.now; reads = S.faults a.trace.now; taken = K.taken c.demo.new.out; writes = K.faults c.demo.new.out } in
-    let Q : Command → Type 0 = λ x. EndsAs (Does (request_of x) before) before after c.demo.result in
+    let Q : Command → Type 0 = λ x. EndsAs IsEnd (Does (request_of x) before) before after c.demo.result in
     subst Q (sym c.in-Demo.is) (c.demo.ensures before.files before.loads before.stores before.left before.reads)
 
 pub do_audit-requires : goal.do_audit-requires
@@ -111,13 +121,15 @@ returns-in-Audit g c =
     let F = g.F.Shelf in let S = g.S.Source in let K = g.K.Sink in let a = c.args in
     let before : Outside = record { files = F.files a.shelf.now; loads = F.load_faults a.shelf.now; stores = F.store_faults a.shelf.now; left = S.left a.trace.now; reads = S.faults a.trace.now; taken = K.taken a.out.now; writes = K.faults a.out.now } in
     let after : Outside = record { files = F.files c.do_audit.new.shelf; loads = F.load_faults c.do_audit.new.shelf; stores = F.store_faults c.do_audit.new.shelf; left = S.left c.do_audit.new.trace; reads = S.faults c.do_audit.new.trace; taken = K.taken c.do_audit.new.out; writes = K.faults c.do_audit.new.out } in
-    let Q : Command → Type 0 = λ x. EndsAs (Does (request_of x) before) before after c.do_audit.result in
-    subst Q (sym c.in-Audit.is) (c.do_audit.ensures)
+    let Q : Command → Type 0 = λ x. EndsAs IsEnd (Does (request_of x) before) before after c.ended_without_world-in-Audit.result in
+    let P : Result Ended Stop → Type 0 = λ r. EndsAs IsEnd (Audits before.files before.left c.in-Audit.source.now c.in-Audit.log.now c.in-Audit.options) before after r in
+    subst Q (sym c.in-Audit.is) (subst P (sym c.ended_without_world-in-Audit.ensures) (ends-without (Audits before.files before.left c.in-Audit.source.now c.in-Audit.log.now c.in-Audit.options) before after c.do_audit.result c.do_audit.ensures))
 
 pub returns-in-Budget : goal.returns-in-Budget
 returns-in-Budget g c =
     let F = g.F.Shelf in let S = g.S.Source in let K = g.K.Sink in let a = c.args in
     let before : Outside = record { files = F.files a.shelf.now; loads = F.load_faults a.shelf.now; stores = F.store_faults a.shelf.now; left = S.left a.trace.now; reads = S.faults a.trace.now; taken = K.taken a.out.now; writes = K.faults a.out.now } in
     let after : Outside = record { files = F.files c.do_budget.new.shelf; loads = F.load_faults c.do_budget.new.shelf; stores = F.store_faults c.do_budget.new.shelf; left = S.left a.trace.now; reads = S.faults a.trace.now; taken = K.taken c.do_budget.new.out; writes = K.faults c.do_budget.new.out } in
-    let Q : Command → Type 0 = λ x. EndsAs (Does (request_of x) before) before after c.do_budget.result in
-    subst Q (sym c.in-Budget.is) (c.do_budget.ensures before.left before.reads)
+    let Q : Command → Type 0 = λ x. EndsAs IsEnd (Does (request_of x) before) before after c.ended_without_world-in-Budget.result in
+    let P : Result Ended Stop → Type 0 = λ r. EndsAs IsEnd (Budgets before.files c.in-Budget.source.now c.in-Budget.image.now c.in-Budget.certificate.now) before after r in
+    subst Q (sym c.in-Budget.is) (subst P (sym c.ended_without_world-in-Budget.ensures) (ends-without (Budgets before.files c.in-Budget.source.now c.in-Budget.image.now c.in-Budget.certificate.now) before after c.do_budget.result (c.do_budget.ensures before.left before.reads)))
