@@ -21,5 +21,4 @@ mod scores;
 
 pub use choices::Choice;
 pub use eligibility::may_go_on;
-pub use finding::bounds_at_gate;
 pub use scheduler::Scheduler;

@@ -1,6 +1,5 @@
 pub mod OrderLemmas
 pub mod ClientLemmas
-pub mod RowLemmas
 pub mod SearchLemmas
 pub mod SpreadLemmas
 pub mod StateLemmas

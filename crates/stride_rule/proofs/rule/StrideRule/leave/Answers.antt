@@ -1,19 +1,5 @@
-use Rattle.std.proofs.Common.{subst, sym}
-use Rattle.stride_rule.specs.State.{IsKept}
-use Rattle.stride_rule.proofs.StateLemmas.{as_left, kept_after_leaving}
+use Rattle.stride_rule.proofs.StateLemmas.{kept_after_leaving}
 use Rattle.stride_rule.proofs.rule.StrideRule.leave.Goals as goal
 
-pub take_out-requires : goal.take_out-requires
-take_out-requires c = record { once = c.self.invariant.once }
-
 pub invariant_of-self : goal.invariant_of-self
-invariant_of-self c =
-    let clients = c.take_out.ensures.clients in
-    let needs = c.take_out.ensures.needs in
-    subst IsKept (sym (as_left _ c.self.invariant c.args.thread.number _ _ clients needs)) (kept_after_leaving _ c.args.thread.number c.self.invariant)
-
-pub returns : goal.returns
-returns c =
-    let clients = c.take_out.ensures.clients in
-    let needs = c.take_out.ensures.needs in
-    rw (← c.self.view_is) (as_left _ c.self.invariant c.args.thread.number _ _ clients needs)
+invariant_of-self c = rw c.take_out.ensures (kept_after_leaving _ c.args.thread.number c.self.invariant)

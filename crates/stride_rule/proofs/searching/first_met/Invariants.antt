@@ -1,7 +1,0 @@
-use Rattle.std.proofs.Common.{◌≡◌, drop, None}
-use Rattle.stride_rule.specs.Search.{met_among}
-use Rattle.stride_rule.proofs.searching.first_met.Given as goal
-
--- the first so far, with the places that are left, gives the first
-abbrev pub invariant-loop-place : goal.invariant-loop-place
-invariant-loop-place l = met_among l.bounds l.best (drop l.place-index l.places) ≡ met_among l.bounds None l.places
