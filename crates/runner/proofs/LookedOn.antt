@@ -15,7 +15,6 @@ use Rattle.run_course.specs.declared.course.Under.{Under}
 use Rattle.run_course.specs.declared.ends.Failure.{Failure}
 use Rattle.run_course.specs.declared.ends.Halt.{Halt}
 use Rattle.run_course.specs.declared.looking.Looked.{Looked}
-use Rattle.run_course.specs.declared.looking.Next.{Next}
 use Rattle.run_course.specs.Counts.{CountsLook, CountsPart, CountsStep}
 use Rattle.run_course.specs.Kept.{Kept}
 use Rattle.run_course.specs.Output.{Output}
