@@ -91,7 +91,7 @@ function sized(canvas, width, height) {
 }
 
 // One row: a wait in the colour of its place, a segment in ink. Where several segments begin within a pixel, the ink is as
-// strong as the share of time that they run.
+// strong as the share of time that they run, over the colour of the first wait there.
 function drawRow(context, row, y, width, ink) {
   const scale = width / (to - from), x = (time) => LABEL + (time - from) * scale;
   let index = Math.max(above(row.start, from) - 1, 0);
@@ -108,10 +108,15 @@ function drawRow(context, row, y, width, ink) {
     }
     const right = Math.min(x(row.end[last]), LABEL + width);
     if (right > LABEL) {
-      const share = next - index > 1 ? (row.busy[next] - row.busy[index]) / Math.max(row.end[last] - row.start[index], tick) : 1;
+      const isMany = next - index > 1, begin = isMany ? Math.floor(left) : left, wide = isMany ? Math.floor(right) - begin : right - begin;
+      if (isMany && row.node[index] > 1) {
+        context.fillStyle = colour(row.node[index]);
+        context.fillRect(begin, y + 4, Math.max(wide, 1), ROW - 8);
+      }
+      const share = isMany ? (row.busy[next] - row.busy[index]) / Math.max(row.end[last] - row.start[index], tick) : 1;
       context.globalAlpha = Math.max(Math.min(share, 1), 0.15);
       context.fillStyle = ink;
-      context.fillRect(left, y + 2, Math.max(right - left, 1), ROW - 4);
+      context.fillRect(begin, y + 2, Math.max(wide, 1), ROW - 4);
       context.globalAlpha = 1;
     }
     index = next;
@@ -365,6 +370,8 @@ $("find").onsubmit = (event) => {
   $("logList").focus();
   logList.go(0, false);
 };
+
+if (run.leftOut) document.querySelector("h1 small").append(`; this page has the first ${shown(lines.length)} lines of the log, and ${shown(run.leftOut)} more are left out`);
 
 isDark.addEventListener("change", () => {
   drawLegend();
