@@ -42,7 +42,7 @@ _capriccio_report() {
         compopt -o filenames 2>/dev/null
         mapfile -t COMPREPLY < <(compgen -f -- "${COMP_WORDS[COMP_CWORD]}")
     elif [ "$place" -eq "$COMP_CWORD" ]; then
-        mapfile -t COMPREPLY < <(compgen -W "--timeline --graph --trace --folded --html --json --request --answers --from --to --log --why serve run" -- "${COMP_WORDS[COMP_CWORD]}")
+        mapfile -t COMPREPLY < <(compgen -W "--timeline --graph --trace --folded --html --json --request --answers --from --to --log --why serve run graph budget" -- "${COMP_WORDS[COMP_CWORD]}")
     else
         # The rest is as behind ./capriccio.
         COMP_WORDS=("${COMP_WORDS[0]}" "${COMP_WORDS[@]:place}")
