@@ -3,4 +3,3 @@ pub mod Counts
 pub mod Courses
 pub mod Holds
 pub mod Reasons
-pub mod Lines
