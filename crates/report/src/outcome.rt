@@ -70,7 +70,7 @@ fn show_wanted<F: Shelf, S: Source, K: Sink, E: Sink>(
     err: &mut E,
 ) -> Result<u8, Failure> {
     let _subject = subject_of(alloc, &wanted.words)?;
-    if is_analysis(alloc, &wanted.words) {
+    if wanted.log.is_none() && is_analysis(alloc, &wanted.words) {
         return show_analysis(alloc, &wanted.words, shelf, out, err);
     }
     match Trace::read(alloc, input) {
