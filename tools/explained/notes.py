@@ -43,10 +43,10 @@ BY_BEGINNING = {
 
 def of_output(given):
     """The notes where standard error took nothing: on the last line of standard output, or on the
-    numbers in it."""
+    numbers in it, which a report shows beside the text."""
     if given.status == 0:
         notes = {"graph": numbers.sites, "budget": numbers.functions}.get(given.command)
-        return notes(given) if notes and is_watched() else []
+        return notes(given) if notes and is_watched() and not given.is_report else []
     line = given.last_line()
     if given.command == "audit":
         return audits.judged(given, line)

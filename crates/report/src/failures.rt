@@ -55,7 +55,7 @@ impl Failure {
         match self {
             Failure::Words => (
                 2,
-                b"usage: report [--timeline FILE] [--graph FILE] [--log LOG] [--answers first|value] [--from CLOCK] [--to CLOCK] [--request N] [--why] [--help] serve SRC .. | run SRC IMG CRT .. | graph SRC .. | budget SRC IMG CRT\n",
+                b"usage: report [--timeline FILE] [--graph FILE] [--log LOG] [--answers first|value] [--from CLOCK] [--to CLOCK] [--request N] [--why] [--help] serve SRC .. | run SRC IMG CRT ..\n",
             ),
             Failure::Source => (3, b"report: the source is none\n"),
             Failure::Log => (4, b"report: the log is none\n"),
