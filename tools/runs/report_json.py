@@ -50,34 +50,35 @@ def place_of(text):
 
 REQUESTS = form("requests: {came} came, {dropped} dropped, {taken} taken, {answered} answered")
 LATENCY = form("latency to the {which} answer: {spread} (arrived {arrived}, thread {thread})", which="first|last", spread=".*")
-OUTPUTS = form("outputs by threads that served no request: {count}{threads}[, the others by {more} more threads]", threads=r"(?:, \d+ by thread \d+)*")
+OUTPUTS = form("outputs by threads that served no request: {count}{threads}[, the others by {more} more thread[s]]", threads=r"(?:, \d+ by thread \d+)*")
 BY_THREAD = re.compile(r"(-?\d+) by thread (\d+)")
 REQUEST = form(
     "request {number}{slowest}: {rest}", slowest="(?:, the slowest)?", rest=r"no accept took it|arrived \d+, taken by thread \d+, and its parts until when"
 )
-SHORTER = form("  {count} shorter parts: {ticks}")
+SHORTER = form("  {count} shorter part[s]: {ticks}")
 PART = form("  {what}: {ticks}, {until}", what=".*")
 PLACES = "waits by place: count, total, median, 99th, greatest"
 QUEUE = "queue, from arrival to accept"
 WAIT = form("  {what}: {spread} ([request {request}, ]thread {thread}, until {until})", what=".*", spread=r"\d+(?:, \d+){4}")
+WINDOW = form("window: the requests that arrived from {from} to {to}, and the waits, choices and segments that ended then")
 CHUNKS = form("chunks: at most {most_held} of {of} held between segments")
 CHOICES = form("choices: {count}[, by score {by_score}, by the gate {by_gate}, by turn {by_turn}]")
-GATE = form("gate: closed {times} times, for {ticks} ticks in all[, held a request back at {held_back} choices]{end}", end="(?:, closed at the end)?")
-NEVER_RAN = form("left: {count} threads that never ran")
-MORE_LEFT = form("left: {count} more threads")
+GATE = form("gate: closed {times} time[s], for {ticks} tick[s] in all[, held a request back at {held_back} choice[s]]{end}", end="(?:, closed at the end)?")
+NEVER_RAN = form("left: {count} thread[s] that never ran")
+MORE_LEFT = form("left: {count} more thread[s]")
 LEFT = form(
     "left: thread {thread}{how}[, went past {passed} at {passed_at}]", how=r", whose segment was cut| waits at .* since \d+(?:: \w+\([-0-9, ]*\))?", passed=".*"
 )
 BLOCKED = form(" waits at {place} since {since}[: {values}]", place=".*", values=r"\w+\([-0-9, ]*\)")
 RESOURCE = form(
-    "resource {resource}: {used} of {cap} in use{holders}[, the others by {more} more threads]", holders=r"(?:: -?\d+ by thread \d+(?:, -?\d+ by thread \d+)*)?"
+    "resource {resource}: {used} of {cap} in use{holders}[, the others by {more} more thread[s]]", holders=r"(?:: -?\d+ by thread \d+(?:, -?\d+ by thread \d+)*)?"
 )
 STOPPED = form(
     "stopped: thread {thread}{where}[: {why}][, at {places}][: {values}]",
     where=r"(?: in (?:\w+|function \d+)| behind its last return)?", why=".*?", places=r".+?:\d+:\d+ .+?|site \d+", values=r"\w+\([-0-9, ]*\)",
 )
 INDEX = re.compile(r"index (-?\d+) of (\d+) (words|members)")
-MORE_PLACES = re.compile(r"(?P<places>.*?)(?: or at (?P<more>\d+) more places)?")
+MORE_PLACES = re.compile(r"(?P<places>.*?)(?: or at (?P<more>\d+) more places?)?")
 CALLED_AT = form("  called at {place}", place=".*")
 MORE_CALLS = "  and by more calls above"
 
@@ -87,12 +88,12 @@ class Report:
 
     def __init__(self):
         self.value = {
-            "log_fits": True, "circles": [], "answers": "own", "requests": None, "latency": {"first": None, "last": None}, "other_outputs": None, "request": None,
+            "log_fits": True, "circles": [], "window": None, "answers": "own", "requests": None, "latency": {"first": None, "last": None}, "other_outputs": None, "request": None,
             "waits": [], "chunks": None, "choices": None, "gate": None, "left": [], "more_left": 0, "never_ran": 0, "resources": [], "stopped": None, "stop": None,
             "other": [],
         }
         self.lines = [
-            (REQUESTS, self.requests), (LATENCY, self.latency), (OUTPUTS, self.outputs), (REQUEST, self.request), (CHUNKS, self.numbers("chunks")),
+            (WINDOW, self.numbers("window")), (REQUESTS, self.requests), (LATENCY, self.latency), (OUTPUTS, self.outputs), (REQUEST, self.request), (CHUNKS, self.numbers("chunks")),
             (CHOICES, self.numbers("choices")), (GATE, self.gate), (NEVER_RAN, self.count("never_ran")), (MORE_LEFT, self.count("more_left")), (LEFT, self.left),
             (RESOURCE, self.resource), (STOPPED, self.stopped), (re.compile("circle: (.*)"), self.circle), (re.compile("stop (.*)"), self.stop),
         ]
@@ -137,6 +138,7 @@ class Report:
 
     def part(self, found):
         kind, _, place = found["what"].partition(" at ")
+        kind = "others" if kind == "until another thread answers" else kind
         part = {"kind": kind, "ticks": int(found["ticks"]), "until": int(found["until"])}
         self.value["request"]["parts"].append(part | ({"place": place_of(place)} if place else {}))
 
