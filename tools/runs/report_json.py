@@ -61,6 +61,7 @@ WINDOW = form("window: the requests that arrived from {from} to {to}, and the wa
 PLACES = "waits by place: count, total, median, 99th, greatest"
 QUEUE = "queue, from arrival to accept"
 WAIT = form("  {what}: {spread} ([request {request}, ]thread {thread}, until {until})", what=".*", spread=r"\d+(?:, \d+){4}")
+WINDOW = form("window: the requests that arrived from {from} to {to}, and the waits, choices and segments that ended then")
 CHUNKS = form("chunks: at most {most_held} of {of} held between segments")
 CHOICES = form("choices: {count}[, by score {by_score}, by the gate {by_gate}, by turn {by_turn}]")
 GATE = form("gate: closed {times} time[s], for {ticks} tick[s] in all[, held a request back at {held_back} choice[s]]{end}", end="(?:, closed at the end)?")
@@ -78,7 +79,7 @@ STOPPED = form(
     where=r"(?: in (?:\w+|function \d+)| behind its last return)?", why=".*?", places=r".+?:\d+:\d+ .+?|site \d+", values=r"\w+\([-0-9, ]*\)",
 )
 INDEX = re.compile(r"index (-?\d+) of (\d+) (words|members)")
-MORE_PLACES = re.compile(r"(?P<places>.*?)(?: or at (?P<more>\d+) more places)?")
+MORE_PLACES = re.compile(r"(?P<places>.*?)(?: or at (?P<more>\d+) more places?)?")
 CALLED_AT = form("  called at {place}", place=".*")
 MORE_CALLS = "  and by more calls above"
 
@@ -138,6 +139,7 @@ class Report:
 
     def part(self, found):
         kind, _, place = found["what"].partition(" at ")
+        kind = "others" if kind == "until another thread answers" else kind
         part = {"kind": kind, "ticks": int(found["ticks"]), "until": int(found["until"])}
         self.value["request"]["parts"].append(part | ({"place": place_of(place)} if place else {}))
 
