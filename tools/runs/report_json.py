@@ -61,7 +61,6 @@ WINDOW = form("window: the requests that arrived from {from} to {to}, and the wa
 PLACES = "waits by place: count, total, median, 99th, greatest"
 QUEUE = "queue, from arrival to accept"
 WAIT = form("  {what}: {spread} ([request {request}, ]thread {thread}, until {until})", what=".*", spread=r"\d+(?:, \d+){4}")
-WINDOW = form("window: the requests that arrived from {from} to {to}, and the waits, choices and segments that ended then")
 CHUNKS = form("chunks: at most {most_held} of {of} held between segments")
 CHOICES = form("choices: {count}[, by score {by_score}, by the gate {by_gate}, by turn {by_turn}]")
 GATE = form("gate: closed {times} time[s], for {ticks} tick[s] in all[, held a request back at {held_back} choice[s]]{end}", end="(?:, closed at the end)?")

@@ -23,8 +23,8 @@ request 5, the slowest: arrived 10, taken by thread 1, and its parts until when
   queue: 40, 50
   runs: 10, 60
   waits at a b/x:1.c:16:5 take in worker: 500, 560
-  until another thread answers: 40, 600
   1 shorter part: 12
+  until another thread answers: 40, 600
 waits by place: count, total, median, 99th, greatest
   queue, from arrival to accept: 3, 171, 59, 72, 72 (request 3, thread 3, until 192)
   site 8: 2, 23, 0, 23, 23 (thread 2, until 202)
@@ -84,8 +84,6 @@ def first_lines(value):
         yield "circle: " + "".join(f"thread {it['thread']} → resource {it['resource']} → " for it in circle) + f"thread {circle[0]['thread']}"
     if not value["log_fits"]:
         yield report_json.FOREIGN
-    if it := value["window"]:
-        yield "window: the requests that arrived from {from} to {to}, and the waits, choices and segments that ended then".format(**it)
     yield from [line for line, pairing in report_json.PAIRINGS.items() if pairing == value["answers"]]
     if it := value["window"]:
         yield "window: the requests that arrived from {from} to {to}, and the waits, choices and segments that ended then".format(**it)
