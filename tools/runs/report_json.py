@@ -78,7 +78,7 @@ STOPPED = form(
     where=r"(?: in (?:\w+|function \d+)| behind its last return)?", why=".*?", places=r".+?:\d+:\d+ .+?|site \d+", values=r"\w+\([-0-9, ]*\)",
 )
 INDEX = re.compile(r"index (-?\d+) of (\d+) (words|members)")
-MORE_PLACES = re.compile(r"(?P<places>.*?)(?: or at (?P<more>\d+) more places)?")
+MORE_PLACES = re.compile(r"(?P<places>.*?)(?: or at (?P<more>\d+) more places?)?")
 CALLED_AT = form("  called at {place}", place=".*")
 MORE_CALLS = "  and by more calls above"
 
@@ -138,6 +138,7 @@ class Report:
 
     def part(self, found):
         kind, _, place = found["what"].partition(" at ")
+        kind = "others" if kind == "until another thread answers" else kind
         part = {"kind": kind, "ticks": int(found["ticks"]), "until": int(found["until"])}
         self.value["request"]["parts"].append(part | ({"place": place_of(place)} if place else {}))
 

@@ -23,8 +23,8 @@ request 5, the slowest: arrived 10, taken by thread 1, and its parts until when
   queue: 40, 50
   runs: 10, 60
   waits at a b/x:1.c:16:5 take in worker: 500, 560
-  until another thread answers: 40, 600
   1 shorter part: 12
+  until another thread answers: 40, 600
 waits by place: count, total, median, 99th, greatest
   queue, from arrival to accept: 3, 171, 59, 72, 72 (request 3, thread 3, until 192)
   site 8: 2, 23, 0, 23, 23 (thread 2, until 202)
@@ -60,8 +60,13 @@ def place(it):
     return f"{it['file']}:{it['line']}:{it['column']} {it.get('text', it['name'])}" + (f" in {it['function']}" if "function" in it else "")
 
 
+def counted(number, noun):
+    """A number and its noun."""
+    return f"{number} {noun}" + "s" * (number != 1)
+
+
 def listed(items, form, more, unit):
-    return "".join([", ".join(form.format(**it) for it in items), f", the others by {more} more {unit}" if more else ""])
+    return "".join([", ".join(form.format(**it) for it in items), f", the others by {counted(more, unit)}" if more else ""])
 
 
 def plural(text):
@@ -88,7 +93,7 @@ def first_lines(value):
             ranks = ", ".join(f"{name} {it[name]}" for name in report_json.SPREAD)
             yield f"latency to the {which} answer: {ranks} (arrived {it['arrived']}, thread {it['thread']})"
     if it := value["other_outputs"]:
-        yield f"outputs by threads that served no request: {it['count']}, " + listed(it["threads"], "{outputs} by thread {thread}", it["more_threads"], "threads")
+        yield f"outputs by threads that served no request: {it['count']}, " + listed(it["threads"], "{outputs} by thread {thread}", it["more_threads"], "more thread")
 
 
 def request_lines(value):
@@ -96,10 +101,13 @@ def request_lines(value):
     if it:
         head = f"request {it['number']}" + ", the slowest" * it["is_slowest"]
         yield f"{head}: arrived {it['arrived']}, taken by thread {it['thread']}, and its parts until when" if "parts" in it else f"{head}: no accept took it"
-        for part in it.get("parts", ()):
+        parts = it.get("parts", ())
+        for part in [each for each in parts if each["kind"] != "others"]:
             yield f"  {part['kind']}" + (f" at {place(part['place'])}" if "place" in part else "") + f": {part['ticks']}, {part['until']}"
         if it.get("shorter"):
-            yield "  {count} shorter parts: {ticks}".format(**it["shorter"])
+            yield f"  {counted(it['shorter']['count'], 'shorter part')}: {it['shorter']['ticks']}"
+        for part in [each for each in parts if each["kind"] == "others"]:
+            yield "  until another thread answers: {ticks}, {until}".format(**part)
 
 
 def wait_lines(value):
@@ -114,8 +122,8 @@ def count_lines(value):
     by = ", by score {by_score}, by the gate {by_gate}, by turn {by_turn}" if "by_turn" in value["choices"] else ""
     yield ("choices: {count}" + by).format(**value["choices"])
     if it := value["gate"]:
-        held = f", held a request back at {it['held_back']} choices" if "held_back" in it else ""
-        yield f"gate: closed {it['times']} times, for {it['ticks']} ticks in all{held}" + ", closed at the end" * it["is_closed_at_end"]
+        held = f", held a request back at {counted(it['held_back'], 'choice')}" if "held_back" in it else ""
+        yield f"gate: closed {counted(it['times'], 'time')}, for {counted(it['ticks'], 'tick')} in all{held}" + ", closed at the end" * it["is_closed_at_end"]
 
 
 def left_lines(value):
@@ -125,18 +133,18 @@ def left_lines(value):
         line += f": {it['values']}" if "values" in it else ""
         yield line + (f", went past {place(it['went_past']['place'])} at {it['went_past']['at']}" if "went_past" in it else "")
     if value["more_left"]:
-        yield f"left: {value['more_left']} more threads"
+        yield f"left: {counted(value['more_left'], 'more thread')}"
     if value["never_ran"]:
-        yield f"left: {value['never_ran']} threads that never ran"
+        yield f"left: {counted(value['never_ran'], 'thread')} that never ran"
     for it in value["resources"]:
-        holders = ": " * bool(it["holders"]) + listed(it["holders"], "{units} by thread {thread}", it["more_holders"], "threads")
+        holders = ": " * bool(it["holders"]) + listed(it["holders"], "{units} by thread {thread}", it["more_holders"], "more thread")
         yield f"resource {it['resource']}: {it['used']} of {it['cap']} in use{holders}"
 
 
 def stop_lines(value):
     if it := value["stopped"]:
         where = " behind its last return" if it["function"] is None and "why" in it else f" in {it['function']}" if it["function"] else ""
-        places = [place(each) for each in it["places"]] + [f"at {it['more_places']} more places"] * bool(it["more_places"])
+        places = [place(each) for each in it["places"]] + [f"at {counted(it['more_places'], 'more place')}"] * bool(it["more_places"])
         line = f"stopped: thread {it['thread']}{where}" + (f": {it['why']}" if "why" in it else "") + (f", at {' or '.join(places)}" if places else "")
         yield line + (f": {it['values']}" if "values" in it else "")
         yield from [f"  called at {place(each)}" for each in it["calls"]]
@@ -167,7 +175,7 @@ class Values(unittest.TestCase):
                 self.assertEqual(plural(text_of(value)), plural(text))
 
     def test_each_line_of_the_page_on_reports_is_known(self):
-        heads = "circle|answers|requests|latency|outputs|request|waits|chunks|choices|gate|left|resource|stopped|stop"
+        heads = "circle|answers|window|requests|latency|outputs|request|waits|chunks|choices|gate|left|resource|stopped|stop"
         page = (TOP / "docs/REPORT.md").read_text()
         fenced = [line for block in re.findall(r"^```\n(.*?)^```", page, re.M | re.S) for line in block.splitlines() if re.match(rf"({heads})\b.*[: ]", line)]
         self.assertGreater(len(fenced), 20)

@@ -136,6 +136,16 @@ const TRACE_OF_RELAY: &[u8] = b"arrive 500 3\narrive 500 4\narrive 900 5\n";
 const LOG_OF_RELAY: &[u8] =
     b"run 0 0 0\nblock 0 2 10 12 1023\nrun 12 0 2\nblock 0 3 11 10 1023\nrun 22 0 3\nend 0 39 1021\nrun 61 1 0\nblock 1 4 5 10 1021\nrun 71 2 0\nblock 2 5 2<7 42 1021\nrun 113 3 0\nblock 3 6 2<9 42 1021\nevent 500 arrive 3\nevent 500 arrive 4\nrun 500 1 4\nblock 1 7 0<4 36 1021\nrun 536 1 7\nblock 1 4 5 48 1021\nrun 584 2 5\nblock 2 8 0<6 86 1021\nrun 670 2 8\nblock 2 5 2<7 80 1021\nrun 750 3 6\nout 3 6\nblock 3 6 2<9 89 1021\nrun 839 1 4\nblock 1 7 0<4 36 1021\nrun 875 1 7\nblock 1 4 5 48 1021\nevent 923 arrive 5\nrun 923 2 5\nblock 2 8 0<6 86 1021\nrun 1009 2 8\nblock 2 5 2<7 80 1021\nrun 1089 3 6\nout 3 8\nblock 3 6 2<9 89 1021\nrun 1178 1 4\nblock 1 7 0<4 36 1021\nrun 1214 1 7\nblock 1 4 5 48 1021\nrun 1262 2 5\nblock 2 8 0<6 86 1021\nrun 1348 2 8\nblock 2 5 2<7 80 1021\nrun 1428 3 6\nout 3 10\nblock 3 6 2<9 89 1021\nedge 0 2 1 3072 0 0 0 0 0\nedge 0 4 1 2560 0 0 0 0 0\nedge 0 5 1 10752 0 0 0 0 0\nedge 0 6 1 10752 0 0 0 0 0\nedge 2 3 1 2560 0 256 0 0 0\nedge 3 1 1 9984 512 0 0 256 0\nedge 4 7 3 9216 0 0 0 0 0\nedge 5 8 3 22016 0 256 -256 0 0\nedge 6 6 3 22784 0 0 0 256 -256\nedge 7 4 3 12288 0 -256 256 0 0\nedge 8 5 3 20480 0 0 0 -256 256\nstop idle\n";
 
+/// Two accounts and two tellers that wait for each other.
+const BANK: &[u8] =
+    b"// Transfers between two accounts. Each account is a resource of one unit, which a transfer holds while it changes the balance: the first\n// account first. Two transfers in opposite directions, at the same time, wait for each other for ever.\nint balances[3];\n\nvoid transfer(int from, int to, int amount) {\n  take(from, 1);\n  sleep(100);\n  take(to, 1);\n  balances[from] = balances[from] - amount;\n  balances[to] = balances[to] + amount;\n  put(balances[to]);\n  give(to, 1);\n  give(from, 1);\n}\n\nvoid teller(int n) {\n  int request;\n  while (1) {\n    request = accept();\n    transfer(request / 10, request % 10, 5);\n  }\n}\n\nint main() {\n  spawn(teller, 1);\n  spawn(teller, 2);\n  return 0;\n}\n";
+
+const TRACE_OF_BANK: &[u8] =
+    b"arrive 100 12\narrive 500 21\narrive 1000 12\narrive 1010 21\narrive 1020 12\n";
+
+const LOG_OF_BANK: &[u8] =
+    b"run 0 0 0\nend 0 31 1022\nrun 31 1 0\nblock 1 2 6 13 1022\nrun 44 2 0\nblock 2 2 6 13 1022\nevent 100 arrive 12\nrun 100 1 2\nblock 1 3 0<7 40 1022\nrun 140 1 3\nblock 1 4 1<7 6 1022\nrun 246 1 4\nblock 1 5 2<7 9 1022\nrun 255 1 5\nout 1 5\nblock 1 2 6 104 1022\nevent 500 arrive 21\nrun 500 2 2\nblock 2 3 0<7 40 1022\nrun 540 2 3\nblock 2 4 1<7 6 1022\nrun 646 2 4\nblock 2 5 2<7 9 1022\nrun 655 2 5\nout 2 0\nblock 2 2 6 104 1022\nevent 1000 arrive 12\nrun 1000 1 2\nblock 1 3 0<7 40 1022\nevent 1040 arrive 21\nevent 1040 arrive 12\nrun 1040 1 3\nblock 1 4 1<7 6 1022\nrun 1046 2 2\nblock 2 3 0<7 40 1022\nrun 1086 2 3\nblock 2 4 1<7 6 1022\nrun 1146 1 4\nblock 1 5 2<7 9 1022\nrun 1192 2 4\nblock 2 5 2<7 9 1022\nedge 0 1 1 7936 256 0 0\nedge 0 2 2 3328 0 0 0\nedge 2 3 4 10240 0 0 0\nedge 3 4 4 1536 0 200 57\nedge 4 5 4 2304 0 0 0\nedge 5 2 2 26624 0 -224 -32\nstop idle\n";
+
 const EXAMPLES: [Row<'static>; 6] = [
     (&["serve", "P"], POOL, TRACE_OF_POOL, 10, LOG_OF_POOL, NONE),
     (
@@ -283,7 +293,7 @@ const EXAMPLES_OF_SIZES: [Row<'static>; 2] = [
     ),
 ];
 
-const EXAMPLES_OF_SERVERS: [Row<'static>; 4] = [
+const EXAMPLES_OF_SERVERS: [Row<'static>; 5] = [
     (
         &["serve", "P"],
         STORE,
@@ -323,6 +333,14 @@ const EXAMPLES_OF_SERVERS: [Row<'static>; 4] = [
         TRACE_OF_RELAY,
         10,
         LOG_OF_RELAY,
+        NONE,
+    ),
+    (
+        &["serve", "P", "--caps", "1=1,2=1"],
+        BANK,
+        TRACE_OF_BANK,
+        10,
+        LOG_OF_BANK,
         NONE,
     ),
 ];

@@ -172,7 +172,8 @@ impl<'a> Course<'a> {
         match self.spells.with(in_range(self.options.marks), told) {
             Some(spells) => {
                 self.spells = spells;
-                self.counts.add(told, self.options.marks.chunks, spells);
+                let chunks = self.options.marks.chunks;
+                self.counts.add(told, chunks, spells);
                 Ok(())
             }
             None => Err(HistoryError::Count),
@@ -402,11 +403,9 @@ fn put_choices(text: &mut Text, numbers: &Numbers, course: &Course, decided: Opt
     }
     text.words("\n");
     if !course.options.has_caps {
-        put_gate(
-            text,
-            course.counts.closed(course.ended),
-            Some(course.held_back),
-        )
+        let ended = course.ended;
+        let closed = course.counts.closed(ended);
+        put_gate(text, closed, Some(course.held_back))
     } else if let (Some(known), None) = (decided, course.counts.window) {
         let counts = Counts::new(None, known.spells);
         put_gate(text, counts.closed(known.ended), None)

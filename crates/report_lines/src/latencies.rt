@@ -17,10 +17,12 @@ struct Latency {
 /// Appends the lines on requests, of which so many were dropped: how many came, were dropped, were taken and were answered, and how long that took, from a
 /// request's time in the trace to its first answer and to its last one.
 pub fn put_requests(alloc: Global, text: &mut Text, scope: Scope, dropped: u64) {
+    let arrivals = scope.numbers.arrivals.len();
+    let takes = scope.numbers.takes.len();
     let line = RequestsLine {
-        came: scope.count(scope.numbers.arrivals.len()),
+        came: scope.count(arrivals),
         dropped,
-        taken: scope.count(scope.numbers.takes.len()),
+        taken: scope.count(takes),
         answered: answered_in(scope),
     };
     text.line(&line);

@@ -12,7 +12,7 @@ returns c =
     let first : Areas = start_areas c.args.accepted.now c.args.policy in
     let is = c.in_ok-areas.ensures ∙ areas_are c.args.accepted.now c.args.policy c.image.result.now c.certificate.result.now c.in_ok-pool.pool c.image.ensures.value c.certificate.ensures c.in_ok-pool.ensures.start in
     let pool : IsPool first.pool = subst IsPool (pool_is c.args.accepted.now c.args.policy c.certificate.result.now c.in_ok-pool.pool c.certificate.ensures c.in_ok-pool.ensures.start) c.in_ok-pool.ensures.sound in
-    let words : AreWords first.globals = subst (λ (a : Areas). AreWords a.globals) (c.areas.view_is ∙ is) c.areas.invariant.0.global_words in
+    let words : AreWords first.globals = subst (λ (a : Areas). AreWords a.globals) (c.areas.view_is ∙ is) c.areas.invariant.global_words in
     record {
       areas = is;
       formed = subst (AreWellFormed (checked_of c.args.accepted.now)) (sym is) (areas_start c.args.accepted.now c.args.policy c.image.ensures.valid pool words c.sizes_law.ensures.aligned);
