@@ -4,6 +4,7 @@ import collections, io, pathlib, re, unittest
 from runs import folded, places, story
 
 TOP = pathlib.Path(__file__).resolve().parent.parent.parent
+REPORTS = sorted(it for it in TOP.glob("examples/*/report") if (it.parent / "log").exists())
 LINE = re.compile(r"[^\s;]+(;[^\s;]+)* [1-9][0-9]*\n")  # what flame graph tools read
 
 
@@ -35,7 +36,7 @@ class OfExamples(unittest.TestCase):
     def test_waits_are_those_of_the_report(self):
         """The ended waits of the report by call and function, and beside them those that are under
         way at the stop."""
-        for report in TOP.glob("examples/*/report"):
+        for report in REPORTS:
             with self.subTest(example=report.parent.name):
                 wanted = collections.Counter()
                 text = report.read_text()

@@ -8,6 +8,7 @@ from runs.story import Edge, Item, Segment
 
 TOP = pathlib.Path(__file__).resolve().parent.parent.parent
 LOGS = sorted(TOP.glob("examples/*/log*"))
+REPORTS = sorted(it for it in TOP.glob("examples/*/report") if (it.parent / "log").exists())
 
 
 def replayed(source, trace, log):
@@ -60,13 +61,13 @@ class OfExamples(unittest.TestCase):
         self.assertGreater(checked, 5)
 
     def test_the_uses_at_the_end_are_those_of_the_stored_reports(self):
-        for report in TOP.glob("examples/*/report"):
+        for report in REPORTS:
             with self.subTest(example=report.parent.name):
                 said = {int(resource): int(used) for resource, used in re.findall(r"^resource (\d+): (\d+) of", report.read_text(), re.M)}
                 self.assertEqual({resource: used for resource, used in of_example(report.parent / "log")[0].uses.items() if used}, said)
 
     def test_the_calls_at_the_end_are_those_of_the_stored_reports(self):
-        for report in TOP.glob("examples/*/report"):
+        for report in REPORTS:
             with self.subTest(example=report.parent.name):
                 blocked = of_example(report.parent / "log")[0].blocked
                 for thread, call in re.findall(r"^left: thread (\d+) waits at \S+ (\w+)\(", report.read_text(), re.M):

@@ -5,7 +5,7 @@ import pathlib, re, unittest
 from runs import figures, places, story
 
 TOP = pathlib.Path(__file__).resolve().parent.parent.parent
-REPORTS = sorted(TOP.glob("examples/*/report"))
+REPORTS = sorted(it for it in TOP.glob("examples/*/report") if (it.parent / "log").exists())
 
 
 def figures_of(folder):
