@@ -293,7 +293,7 @@ const EXAMPLES_OF_SIZES: [Row<'static>; 2] = [
     ),
 ];
 
-const EXAMPLES_OF_SERVERS: [Row<'static>; 5] = [
+const EXAMPLES_OF_SERVERS: [Row<'static>; 4] = [
     (
         &["serve", "P"],
         STORE,
@@ -335,15 +335,17 @@ const EXAMPLES_OF_SERVERS: [Row<'static>; 5] = [
         LOG_OF_RELAY,
         NONE,
     ),
-    (
-        &["serve", "P", "--caps", "1=1,2=1"],
-        BANK,
-        TRACE_OF_BANK,
-        10,
-        LOG_OF_BANK,
-        NONE,
-    ),
 ];
+
+// Two transfers in opposite directions wait for each other.
+const EXAMPLES_OF_CIRCLES: [Row<'static>; 1] = [(
+    &["serve", "P", "--caps", "1=1,2=1"],
+    BANK,
+    TRACE_OF_BANK,
+    10,
+    LOG_OF_BANK,
+    NONE,
+)];
 
 // What each server writes on its trace is its log.
 
@@ -370,4 +372,9 @@ fn examples_of_sizes_have_their_logs(rt: HostRuntime) {
 #[test]
 fn examples_of_servers_have_their_logs(rt: HostRuntime) {
     assert!(rt; all_hold(rt.alloc(), &EXAMPLES_OF_SERVERS));
+}
+
+#[test]
+fn examples_of_circles_have_their_logs(rt: HostRuntime) {
+    assert!(rt; all_hold(rt.alloc(), &EXAMPLES_OF_CIRCLES));
 }
