@@ -83,7 +83,8 @@ fn kind_of_site(facts: &[SiteFact], site: u32) -> LinkKind
     }
 }
 
-/// sites are in the order of their numbers; the work is the logarithm of their count.
+/// How the site of an operation links: plain where the operation has no site, or the certificate has no fact of it. The
+/// certificate's sites are in the order of their numbers, so the search takes the logarithm of their count.
 pub fn kind_of_operation(certificate: &Certificate, op: &Op) -> LinkKind
     requires { IsStrictlyIncreasing (fact_numbers certificate.now.sites) }
     ensures { result ≡ kind_of certificate.now op.now }

@@ -17,7 +17,7 @@ pub enum ParseError {
         /// The place of the token.
         at: u32,
     },
-    /// The call of the name there stands inside an expression.
+    /// The call of the name there stands inside an expression; of `parse_nested`, in one in the parentheses of a `for`.
     NestedCall {
         /// The place of the call's name.
         at: u32,

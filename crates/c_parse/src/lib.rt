@@ -4,7 +4,8 @@
 // `c_tree`, with names and byte places, or the first place where the tokens are no program, where more
 // than 64 constructs are open, or where a call stands inside an expression.
 //
-// `parse` is the contract for the crate above; `parse_nested` refuses such a call only in the parentheses of a `for`. Its grammar is defined in `c_grammar` and read by `grammar_reader`;
+// `parse` and `parse_nested` are the contracts for the crates above; `parse_nested` refuses such a call only in the
+// parentheses of a `for`. The grammar is defined in `c_grammar` and read by `grammar_reader`;
 // `grammar_laws` has what holds of every list of tokens. Here stands what is refused after that: calls inside expressions.
 // The rules are those of ISO/IEC 9899:2018, clauses 6.5 to 6.9, for the subset that docs/LANGUAGE.md gives.
 #![tactic(auto)]

@@ -42,7 +42,7 @@ pub enum SourceError {
         /// The place of the token.
         at: u32,
     },
-    /// A call inside an expression.
+    /// A call inside an expression; where calls inside expressions are rewritten, one in the parentheses of a `for`.
     #[error("NestedCall at {at}")]
     NestedCall {
         /// The place of the call's name.

@@ -25,7 +25,7 @@ pub fn site_numbers(alloc: Global, raw: &RawProgram) -> Result<Vec<u32>, AllocEr
     Ok(numbers)
 }
 
-// The rank of each place. Places are few above a million in a source, so a table of all of them is small.
+// The rank of each place. A source has at most 1,048,576 bytes, so a table of all places is small.
 fn ranks(alloc: Global, places: &[u32]) -> Result<Vec<u32>, AllocError>
     requires { length places.now < 2 ^ 32 }
     ensures { IfOk result (λ ns. ns.items ≡ ranks places.now) }

@@ -8,7 +8,8 @@ ghost use Rattle.grammar_places.specs.Places.{expr_places, exprs_places, optiona
 use c_tree::{RawExpr, RawItem, RawProgram, RawSimple, RawStmt};
 use std::alloc::{AllocError, Global};
 
-/// The place of the first byte of the name of each call of a source, in the order of the tree, which is the order of the text.
+/// The place of the first byte of the name of each call of a source, in the order of the tree. Of a tree that was read
+/// from a text that is the order of the text.
 pub fn places_of_calls(alloc: Global, raw: &RawProgram) -> Result<Vec<u32>, AllocError>
     ensures { IfOk result (λ ps. ps.items ≡ items_places is_call (raw_program_tree raw.now)) }
 {

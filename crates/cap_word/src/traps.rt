@@ -7,6 +7,6 @@ pub enum TrapKind {
     Table,
     /// `take` or `give` of a resource that isn't there, or of an amount out of range.
     Resource,
-    /// `wait` on a channel outside 0 to 63.
+    /// `wait` or `waitfor` on a channel outside 0 to 63.
     Channel,
 }

@@ -1,4 +1,5 @@
-// Where each rule of a valid pair fails first, but for the two that compare the needs and bounds of sites.
+// Where a rule of valid pairs fails first, of any program, image and certificate, but for V9 and V10, which compare the needs
+// and bounds of sites.
 //
 // In: a program in flat code, an image and a certificate. Out: for each of the rules V1 to V8, V11 and V12 the first place at
 // which it fails, or none: the least index in a function, or the least function and in it the least index, where the rule

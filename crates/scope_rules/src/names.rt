@@ -105,7 +105,7 @@ impl<'a> Names<'a> {
         }
     }
 
-    /// Takes names away until `length` are left.
+    /// Takes names away until `count` are left.
     pub fn leave(&mut self, count: usize)
         ensures { self.new ≡ drop (length self.old - count) self.old }
     {

@@ -1,6 +1,6 @@
 // A machine thread that stands for a source thread does so by way of a thread of flat code, and its key is the source's.
 //
-// machine_world says directly, of registers, chunks and text, when a machine thread at rest stands for a source thread
+// machine_world says directly, of registers, chunks and code, when a machine thread at rest stands for a source thread
 // (specs/StandsFor). The laws here say that it does exactly where some thread of flat code is between the two
 // (specs/Between), so that what is proved of the machine against flat code, and of flat code against the source, holds of
 // machine and source; how the thread between goes on; and that the sites of the frames in place are the key of the source
