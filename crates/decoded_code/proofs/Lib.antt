@@ -1,2 +1,3 @@
 mod Jumps
 mod MoreReady
+pub mod Pairs

@@ -4,7 +4,7 @@ use Rattle.std.specs.Prelude.{slice_get, slice_index}
 use Rattle.std.proofs.lemmas.List.{length_push}
 use Rattle.rv_code.specs.Decoding.{decoding}
 use Rattle.rv_code.specs.declared.instructions.Instr.{Instr}
-use Rattle.decoded_code.specs.Ready.{place_at, IsReadyAt, AreReady}
+use Rattle.decoded_code.specs.Ready.{place_at, IsReadyAt, AreEachReady}
 use Rattle.decoded_code.specs.declared.ready.Ready.{Ready}
 
 pushed : {X : Type 0} (xs : List X) (x y : X) (k : ℕ) → slice_get (xs ++ (x ∷ [])) k ≡ Some y → (slice_get xs k ≡ Some y) ⊎ ((k ≡ length xs) × (x ≡ y))
@@ -18,9 +18,9 @@ read_is [] at word e = absurd (cc)
 read_is (w ∷ words) zero word e = cc
 read_is (w ∷ words) (suc at) word e = read_is words at word e
 
-pub one_more : (words : List ℕ) (n place : ℕ) (old new : List Ready) (op : Ready) (found : Option Instr) → AreReady words n old → place ≡ place_at n % 2 ^ 32 → new ≡ old ++ (op ∷ []) →
-    found ≡ decoding (slice_index words n) → IsReadyAt op place found → AreReady words (n + 1) new
-one_more words n place old new op found are place_is is decoded ready = subst (AreReady words (n + 1)) (sym is) (record {
+pub one_more : (words : List ℕ) (n place : ℕ) (old new : List Ready) (op : Ready) (found : Option Instr) → AreEachReady words n old → place ≡ place_at n % 2 ^ 32 → new ≡ old ++ (op ∷ []) →
+    found ≡ decoding (slice_index words n) → IsReadyAt op place found → AreEachReady words (n + 1) new
+one_more words n place old new op found are place_is is decoded ready = subst (AreEachReady words (n + 1)) (sym is) (record {
   count_is = length_push old op ∙ ap (λ k. k + 1) are.count_is;
   each = λ at word op' fits there got. elim (pushed old op op' at got) [
     | inl h ↦ are.each at word op' fits there h

@@ -1,5 +1,5 @@
 -- What a ready operation does to the machine, and when it is that of a word of the code.
-use Rattle.std.specs.Prelude.{◌≡◌, ℕ, ◌+◌, ◌-◌, ◌*◌, ◌%◌, ◌^◌, ◌<◌, ◌==◌, Bool, not, nat_lt, if◌then◌else◌, bit_and, bit_or, bit_xor, List, length, slice_get, Option, Some, None, IfSome}
+use Rattle.std.specs.Prelude.{◌≡◌, ℕ, ◌+◌, ◌-◌, ◌*◌, ◌%◌, ◌^◌, ◌<◌, ◌==◌, Bool, true, false, not, nat_lt, if◌then◌else◌, bit_and, bit_or, bit_xor, List, length, slice_get, Option, Some, None, IfSome}
 use Rattle.cap_word.specs.Word as word
 use Rattle.rv_code.specs.Decoding.{decoding}
 use Rattle.rv_code.specs.declared.instructions.Instr.{Instr}
@@ -53,6 +53,33 @@ done_as kind.JumpTo op a b m = Some (jumps m 0 (even (word.add a op.imm)))
 done_as kind.CallTo op a b m = Some (jumps m op.rd (even (word.add a op.imm)))
 done_as kind.Bne op a b m = Some (branches_to m op.imm (not (a == b)))
 done_as kind.Bltu op a b m = Some (branches_to m op.imm (nat_lt a b))
+done_as kind.LwLw op a b m = Some (loads m op.rd (word_loaded m.bytes (word.add a op.imm)))
+done_as kind.LwSw op a b m = Some (loads m op.rd (word_loaded m.bytes (word.add a op.imm)))
+done_as kind.SwLw op a b m = Some (word_stored m (word.add a op.imm) b)
+done_as kind.AddiSw op a b m = Some (sets m op.rd (word.add a op.imm))
+
+-- an operation of the one kind does what it does as one of the other
+abbrev pub DoesAs : Kind → Kind → Type 0
+DoesAs kind other = (op : Ready) (a b : ℕ) (m : Machine) → done_as kind op a b m ≡ done_as other op a b m
+
+-- of a kind that begins a pair, the kind of the operation behind it
+abbrev pub second : Kind → Option Kind
+second kind.LwLw = Some kind.Lw
+second kind.LwSw = Some kind.Sw
+second kind.SwLw = Some kind.Lw
+second kind.AddiSw = Some kind.Sw
+second _ = None
+
+-- an operation of the one kind can stand before one of the other: where it begins a pair, that does what its second does
+abbrev pub IsBefore : Kind → Kind → Type 0
+IsBefore kind next = IfSome (second kind) (λ other. DoesAs other next)
+
+-- the kinds that begin a pair as its first instruction does: each goes on to the next word
+abbrev pub passes_on : Kind → Bool
+passes_on kind.Lw = true
+passes_on kind.Sw = true
+passes_on kind.Addi = true
+passes_on _ = false
 
 unfoldable pub done : Ready → ℕ → ℕ → Machine → Option Outcome
 done op a b m = done_as op.kind op a b m
@@ -73,6 +100,13 @@ acted (action.CallsNear place) op b m = Some (jumps m op.rd (even place))
 acted (action.Branches taken) op b m = Some (branches_to m op.imm taken)
 acted action.Steps op b m = None
 
+-- the actions that go on to the next word
+abbrev pub acts_on : Action → Bool
+acts_on (action.Sets value) = true
+acts_on (action.Loads address) = true
+acts_on (action.Stores address) = true
+acts_on _ = false
+
 -- the operation of what was decoded at a place: what it comes to is what the machine's step comes to there
 pub record IsReadyAt (op : Ready) (place : ℕ) (found : Option Instr) : Type 0 where
   pub writes : 0 < op.rd
@@ -82,6 +116,12 @@ pub record IsReadyAt (op : Ready) (place : ℕ) (found : Option Instr) : Type 0 
   pub does : (m : Machine) → m.pc ≡ place → IfSome (ready_effect op m) (λ outcome. started (decoded found) m ≡ outcome)
 
 -- the operations of so many of the code's words, each at its place; what stands beyond 2 ^ 32 is never reached
+pub record AreEachReady (words : List ℕ) (count : ℕ) (ops : List Ready) : Type 0 where
+  pub count_is : length ops ≡ count
+  pub each : (at word : ℕ) (op : Ready) → place_at at < 2 ^ 32 → slice_get words at ≡ Some word → slice_get ops at ≡ Some op → IsReadyAt op (place_at at) (decoding word)
+
+-- and where one begins a pair, the one behind it does what the pair's second does
 pub record AreReady (words : List ℕ) (count : ℕ) (ops : List Ready) : Type 0 where
   pub count_is : length ops ≡ count
   pub each : (at word : ℕ) (op : Ready) → place_at at < 2 ^ 32 → slice_get words at ≡ Some word → slice_get ops at ≡ Some op → IsReadyAt op (place_at at) (decoding word)
+  pub pairs : (at : ℕ) (op next : Ready) → slice_get ops at ≡ Some op → slice_get ops (at + 1) ≡ Some next → IsBefore op.kind next.kind

@@ -1,5 +1,5 @@
-ghost use Rattle.std.specs.Prelude.{◌≡◌, length, map, IfOk};
-ghost use Rattle.decoded_code.specs.Ready.{AreReady};
+ghost use Rattle.std.specs.Prelude.{◌≡◌, ℕ, List, length, map, IfOk};
+ghost use Rattle.decoded_code.specs.Ready.{AreEachReady, AreReady};
 ghost use Rattle.rv_code.specs.Decoding.{decoding};
 
 use crate::ready::Ready;
@@ -34,5 +34,18 @@ pub fn ready_all(alloc: Global, words: &[u32]) -> Result<Vec<Ready>, AllocError>
         ready.push(ready_at(place, decode(*word)))?;
         place = add(place, 4);
     }
+    pair_all(ready.as_mut_slice());
     Ok(ready)
+}
+
+// Gives each operation that begins a pair the kind of the pair.
+fn pair_all(ready: &mut [Ready])
+    ensures { (words : List ℕ) (count : ℕ) → AreEachReady words count ready.old → AreReady words count ready.new }
+{
+    let mut behind = 1;
+    while behind < ready.len() {
+        let kind = ready[behind - 1].kind.before(ready[behind].kind);
+        ready[behind - 1].kind = kind;
+        behind += 1;
+    }
 }

@@ -1,10 +1,11 @@
-ghost use Rattle.std.specs.Prelude.{◌≡◌};
-ghost use Rattle.decoded_code.specs.Ready.{done, acted};
+ghost use Rattle.std.specs.Prelude.{◌≡◌, ℕ, None, true};
+ghost use Rattle.decoded_code.specs.Ready.{done_as, acted, second, passes_on, acts_on, DoesAs, IsBefore};
 ghost use Rattle.rv_machine.specs.Rows.{Machine};
 
 use cap_word::{add, div, mul, rem, sll, slt, sltu, sra, sub};
 
-/// What a ready operation does, named after its instruction (RISC-V unprivileged manual, chapters "RV32I" and "M").
+/// What a ready operation does, named after its instruction (RISC-V unprivileged manual, chapters "RV32I" and "M"). One
+/// that begins a pair does what the pair's first instruction does, and tells the kind of the operation behind it.
 #[derive(Clone, Copy)]
 pub enum Kind {
     /// What the machine's step does; no other kind fits.
@@ -39,6 +40,45 @@ pub enum Kind {
     CallTo,
     Bne,
     Bltu,
+    /// LW, with LW behind it.
+    LwLw,
+    /// LW, with SW behind it.
+    LwSw,
+    /// SW, with LW behind it.
+    SwLw,
+    /// ADDI, with SW behind it.
+    AddiSw,
+}
+
+impl Kind {
+    // The kind of an operation of this kind that begins no pair.
+    fn first(self) -> Kind
+        ensures does { DoesAs result self }
+        ensures alone { second result ≡ None }
+    {
+        match self {
+            Kind::LwLw | Kind::LwSw => Kind::Lw,
+            Kind::SwLw => Kind::Sw,
+            Kind::AddiSw => Kind::Addi,
+            kind => kind,
+        }
+    }
+
+    // The kind of an operation of this kind with one of another behind it: that of a pair where the two are one.
+    pub(crate) fn before(self, next: Kind) -> Kind
+        ensures does { DoesAs result self }
+        ensures pair { IsBefore result next }
+    {
+        let first = self.first();
+        let behind = next.first();
+        match (first, behind) {
+            (Kind::Lw, Kind::Lw) => Kind::LwLw,
+            (Kind::Lw, Kind::Sw) => Kind::LwSw,
+            (Kind::Sw, Kind::Lw) => Kind::SwLw,
+            (Kind::Addi, Kind::Sw) => Kind::AddiSw,
+            _ => first,
+        }
+    }
 }
 
 /// An operation of the machine, ready to be done: an instruction whose operands need no more decoding. It takes 8 bytes.
@@ -79,16 +119,17 @@ pub enum Action {
 }
 
 impl Ready {
-    /// What it is to do, where its two registers hold `a` and `b`.
+    /// What it is to do as an operation of a kind, where its two registers hold `a` and `b`. A caller that knows the kind
+    /// of an operation names it, so that the compiler has nothing to look up.
     #[inline(always)]
-    #[tactic(auto, unfolding(crate::specs::Ready::done))]
-    pub fn action(&self, a: u32, b: u32) -> Action
-        ensures { (m : Machine) → done self.now a b m ≡ acted result self.now b m }
+    pub fn action_as(&self, kind: Kind, a: u32, b: u32) -> Action
+        ensures does { (m : Machine) → done_as kind self.now a b m ≡ acted result self.now b m }
+        ensures on { passes_on kind ≡ true → acts_on result ≡ true }
     {
-        match self.kind {
+        match kind {
             Kind::Other => Action::Steps,
             Kind::Lui => Action::Sets { value: self.imm },
-            Kind::Addi => Action::Sets {
+            Kind::Addi | Kind::AddiSw => Action::Sets {
                 value: add(a, self.imm),
             },
             Kind::Sltiu => Action::Sets {
@@ -112,10 +153,10 @@ impl Ready {
             Kind::Mul => Action::Sets { value: mul(a, b) },
             Kind::Div => Action::Sets { value: div(a, b) },
             Kind::Rem => Action::Sets { value: rem(a, b) },
-            Kind::Lw => Action::Loads {
+            Kind::Lw | Kind::LwLw | Kind::LwSw => Action::Loads {
                 address: add(a, self.imm),
             },
-            Kind::Sw => Action::Stores {
+            Kind::Sw | Kind::SwLw => Action::Stores {
                 address: add(a, self.imm),
             },
             Kind::Jump => Action::Jumps { to: self.imm },

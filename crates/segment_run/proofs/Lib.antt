@@ -10,6 +10,7 @@ pub mod Linking
 pub mod NewThread
 pub mod Owning
 pub mod Reading
+pub mod ReadyRuns
 pub mod ReadyTurns
 pub mod RegisterFiles
 pub mod Retiring

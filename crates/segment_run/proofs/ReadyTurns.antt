@@ -6,7 +6,8 @@ use Rattle.cap_word.specs.Runs as runs
 use Rattle.cap_word.specs.Word.{add}
 use Rattle.cap_word.specs.declared.faults.FaultKind.{FaultKind}
 use Rattle.cap_word.specs.declared.faults.FaultKind.TheVariants as faults
-use Rattle.decoded_code.specs.Ready.{place_at, ready_effect, branches_to, AreReady, IsReadyAt}
+use Rattle.decoded_code.specs.Ready.{place_at, done, done_as, ready_effect, branches_to, AreReady, DoesAs, IsReadyAt}
+use Rattle.decoded_code.specs.declared.ready.Kind.{Kind}
 use Rattle.decoded_code.specs.declared.ready.Ready.{Ready}
 use Rattle.flat_code.specs.WellFormed.{IsWellFormed}
 use Rattle.machine_world.specs.Areas.{Areas, with_byte}
@@ -15,7 +16,7 @@ use Rattle.machine_world.specs.Places.{Checked}
 use Rattle.rv_code.specs.Decoding.{decoding}
 use Rattle.rv_code.specs.declared.instructions.Instr.{Instr}
 use Rattle.rv_machine.specs.Bytes.{Nothing, Word, word_at, word_is_writable, with_word, with_stored}
-use Rattle.rv_machine.specs.Registers.{write}
+use Rattle.rv_machine.specs.Registers.{read, write}
 use Rattle.rv_machine.specs.Rows as rows
 use Rattle.rv_machine.specs.Rows.{Machine, Outcome, next, passes, sets, jumps, loads, found, word_loaded, word_stored, stores}
 use Rattle.rv_machine.specs.Step.{code_start, code_word, decoded, fetched, instruction_at, started, outcome}
@@ -217,3 +218,9 @@ loaded_ok bytes at word e = elim (cases_eq (at % 4) 0) [
   | inl aligned ↦ (aligned, from_found (word_at bytes at) word (sym (cond-true (at % 4 == 0) (found (word_at bytes at)) (Err faults.Misaligned) (eq-eqb (at % 4) 0 aligned)) ∙ e))
   | inr apart ↦ absurd (let both = sym (cond-false (at % 4 == 0) (found (word_at bytes at)) (Err faults.Misaligned) (ne_eqb (at % 4) 0 apart)) ∙ e in cc)
 ]
+
+-- ---- an operation as one of a kind
+
+pub by_kind : (kind : Kind) (op : Ready) (a b : ℕ) (m : Machine) → DoesAs kind op.kind → a ≡ read m.x op.rs1 → b ≡ read m.x op.rs2 → ready_effect op m ≡ done_as kind op a b m
+unfolding done
+by_kind kind op a b m does first second = (λ i. done op (sym first i) (sym second i) m) ∙ sym (does op a b m)

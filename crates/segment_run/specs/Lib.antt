@@ -11,3 +11,4 @@ pub mod Lookups
 pub mod Sources
 pub mod Walking
 pub mod ReadyTurns
+pub mod ReadyRuns

@@ -1,6 +1,7 @@
 -- What a ready operation makes of a thread.
-use Rattle.std.specs.Prelude.{◌≡◌, ℕ, ◌%◌, ◌<◌, ◌≤◌, List, Option, Some, None, IfSome}
-use Rattle.decoded_code.specs.Ready.{place_at, ready_effect}
+use Rattle.std.specs.Prelude.{◌≡◌, ℕ, ◌%◌, ◌<◌, ◌≤◌, List, Option, Some, None, IfSome, slice_get}
+use Rattle.decoded_code.specs.Ready.{place_at, ready_effect, DoesAs}
+use Rattle.decoded_code.specs.declared.ready.Kind.{Kind}
 use Rattle.decoded_code.specs.declared.ready.Ready.{Ready}
 use Rattle.rv_machine.specs.Bytes.{Stored, with_stored}
 use Rattle.rv_machine.specs.Rows.{Machine, Outcome, Goes, Asks, Fails}
@@ -18,6 +19,10 @@ pub record HasRegisters (op : Ready) : Type 0 where
 pub record IsReadyIn (code : List ℕ) (at : ℕ) (op : Ready) : Type 0 where
   pub registers : HasRegisters op
   pub does : (m : Machine) → m.pc ≡ place_at at → IfSome (ready_effect op m) (λ found. outcome code m ≡ found)
+
+-- the operation of an index does what one of a kind does
+abbrev pub IsKindAt : List Ready → ℕ → Kind → Type 0
+IsKindAt ready at kind = (op : Ready) → slice_get ready at ≡ Some op → DoesAs kind op.kind
 
 -- the machine over the areas at an index of the code
 abbrev pub machine_at : Areas → ℕ → List ℕ → Machine

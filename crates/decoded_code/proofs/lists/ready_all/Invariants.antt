@@ -1,6 +1,6 @@
 use Rattle.std.proofs.Common.{◌≡◌, ◌%◌, ◌^◌}
-use Rattle.decoded_code.specs.Ready.{AreReady, place_at}
+use Rattle.decoded_code.specs.Ready.{AreEachReady, place_at}
 use Rattle.decoded_code.proofs.lists.ready_all.Given as goal
 
 abbrev pub invariant-loop-word : goal.invariant-loop-word
-invariant-loop-word l = AreReady l.words l.word-index l.ready.items × (l.place ≡ place_at l.word-index % 2 ^ 32)
+invariant-loop-word l = AreEachReady l.words l.word-index l.ready.items × (l.place ≡ place_at l.word-index % 2 ^ 32)
