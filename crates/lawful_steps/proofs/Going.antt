@@ -6,12 +6,13 @@ use Rattle.std.proofs.lemmas.Bool.{cases_eq}
 use Rattle.cap_word.specs.declared.threads.ThreadId.{ThreadId}
 use Rattle.choice_rules.specs.Seen.{Waiter}
 use Rattle.lawful_steps.specs.Waiting.{IsPlaced}
+use Rattle.ready_tree.specs.declared.needs.Need.{Need}
 use Rattle.rule_state.specs.Strides.{StridesState, IsFirstAtNode, IsStarted, IsRejoined, stride_choice}
 use Rattle.scheduler.specs.declared.choices.Choice.{Choice}
 use Rattle.stride_rule.specs.declared.choices.StrideChoice.{StrideChoice}
 use Rattle.stride_rule.specs.declared.clients.Client.{Client}
 use Rattle.stride_rule.specs.Clients.{IsAbsent, client_of, with_growth}
-use Rattle.stride_rule.specs.State.{StrideState, new_rule, with_client, after_choice, after_segment, after_leaving, waiting_in, waiting_of}
+use Rattle.stride_rule.specs.State.{StrideState, new_rule, with_client, after_choice, after_segment_for, after_leaving, waiting_in, waiting_of}
 use Rattle.stride_rule.specs.Tickets.{stride_of}
 use Rattle.stride_rule.proofs.ClientLemmas.{once-grown, once-without, once-append}
 use Rattle.stride_rule.proofs.NotingLemmas.{waiting-none}
@@ -185,13 +186,13 @@ runner_started strides new thread other started has =
 
 -- ---- the end of a segment
 
-pub clients_rejoined : (places : List (Option ℕ)) (strides new : StridesState) (waiting : List Waiter) (thread : ThreadId) (node since : ℕ) → HasRunner strides thread → waiter_of thread.number waiting ≡ None → IsPlaced places thread →
-    IsRejoined strides new thread node → AreClients places strides waiting → AreClients places new (waiting ++ record { thread = thread.number; node = node; since = since } ∷ [])
-clients_rejoined places strides new waiting thread node since has none placed rejoined clients =
+pub clients_rejoined : (places : List (Option ℕ)) (strides new : StridesState) (waiting : List Waiter) (thread : ThreadId) (node since : ℕ) (need : Need) → HasRunner strides thread → waiter_of thread.number waiting ≡ None → IsPlaced places thread →
+    IsRejoined strides new thread node need → AreClients places strides waiting → AreClients places new (waiting ++ record { thread = thread.number; node = node; since = since } ∷ [])
+clients_rejoined places strides new waiting thread node since need has none placed rejoined clients =
     let n : ℕ = thread.number in
     let cs = strides.rule.clients in
     let w : Waiter = record { thread = n; node = node; since = since } in
-    let now : StridesState = record { rule = after_segment strides.rule; nodes = new.nodes } in
+    let now : StridesState = record { rule = after_segment_for strides.rule n need; nodes = new.nodes } in
     let waits_now : (number : ℕ) → client_of number (waiting_of now.rule) ≡ client_of number cs = λ number. ap (λ (l : List Client). client_of number l) (waiting-none cs) in
     let is : AreClients places now (waiting ++ w ∷ []) = record {
       each = λ number. by_number number n _

@@ -6,10 +6,11 @@ use Rattle.cap_word.specs.declared.threads.ThreadId.{ThreadId}
 use Rattle.choice_rules.specs.Seen.{PastChoice}
 use Rattle.choice_rules.specs.Strides.{pass_of, latest_pass}
 use Rattle.choice_rules.proofs.Strides.{pass_of-newcomer, pass_of-chosen, pass_of-other}
+use Rattle.ready_tree.specs.declared.needs.Need.{Need}
 use Rattle.stride_rule.specs.declared.choices.StrideChoice.{StrideChoice}
 use Rattle.stride_rule.specs.declared.clients.Client.{Client}
 use Rattle.stride_rule.specs.Clients.{client_of, with_growth, grown}
-use Rattle.stride_rule.specs.State.{StrideState, AreOnce, new_rule, with_client, after_choice, after_segment, after_leaving}
+use Rattle.stride_rule.specs.State.{StrideState, AreOnce, new_rule, with_client, after_choice, after_segment_for, after_leaving}
 use Rattle.stride_rule.specs.Tickets.{stride_of}
 use Rattle.stride_rule.proofs.ClientLemmas.{by_test, same_number, all_append, all-without, pass-of_client}
 use Rattle.lawful_steps.specs.Passes.{IsAtPass, HasPasses, StartedBy}
@@ -85,8 +86,8 @@ passes_first tickets = record { tickets_are = refl; latest = refl; each = tt }
 
 -- ---- the end of a segment
 
-pub passes_rejoined : (tickets : List (ℕ × ℕ)) (rule : StrideState) (taken : List PastChoice) → HasPasses tickets rule taken → HasPasses tickets (after_segment rule) taken
-passes_rejoined tickets rule taken has = record { tickets_are = has.tickets_are; latest = has.latest; each = has.each }
+pub passes_rejoined : (tickets : List (ℕ × ℕ)) (rule : StrideState) (taken : List PastChoice) (number : ℕ) (need : Need) → HasPasses tickets rule taken → HasPasses tickets (after_segment_for rule number need) taken
+passes_rejoined tickets rule taken number need has = record { tickets_are = has.tickets_are; latest = has.latest; each = has.each }
 
 pub passes_left : (tickets : List (ℕ × ℕ)) (rule : StrideState) (taken : List PastChoice) (number : ℕ) → HasPasses tickets rule taken → HasPasses tickets (after_leaving rule number) taken
 passes_left tickets rule taken number has = record {

@@ -13,11 +13,12 @@ ghost use Rattle.lawful_steps.specs.Tests.{is_blocked_at_accept};
 ghost use Rattle.lawful_steps.specs.Waiting.{AreWaiting, IsPlaced, IsWaiting};
 ghost use Rattle.machine_world.specs.Runs.{advanced, may_run};
 ghost use Rattle.machine_world.specs.StandsForWorld.{StandsForWorld};
+ghost use Rattle.ready_tree.specs.declared.needs.Need.{Need as NeedOf};
 ghost use Rattle.rule_state.specs.Strides.{IsChoiceByStrides, IsRejoined, IsStarted, StridesState};
 ghost use Rattle.scheduler.specs.LawfulChoice.{is_eligible};
 ghost use Rattle.scheduler.specs.declared.choices.Choice.{Choice};
 ghost use Rattle.stride_rule.specs.Clients.{client_of};
-ghost use Rattle.stride_rule.specs.State.{AreOnce, StrideState, after_choice, after_leaving, after_segment, with_client};
+ghost use Rattle.stride_rule.specs.State.{AreOnce, StrideState, after_choice, after_leaving, after_segment_for, with_client};
 ghost use Rattle.stride_rule.specs.declared.choices.StrideChoice.{StrideChoice};
 ghost use Rattle.stride_rule.specs.declared.clients.Client.{Client};
 ghost use Rattle.lawful_steps.specs.Clients.{AreClients, HasRunner, waiter_of};
@@ -38,8 +39,8 @@ pub fn stride_step_laws()
         AreClients places (record { rule = after_choice strides.rule choice; nodes = strides.nodes }) (filter (λ w. not (nat_eq w.thread choice.thread.number)) waiting) }
     ensures clients_started { (places : List (Option ℕ)) (strides new : StridesState) (waiting : List Waiter) (thread : ThreadId) → strides.rule.running ≢ Some thread.number → waiter_of thread.number waiting ≡ None → IsPlaced places thread →
         IsStarted strides new thread → AreClients places strides waiting → AreClients places new (waiting ++ record { thread = thread.number; node = 0; since = 0 } ∷ []) }
-    ensures clients_rejoined { (places : List (Option ℕ)) (strides new : StridesState) (waiting : List Waiter) (thread : ThreadId) (node since : ℕ) → HasRunner strides thread → waiter_of thread.number waiting ≡ None → IsPlaced places thread →
-        IsRejoined strides new thread node → AreClients places strides waiting → AreClients places new (waiting ++ record { thread = thread.number; node = node; since = since } ∷ []) }
+    ensures clients_rejoined { (places : List (Option ℕ)) (strides new : StridesState) (waiting : List Waiter) (thread : ThreadId) (node since : ℕ) (need : NeedOf) → HasRunner strides thread → waiter_of thread.number waiting ≡ None → IsPlaced places thread →
+        IsRejoined strides new thread node need → AreClients places strides waiting → AreClients places new (waiting ++ record { thread = thread.number; node = node; since = since } ∷ []) }
     ensures clients_left { (places : List (Option ℕ)) (strides : StridesState) (waiting : List Waiter) (thread : ThreadId) → HasRunner strides thread → waiter_of thread.number waiting ≡ None → AreClients places strides waiting →
         AreClients places (record { rule = after_leaving strides.rule thread.number; nodes = strides.nodes }) waiting }
     ensures passes_taken { (tickets : List (ℕ × ℕ)) (rule : StrideState) (taken : List PastChoice) (choice : StrideChoice) (node started : ℕ) (client : Client) → client_of choice.thread.number rule.clients ≡ Some client → AreOnce rule.clients →
@@ -47,6 +48,6 @@ pub fn stride_step_laws()
         HasPasses tickets (after_choice rule choice) (record { thread = choice.thread.number; node = node; started = started } ∷ taken) }
     ensures passes_started { (tickets : List (ℕ × ℕ)) (rule : StrideState) (taken : List PastChoice) (thread : ThreadId) (started : ℕ) → StartedBy taken started → started ≤ thread.number → HasPasses tickets rule taken →
         HasPasses tickets (with_client rule thread) taken }
-    ensures passes_rejoined { (tickets : List (ℕ × ℕ)) (rule : StrideState) (taken : List PastChoice) → HasPasses tickets rule taken → HasPasses tickets (after_segment rule) taken }
+    ensures passes_rejoined { (tickets : List (ℕ × ℕ)) (rule : StrideState) (taken : List PastChoice) (number : ℕ) (need : NeedOf) → HasPasses tickets rule taken → HasPasses tickets (after_segment_for rule number need) taken }
     ensures passes_left { (tickets : List (ℕ × ℕ)) (rule : StrideState) (taken : List PastChoice) (number : ℕ) → HasPasses tickets rule taken → HasPasses tickets (after_leaving rule number) taken }
 {}

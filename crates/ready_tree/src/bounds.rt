@@ -34,7 +34,7 @@ impl Bounds {
 
     /// Whether the need of some thread may be met.
     #[tactic(auto, unfolding(crate::specs::Needs::is_some_met))]
-    pub(crate) fn meet_some(&self, needs: &Needs) -> bool
+    pub fn meet_some(&self, needs: &Needs) -> bool
         ensures { result ≡ is_some_met self.now needs.now }
     {
         needs.nothing

@@ -7,6 +7,7 @@ use Rattle.scheduler.specs.LawfulChoice.{IsLawfulChoice}
 use Rattle.scheduler.specs.State as graph
 use Rattle.scheduler.specs.State.{SchedulerState, queue_of, last_of, AreKnown}
 use Rattle.stride_rule.specs.Clients.{IsAbsent}
+use Rattle.stride_rule.specs.State as known
 use Rattle.rule_state.specs.Strides as strides
 use Rattle.rule_state.specs.Strides.{StridesState, IsChoiceByStrides, IsNotedByStrides}
 use Rattle.rule_state.specs.declared.rules.RuleState.{RuleState}
@@ -19,10 +20,10 @@ abbrev pub MayStart : RuleState → ThreadId → Type 0
 MayStart (Graph scheduler) thread = ⊤
 MayStart (Stride strides) thread = IsAbsent thread.number strides.rule.clients
 
--- the world vouches for the needs that were told; the stride rule is told none
+-- the world vouches for the needs that were told
 abbrev pub AreKnownTo : (ThreadId → Need → Type 0) → RuleState → Type 0
 AreKnownTo vouches (Graph scheduler) = AreKnown vouches scheduler
-AreKnownTo vouches (Stride strides) = ⊤
+AreKnownTo vouches (Stride strides) = known.AreKnown vouches strides.rule
 
 -- no segment is under way, as far as the rule keeps that
 abbrev pub HasNone : RuleState → Type 0
@@ -76,7 +77,7 @@ HasTaken _ _ eligible choice = ⊥
 -- the thread whose segment was under way waits at a node, with its need
 abbrev pub HasRejoined : RuleState → RuleState → ThreadId → ℕ → Need → Type 0
 HasRejoined (Graph old) (Graph new) thread node need = IsQueued old new thread node need
-HasRejoined (Stride old) (Stride new) thread node need = strides.IsRejoined old new thread node
+HasRejoined (Stride old) (Stride new) thread node need = strides.IsRejoined old new thread node need
 HasRejoined _ _ thread node need = ⊥
 
 -- the thread whose segment was under way is gone

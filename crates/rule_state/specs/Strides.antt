@@ -2,11 +2,12 @@
 use Rattle.std.specs.Prelude.{ℕ, ◌≡◌, ◌<◌, Bool, false, Option, Some, None, List, length, slice_index}
 use Rattle.std.specs.List.{AllByRecursion}
 use Rattle.cap_word.specs.declared.threads.ThreadId.{ThreadId}
+use Rattle.ready_tree.specs.declared.needs.Need.{Need}
 use Rattle.scheduler.specs.declared.choices.Choice.{Choice}
 use Rattle.stride_rule.specs.declared.choices.StrideChoice.{StrideChoice}
 use Rattle.stride_rule.specs.declared.clients.Client.{Client}
 use Rattle.stride_rule.specs.Choices.{IsFirstEligible, choice_among}
-use Rattle.stride_rule.specs.State.{StrideState, waiting_of, with_client, after_choice, after_segment, after_leaving}
+use Rattle.stride_rule.specs.State.{StrideState, waiting_of, with_client, after_choice, after_segment_for, after_leaving}
 use Rattle.rule_state.specs.Nodes.{IsPut}
 
 -- the stride rule, and the node of each thread, by the place of its record
@@ -52,9 +53,9 @@ IsStarted old new thread = IsStartedAt old new thread 0
 abbrev pub IsNotedByStrides : StridesState → StridesState → (ThreadId → Bool) → Choice → Type 0
 IsNotedByStrides old new eligible choice = new ≡ record { rule = after_choice old.rule (stride_choice old.rule eligible choice.thread); nodes = old.nodes }
 
--- the choice under way has ended, and its thread waits at a node
-pub record IsRejoined (old new : StridesState) (thread : ThreadId) (node : ℕ) : Type 0 where
-  pub rule : new.rule ≡ after_segment old.rule
+-- the choice under way has ended, and its thread waits at a node, for this
+pub record IsRejoined (old new : StridesState) (thread : ThreadId) (node : ℕ) (need : Need) : Type 0 where
+  pub rule : new.rule ≡ after_segment_for old.rule thread.number need
   pub nodes : IsPut old.nodes new.nodes thread.slot node
 
 -- the choice under way has ended, and its thread has left

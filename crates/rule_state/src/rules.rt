@@ -66,7 +66,7 @@ impl RuleState {
         match self {
             RuleState::Graph { scheduler } => scheduler.enqueue_for(node, thread, need),
             RuleState::Stride { strides } => {
-                strides.rejoin(thread, node);
+                strides.rejoin(thread, node, need);
                 Ok(())
             }
         }

@@ -2,7 +2,8 @@ ghost use Rattle.std.specs.Prelude.{◌≡◌, ◌<◌, ◌^◌, [], length, Som
 ghost use Rattle.scheduler.specs.LawfulChoice.{is_eligible};
 
 use crate::nodes::{START, make_place, put};
-use cap_word::{Ready, ThreadId};
+use cap_word::ThreadId;
+use ready_tree::{Bounded, Need};
 use scheduler::Choice;
 use std::alloc::{AllocError, Global};
 use std::marker::Model;
@@ -27,6 +28,7 @@ impl Model for StridesAtNodes {
 
 impl StridesAtNodes {
     ghost use Rattle.stride_rule.specs.Clients.{IsAbsent};
+    ghost use Rattle.stride_rule.specs.State.{AreKnown};
     ghost use Rattle.rule_state.specs.Strides.{IsChoiceByStrides, IsLeft, IsNotedByStrides, IsRejoined, IsStarted};
 
     /// A rule at which no thread was started. It takes no memory.
@@ -61,31 +63,32 @@ impl StridesAtNodes {
     }
 
     /// The thread to go on next, with the node at which it waits, or none where no thread that waits is eligible. The choice is
-    /// noted, and under way from here on. Each thread that waits is asked until some choice finds one that isn't eligible, and from
-    /// then on none that goes after the best one so far. It takes no memory.
-    pub fn take<R: Ready>(&mut self, gate_open: bool, ready: &R) -> Option<Choice>
+    /// noted, and under way from here on. Each thread that waits is asked until some choice finds one that isn't eligible. From then
+    /// on none is: the needs that were told say who may go on. It takes no memory.
+    pub fn take<W: Bounded>(&mut self, gate_open: bool, world: &W) -> Option<Choice>
         requires none_under_way { self.old.rule.running ≡ None }
+        requires known { AreKnown (W.vouches world.now) self.old.rule }
         requires room { self.old.rule.noted < 2 ^ 40 }
-        ensures lawful { IsChoiceByStrides self.old (is_eligible (R.is_ready ready.now) (R.at_accept ready.now) (R.any_elsewhere ready.now) gate_open) result }
-        ensures noted { IfSome result (λ choice. IsNotedByStrides self.old self.new (is_eligible (R.is_ready ready.now) (R.at_accept ready.now) (R.any_elsewhere ready.now) gate_open) choice) }
+        ensures lawful { IsChoiceByStrides self.old (is_eligible (W.is_ready world.now) (W.at_accept world.now) (W.any_elsewhere world.now) gate_open) result }
+        ensures noted { IfSome result (λ choice. IsNotedByStrides self.old self.new (is_eligible (W.is_ready world.now) (W.at_accept world.now) (W.any_elsewhere world.now) gate_open) choice) }
         ensures place { IfSome result (λ choice. choice.thread.slot < length self.new.nodes) }
         ensures none { result ≡ None → self.new ≡ self.old }
     {
-        let Some(thread) = self.rule.take(gate_open, ready) else {
+        let Some(thread) = self.rule.take_choice(gate_open, world) else {
             return None;
         };
         let node = self.nodes[thread.slot as usize];
         Some(Choice { thread, node })
     }
 
-    /// Ends the choice under way: its thread waits at a node. It takes no memory.
-    pub fn rejoin(&mut self, thread: ThreadId, node: u32)
+    /// Ends the choice under way: its thread waits at a node, for this. It takes no memory.
+    pub fn rejoin(&mut self, thread: ThreadId, node: u32, need: Need)
         requires under_way { self.old.rule.running ≡ Some thread.number }
         requires place { thread.slot < length self.old.nodes }
-        ensures { IsRejoined self.old self.new thread node }
+        ensures { IsRejoined self.old self.new thread node need }
     {
         put(&mut self.nodes, thread.slot, node);
-        self.rule.rejoin(thread);
+        self.rule.rejoin_for(thread, need);
     }
 
     /// Ends the choice under way: its thread has ended. It takes no memory.

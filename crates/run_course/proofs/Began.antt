@@ -154,7 +154,7 @@ module _ (g : Setup) (state : State) (k : Kept) (held : Held) (left : Rest) (sta
       needed = told_along g began_state began_segment held.machine.cost began_state.waiting held.places rule choice.thread kept_now did.made.steps did.picked did.made.at
           (subst (λ (s : Setting). GoesOn s did.made.steps did.picked did.made.at) stands.of.setting did.made.goes_on) within_picked
           (told_picked g began_state began_segment held.machine.cost did.picked began_state.waiting within_picked held.places rule choice.thread kept_now held.machine
-          (is_picked (setting_of g) held.machine chosen.waiter.thread did.picked picks_now).others (told_taken held.machine k.rule rule (is_eligible (is_ready_in held) (is_at_accept_in held) (any_elsewhere_in held) (observed k.monitor uses).is_open) choice taken stands.needed));
+          (is_picked (setting_of g) held.machine chosen.waiter.thread did.picked picks_now).others (told_taken held.machine held.places state.waiting k.rule rule (is_eligible (is_ready_in held) (is_at_accept_in held) (any_elsewhere_in held) (observed k.monitor uses).is_open) choice taken stands.kept stands.needed));
       past = record {
         accounts = accounts_now;
         graph_is = record { keys = stands.past.graph_is.keys; edges = stands.past.graph_is.edges };

@@ -26,6 +26,7 @@ pub mod Pointed
 pub mod Passing
 pub mod Needs
 pub mod NeedsGoing
+pub mod StrideNeeds
 pub mod Queued
 pub mod Rules
 pub mod FitTexts

@@ -82,7 +82,7 @@ same_number : (o : Option ℕ) (number : ℕ) → o ≡ Some number → is_same_
 same_number None number e = absurd (cc)
 same_number (Some other) number e = let same : other ≡ number = cc in eq-eqb other number same
 
-vouched_by : (held : Held) (entry : Entry) (is : IsNeeded held.machine entry) → held.machine.running ≡ None → IsPlaced held.places entry.thread → Vouches held entry.thread entry.need
+pub vouched_by : (held : Held) (entry : Entry) (is : IsNeeded held.machine entry) → held.machine.running ≡ None → IsPlaced held.places entry.thread → Vouches held entry.thread entry.need
 vouched_by held entry is rests placed =
     rw (same_number (slice_index_or held.places entry.thread.slot None) entry.thread.number placed, is.live, rests, is.need) (need_self (need_of_blocked is.thread.blocked))
 

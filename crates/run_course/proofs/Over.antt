@@ -194,7 +194,7 @@ module _ (g : Setup) (state : State) (k : Kept) (held : Held) (left : Rest) (und
       ended = λ none. ap (λ (w : World). w.clock) told.machine;
       settled = subst (IsSettled (checked_of g)) (sym told.machine) reaches.2.settled;
       kept = kept_now;
-      needed = told_rejoined held.machine k.rule rule under.choice.thread node need joins own
+      needed = told_rejoined held.machine held.places stands.waiting k.rule rule under.choice.thread node need joins stands.kept own
           (subst (λ (w : World). AreTold w k.rule) (sym told.machine)
           (told_step g state stands.segment held.begun stands.here stands.waiting stands.within held.places k.rule under.choice.thread stands.kept stands.needed told.after
           (λ number apart old. subst (KeepsThread number stands.here) told.step_is (KeepsThread-step (setting_of g) number stands.here apart old))));

@@ -43,7 +43,8 @@ use Rattle.lawful_steps.proofs.Passing.{passes_first, passes_left, passes_rejoin
 use Rattle.thread_core.specs.Needs.{Vouches}
 use Rattle.thread_core.specs.Worlds.{Held, KeepsPlaces}
 use Rattle.thread_laws.specs.Silent.{GoesOn}
-use Rattle.run_course.specs.Needs.{IsNeeded, AreNeeded}
+use Rattle.run_course.specs.Needs.{IsNeeded, AreNeeded, AreNeededByStrides}
+use Rattle.run_course.proofs.StrideNeeds.{strides_same, strides_step, strides_along, strides_picked, strides_taken, strides_started, strides_rejoined, strides_left, strides_known}
 use Rattle.run_course.specs.Rules.{AreKept, AreKeptBeside, AreTold, HasAccounts, HasNothing, rule_of}
 use Rattle.run_course.proofs.Going.{live_kept, queues_kept}
 use Rattle.run_course.proofs.Left.{queued_left}
@@ -77,50 +78,53 @@ kept_beside old new (Stride st) waiting thread keeps live kept =
 
 pub told_same : (old new : World) (rule : RuleState) → ((number : ℕ) → thread_of new number ≡ thread_of old number) → AreTold old rule → AreTold new rule
 told_same old new (Graph s) same told = needed_same old new s same told
-told_same old new (Stride st) same told = tt
+told_same old new (Stride st) same told = strides_same old new st.rule same told
 
 pub told_step : (g : Setup) (state : State) (segment : Segment) (begun : ℕ) (here : World) (waiting : List Waiter) → IsWithin g state segment begun here waiting → (places : List (Option ℕ)) (rule : RuleState) (thread : ThreadId) →
     AreKeptBeside places rule waiting thread → AreTold here rule → (after : World) → ((number : ℕ) → here.running ≢ Some number → number ≢ here.next → thread_of after number ≡ thread_of here number) → AreTold after rule
 told_step g state segment begun here waiting is places (Graph s) thread kept told after keeps = needed_step g state segment begun here waiting is places s kept told after keeps
-told_step g state segment begun here waiting is places (Stride st) thread kept told after keeps = tt
+told_step g state segment begun here waiting is places (Stride st) thread kept told after keeps = strides_step g state segment begun here waiting is places st kept.0 told after keeps
 
 pub told_along : (g : Setup) (state : State) (segment : Segment) (begun : ℕ) (waiting : List Waiter) (places : List (Option ℕ)) (rule : RuleState) (thread : ThreadId) → AreKeptBeside places rule waiting thread →
     (n : ℕ) (w at : World) → GoesOn (setting_of g) n w at → IsWithin g state segment begun w waiting → AreTold w rule → AreTold at rule
 told_along g state segment begun waiting places (Graph s) thread kept n w at goes is told = needed_along g state segment begun waiting places s kept n w at goes is told
-told_along g state segment begun waiting places (Stride st) thread kept n w at goes is told = tt
+told_along g state segment begun waiting places (Stride st) thread kept n w at goes is told = strides_along g state segment begun waiting places st kept.0 n w at goes is told
 
 pub told_picked : (g : Setup) (state : State) (segment : Segment) (begun : ℕ) (picked : World) (waiting : List Waiter) → IsWithin g state segment begun picked waiting → (places : List (Option ℕ)) (rule : RuleState) (thread : ThreadId) →
     AreKeptBeside places rule waiting thread → (old : World) → ((n : ℕ) → n ≢ segment.thread → thread_of picked n ≡ thread_of old n) → AreTold old rule → AreTold picked rule
 told_picked g state segment begun picked waiting is places (Graph s) thread kept old others told = needed_picked g state segment begun picked waiting is places s kept old others told
-told_picked g state segment begun picked waiting is places (Stride st) thread kept old others told = tt
+told_picked g state segment begun picked waiting is places (Stride st) thread kept old others told = strides_picked g state segment begun picked waiting is places st kept.0 old others told
 
-pub told_taken : (w : World) (rule new : RuleState) (eligible : ThreadId → Bool) (choice : Choice) → HasTaken rule new eligible choice → AreTold w rule → AreTold w new
-told_taken w (Graph s) (Graph t) eligible choice taken told = needed_taken w s t choice taken.taken told
-told_taken w (Graph s) (Stride t) eligible choice taken told = absurd taken
-told_taken w (Stride s) (Graph t) eligible choice taken told = absurd taken
-told_taken w (Stride s) (Stride t) eligible choice taken told = tt
+pub told_taken : (w : World) (places : List (Option ℕ)) (waiting : List Waiter) (rule new : RuleState) (eligible : ThreadId → Bool) (choice : Choice) → HasTaken rule new eligible choice → AreKept places rule waiting → AreTold w rule → AreTold w new
+told_taken w places waiting (Graph s) (Graph t) eligible choice taken kept told = needed_taken w s t choice taken.taken told
+told_taken w places waiting (Graph s) (Stride t) eligible choice taken kept told = absurd taken
+told_taken w places waiting (Stride s) (Graph t) eligible choice taken kept told = absurd taken
+told_taken w places waiting (Stride s) (Stride t) eligible choice taken kept told =
+    subst (λ (st : StridesState). AreNeededByStrides w st.rule) (sym taken) (strides_taken w s.rule (stride_choice s.rule eligible choice.thread) kept.1 told)
 
-pub told_started : (w : World) (rule new : RuleState) (thread : ThreadId) → HasStarted rule new thread → IsNeeded w (record { thread = thread; need = Need.Nothing }) → AreTold w rule → AreTold w new
-told_started w (Graph s) (Graph t) thread starts own told = needed_told w s t 0 (record { thread = thread; need = Need.Nothing }) starts.told own told
-told_started w (Graph s) (Stride t) thread starts own told = absurd starts
-told_started w (Stride s) (Graph t) thread starts own told = absurd starts
-told_started w (Stride s) (Stride t) thread starts own told = tt
+pub told_started : (w : World) (rule new : RuleState) (thread : ThreadId) → HasStarted rule new thread → MayStart rule thread → IsNeeded w (record { thread = thread; need = Need.Nothing }) → AreTold w rule → AreTold w new
+told_started w (Graph s) (Graph t) thread starts may own told = needed_told w s t 0 (record { thread = thread; need = Need.Nothing }) starts.told own told
+told_started w (Graph s) (Stride t) thread starts may own told = absurd starts
+told_started w (Stride s) (Graph t) thread starts may own told = absurd starts
+told_started w (Stride s) (Stride t) thread starts may own told = subst (λ (r : StrideState). AreNeededByStrides w r) (sym starts.rule) (strides_started w s.rule thread may own told)
 
-pub told_rejoined : (w : World) (rule new : RuleState) (thread : ThreadId) (node : ℕ) (need : Need) → HasRejoined rule new thread node need → IsNeeded w (record { thread = thread; need = need }) → AreTold w rule → AreTold w new
-told_rejoined w (Graph s) (Graph t) thread node need joins own told = needed_told w s t node (record { thread = thread; need = need }) joins.told own told
-told_rejoined w (Graph s) (Stride t) thread node need joins own told = absurd joins
-told_rejoined w (Stride s) (Graph t) thread node need joins own told = absurd joins
-told_rejoined w (Stride s) (Stride t) thread node need joins own told = tt
+pub told_rejoined : (w : World) (places : List (Option ℕ)) (waiting : List Waiter) (rule new : RuleState) (thread : ThreadId) (node : ℕ) (need : Need) → HasRejoined rule new thread node need → AreKeptBeside places rule waiting thread → IsNeeded w (record { thread = thread; need = need }) → AreTold w rule → AreTold w new
+told_rejoined w places waiting (Graph s) (Graph t) thread node need joins kept own told = needed_told w s t node (record { thread = thread; need = need }) joins.told own told
+told_rejoined w places waiting (Graph s) (Stride t) thread node need joins kept own told = absurd joins
+told_rejoined w places waiting (Stride s) (Graph t) thread node need joins kept own told = absurd joins
+told_rejoined w places waiting (Stride s) (Stride t) thread node need joins kept own told =
+    subst (λ (r : StrideState). AreNeededByStrides w r) (sym joins.rule) (strides_rejoined w s.rule thread need kept.1.running.running own told)
 
-pub told_left : (w : World) (rule new : RuleState) (thread : ThreadId) → HasLeft rule new thread → AreTold w rule → AreTold w new
-told_left w (Graph s) (Graph t) thread leaves told = subst (λ (v : SchedulerState). AreNeeded w v) (sym leaves) told
-told_left w (Graph s) (Stride t) thread leaves told = absurd leaves
-told_left w (Stride s) (Graph t) thread leaves told = absurd leaves
-told_left w (Stride s) (Stride t) thread leaves told = tt
+pub told_left : (w : World) (places : List (Option ℕ)) (waiting : List Waiter) (rule new : RuleState) (thread : ThreadId) → HasLeft rule new thread → AreKeptBeside places rule waiting thread → AreTold w rule → AreTold w new
+told_left w places waiting (Graph s) (Graph t) thread leaves kept told = subst (λ (v : SchedulerState). AreNeeded w v) (sym leaves) told
+told_left w places waiting (Graph s) (Stride t) thread leaves kept told = absurd leaves
+told_left w places waiting (Stride s) (Graph t) thread leaves kept told = absurd leaves
+told_left w places waiting (Stride s) (Stride t) thread leaves kept told =
+    subst (λ (st : StridesState). AreNeededByStrides w st.rule) (sym leaves) (strides_left w s.rule thread.number kept.1.running.running kept.0.once told)
 
 pub all_told : (held : Held) (rule : RuleState) (waiting : List Waiter) → held.machine.running ≡ None → AreKept held.places rule waiting → AreTold held.machine rule → AreKnownTo (Vouches held) rule
 all_told held (Graph s) waiting rests kept told = all_known held s waiting rests kept told
-all_told held (Stride st) waiting rests kept told = tt
+all_told held (Stride st) waiting rests kept told = strides_known held st waiting rests kept.0 told
 
 -- ---- the number of choices
 
@@ -279,7 +283,7 @@ kept_rejoined places (Graph s) (Graph t) waiting thread node since need kept joi
 kept_rejoined places (Graph s) (Stride t) waiting thread node since need kept joins placed none = absurd joins
 kept_rejoined places (Stride s) (Graph t) waiting thread node since need kept joins placed none = absurd joins
 kept_rejoined places (Stride s) (Stride t) waiting thread node since need kept joins placed none =
-    (clients_rejoined places s t waiting thread node since kept.1 none placed joins kept.0, ap (λ (x : StrideState). x.running) joins.rule)
+    (clients_rejoined places s t waiting thread node since need kept.1 none placed joins kept.0, ap (λ (x : StrideState). x.running) joins.rule)
 
 pub accounts_rejoined : (r : Rule) (rule new : RuleState) (past after : Past) (thread : ThreadId) (node : ℕ) (need : Need) → after.taken ≡ past.taken → HasAccounts r rule past → HasRejoined rule new thread node need → HasAccounts r new after
 accounts_rejoined by_graph (Graph s) (Graph t) past after thread node need same accounts joins = λ n. joins.joined.lasts n ∙ accounts n ∙ ap (λ (l : List PastChoice). last_choice l n) (sym same)
@@ -289,7 +293,7 @@ accounts_rejoined (by_stride tickets) (Graph s) new past after thread node need 
 accounts_rejoined (by_stride tickets) (Stride s) (Graph t) past after thread node need same accounts joins = absurd joins
 accounts_rejoined (by_stride tickets) (Stride s) (Stride t) past after thread node need same accounts joins =
     subst (λ (x : StrideState). HasPasses tickets x after.taken) (sym joins.rule)
-    (passes_rejoined tickets s.rule after.taken (subst (λ (l : List PastChoice). HasPasses tickets s.rule l) (sym same) accounts))
+    (passes_rejoined tickets s.rule after.taken thread.number need (subst (λ (l : List PastChoice). HasPasses tickets s.rule l) (sym same) accounts))
 
 pub kept_left : (places : List (Option ℕ)) (rule new : RuleState) (waiting : List Waiter) (thread : ThreadId) → AreKeptBeside places rule waiting thread → HasLeft rule new thread → waiter_of thread.number waiting ≡ None →
     AreKept places new waiting
@@ -344,7 +348,9 @@ told_first w (Graph s) (Graph t) thread nothing starts own =
     needed_told w s t 0 (record { thread = thread; need = Need.Nothing }) starts.told own (subst (λ (v : SchedulerState). AreNeeded w v) (sym nothing) (record { each = λ node. tt }))
 told_first w (Graph s) (Stride t) thread nothing starts own = absurd starts
 told_first w (Stride s) (Graph t) thread nothing starts own = absurd starts
-told_first w (Stride s) (Stride t) thread nothing starts own = tt
+told_first w (Stride s) (Stride t) thread nothing starts own =
+    subst (λ (r : StrideState). AreNeededByStrides w r) (sym starts.rule)
+    (strides_started w s.rule thread (may_start_first (Stride s) thread nothing) own (subst (λ (v : StridesState). AreNeededByStrides w v.rule) (sym nothing) tt))
 
 pub noted_first : (rule new : RuleState) (thread : ThreadId) → HasNothing rule → HasStarted rule new thread → noted_of new ≡ 0
 noted_first (Graph s) (Graph t) thread nothing starts = starts.joined.noted ∙ ap (λ (v : SchedulerState). v.noted) nothing

@@ -154,7 +154,7 @@ module _ (g : Setup) (state : State) (k : Kept) (held : Held) (left : Rest) (und
 
     module _ (rule : RuleState) (starts : HasStarted k.rule rule thread) where
       needed_now : AreTold spawn_told.after rule
-      needed_now = told_started spawn_told.after k.rule rule thread starts
+      needed_now = told_started spawn_told.after k.rule rule thread starts spawn_may_start
           (record { thread = fresh.thread; live = fresh.live; need = sym (ap need_of_blocked fresh.unblocked) })
           (told_step g state stands.segment held.begun stands.here stands.waiting stands.within held.places k.rule under.choice.thread stands.kept stands.needed spawn_told.after
           (λ number apart old. subst (KeepsThread number stands.here) spawn_told.step_is (KeepsThread-step (setting_of g) number stands.here apart old)))

@@ -12,7 +12,7 @@ use Rattle.scheduler.specs.State.{started}
 use Rattle.stride_rule.specs.State.{new_rule}
 use Rattle.lawful_steps.specs.Clients.{AreClients, HasRunner}
 use Rattle.lawful_steps.specs.Passes.{HasPasses}
-use Rattle.run_course.specs.Needs.{AreNeeded}
+use Rattle.run_course.specs.Needs.{AreNeeded, AreNeededByStrides}
 
 -- the rule of a policy of which this is the state
 abbrev pub rule_of : RuleState → Rule
@@ -34,10 +34,10 @@ abbrev pub AreKeptBeside : List (Option ℕ) → RuleState → List Waiter → T
 AreKeptBeside places (Graph scheduler) waiting thread = AreQueued places scheduler waiting
 AreKeptBeside places (Stride strides) waiting thread = AreClients places strides waiting × HasRunner strides thread
 
--- the needs that were told are those of the threads; the stride rule is told none
+-- the needs that were told are those of the threads
 abbrev pub AreTold : World → RuleState → Type 0
 AreTold w (Graph scheduler) = AreNeeded w scheduler
-AreTold w (Stride strides) = ⊤
+AreTold w (Stride strides) = AreNeededByStrides w strides.rule
 
 -- what the rule rests its choices on is as the past has it
 abbrev pub HasAccounts : Rule → RuleState → Past → Type 0

@@ -29,7 +29,7 @@ fn arrival_at_gate<W: Ready>(world: &W, arrival: bool, gate_open: bool) -> bool
 
 /// What is there for threads that may go on: while the gate is closed and a thread elsewhere than at `accept` is ready, no
 /// arrival.
-pub(crate) fn bounds_at_gate<W: Bounded>(world: &W, gate_open: bool) -> Bounds
+pub fn bounds_at_gate<W: Bounded>(world: &W, gate_open: bool) -> Bounds
     ensures { (thread : ThreadIdOf) → (need : NeedOf) → W.vouches world.now thread need → is_met result need ≡ is_eligible (W.is_ready world.now) (W.at_accept world.now) (W.any_elsewhere world.now) gate_open thread }
 {
     let bounds = world.bounds();

@@ -21,4 +21,5 @@ mod scores;
 
 pub use choices::Choice;
 pub use eligibility::may_go_on;
+pub use finding::bounds_at_gate;
 pub use scheduler::Scheduler;

@@ -1,10 +1,9 @@
--- A client by its number and by its place.
-use Rattle.std.proofs.Common.{◌≡◌, ◌≢◌, ℕ, zero, suc, ◌+◌, ◌<◌, ◌≤◌, ◌==◌, nat_lt, not, Bool, true, false, cond, Some, None, List, [], ◌∷◌, ◌++◌, length, position, set, All, refl, sym, ap, ◌∙◌, subst, arith}
-use Rattle.std.specs.Prelude.{slice_index_or}
-use Rattle.std.specs.List.{AllByRecursion, position_or_len, remove}
+-- A client by its number.
+use Rattle.std.proofs.Common.{◌≡◌, ◌≢◌, ℕ, ◌==◌, Bool, true, false, Some, List, [], ◌∷◌, ◌++◌, refl, sym, ap, ◌∙◌, subst, arith}
+use Rattle.std.specs.List.{AllByRecursion}
 use Rattle.std.proofs.lemmas.Bool.Decides.{nat_tests}
 use Rattle.stride_rule.specs.declared.clients.Client.{Client}
-use Rattle.stride_rule.specs.Clients.{IsAbsent, client_of, pass_in, pass_at, with_growth, grown, grown_at, without}
+use Rattle.stride_rule.specs.Clients.{IsAbsent, client_of, pass_in, with_growth, grown, without}
 use Rattle.stride_rule.specs.State.{AreOnce}
 
 -- a test is true or false
@@ -28,74 +27,7 @@ pub all_append : (P : Client → Type 0) (cs : List Client) (c : Client) → All
 all_append P [] c all it = (it, tt)
 all_append P (x ∷ xs) c all it = (all.0, all_append P xs c all.1 it)
 
--- the same by the places of the list
-pub all_of : (P : Client → Type 0) (cs : List Client) → AllByRecursion P cs → All P cs
-all_of P [] all k d h = absurd (omega arith)
-all_of P (c ∷ cs) all zero d h = all.0
-all_of P (c ∷ cs) all (suc k) d h = all_of P cs all.1 k d (omega arith)
-
--- ---- places
-
-pub grown_at-set : (cs : List Client) (place : ℕ) (c : Client) (stride : ℕ) → place < length cs → c ≡ slice_index_or cs place c → stride ≡ c.stride →
-    set cs place (record { thread = c.thread; stride = c.stride; pass = c.pass + stride }) ≡ grown_at place cs
-grown_at-set [] place c stride h e f = absurd (omega arith)
-grown_at-set (x ∷ xs) zero c stride h e f =
-    let its : stride ≡ x.stride = f ∙ ap (λ (v : Client). v.stride) e in
-    λ i. record { thread = (e i).thread; stride = (e i).stride; pass = (e i).pass + its i } ∷ xs
-grown_at-set (x ∷ xs) (suc place) c stride h e f = ap (λ (v : List Client). x ∷ v) (grown_at-set xs place c stride (omega arith) e f)
-
-pub pass_at-get : (cs : List Client) (place : ℕ) (c : Client) → place < length cs → c ≡ slice_index_or cs place c → c.pass ≡ pass_at cs place
-pass_at-get [] place c h e = absurd (omega arith)
-pass_at-get (x ∷ xs) zero c h e = ap (λ (v : Client). v.pass) e
-pass_at-get (x ∷ xs) (suc place) c h e = pass_at-get xs place c (omega arith) e
-
-zero_place : (b : Bool) (n : ℕ) → cond (not b) (1 + n) 0 ≡ 0 → b ≡ true
-zero_place true n h = refl
-zero_place false n h = absurd (omega arith)
-
-suc_place : (b : Bool) (n i : ℕ) → cond (not b) (1 + n) 0 ≡ suc i → b ≡ false
-suc_place true n i h = absurd (omega arith)
-suc_place false n i h = refl
-
-next_place : (b : Bool) (n i : ℕ) → cond (not b) (1 + n) 0 ≡ suc i → n ≡ i
-next_place true n i h = absurd (omega arith)
-next_place false n i h = omega arith
-
 module _ (number : ℕ) where
-  abbrev test : Client → Bool
-  test = λ client. client.thread.number == number
-
-  grown_here : (cs : List Client) (i : ℕ) → position_or_len test cs ≡ i → i < length cs → grown_at i cs ≡ grown number cs
-  grown_here [] i at h = absurd (omega arith)
-  grown_here (c ∷ cs) zero at h = let same : (c.thread.number == number) ≡ true = zero_place _ _ at in rw same refl
-  grown_here (c ∷ cs) (suc i) at h =
-      let other : (c.thread.number == number) ≡ false = suc_place _ _ _ at in
-      let rest : grown_at i cs ≡ grown number cs = grown_here cs i (next_place _ _ _ at) (omega arith) in
-      rw (other, ← rest) refl
-
-  pass_here : (cs : List Client) (i : ℕ) → position_or_len test cs ≡ i → i < length cs → pass_at cs i ≡ pass_in number cs
-  pass_here [] i at h = absurd (omega arith)
-  pass_here (c ∷ cs) zero at h = let same : (c.thread.number == number) ≡ true = zero_place _ _ at in rw same refl
-  pass_here (c ∷ cs) (suc i) at h =
-      let other : (c.thread.number == number) ≡ false = suc_place _ _ _ at in
-      let rest : pass_at cs i ≡ pass_in number cs = pass_here cs i (next_place _ _ _ at) (omega arith) in
-      rw (other, ← rest) refl
-
-  removed_here : (cs : List Client) (i : ℕ) → position_or_len test cs ≡ i → i < length cs → remove cs i ≡ without number cs
-  removed_here [] i at h = absurd (omega arith)
-  removed_here (c ∷ cs) zero at h = let same : (c.thread.number == number) ≡ true = zero_place _ _ at in rw same refl
-  removed_here (c ∷ cs) (suc i) at h =
-      let other : (c.thread.number == number) ≡ false = suc_place _ _ _ at in
-      let rest : remove cs i ≡ without number cs = removed_here cs i (next_place _ _ _ at) (omega arith) in
-      rw (other, ← rest) refl
-
-  nowhere : (cs : List Client) → length cs ≤ position_or_len test cs → IsAbsent number cs
-  nowhere [] h = tt
-  nowhere (c ∷ cs) h =
-      by_test (c.thread.number == number) _
-      (λ same. let none : suc (length cs) ≤ 0 = rw same at h in absurd (omega arith))
-      (λ other. let more : suc (length cs) ≤ 1 + position_or_len test cs = rw other at h in ((λ e. grind (arith, nat_tests)), nowhere cs (omega arith)))
-
   -- ---- a thread that isn't there
 
   pub grown-absent : (cs : List Client) → IsAbsent number cs → cs ≡ grown number cs
@@ -115,31 +47,6 @@ module _ (number : ℕ) where
   without-absent (c ∷ cs) none =
       let other : (c.thread.number == number) ≡ false = other_number _ _ none.0 in
       rw other (ap (λ (v : List Client). c ∷ v) (without-absent cs none.1))
-
-  -- ---- what `position` says
-
-  some_at : (place len i : ℕ) (b : Bool) → nat_lt place len ≡ b → cond b (Some place) None ≡ Some i → (place ≡ i) × (place < len)
-  some_at place len i true e h = (cc, grind (arith, nat_tests))
-  some_at place len i false e h = absurd cc
-
-  no_at : (place len : ℕ) (b : Bool) → nat_lt place len ≡ b → cond b (Some place) None ≡ None → len ≤ place
-  no_at place len true e h = absurd cc
-  no_at place len false e h = grind (arith, nat_tests)
-
-  pub position-lt : (cs : List Client) (i : ℕ) → position test cs ≡ Some i → i < length cs
-  position-lt cs i h = let at = some_at (position_or_len test cs) (length cs) i _ refl h in omega (arith, at.0, at.1)
-
-  pub grown-found : (cs : List Client) (i : ℕ) → position test cs ≡ Some i → grown_at i cs ≡ grown number cs
-  grown-found cs i h = let at = some_at (position_or_len test cs) (length cs) i _ refl h in grown_here cs i at.0 (omega (arith, at.0, at.1))
-
-  pub pass-found : (cs : List Client) (i : ℕ) → position test cs ≡ Some i → pass_at cs i ≡ pass_in number cs
-  pass-found cs i h = let at = some_at (position_or_len test cs) (length cs) i _ refl h in pass_here cs i at.0 (omega (arith, at.0, at.1))
-
-  pub removed-found : (cs : List Client) (i : ℕ) → position test cs ≡ Some i → remove cs i ≡ without number cs
-  removed-found cs i h = let at = some_at (position_or_len test cs) (length cs) i _ refl h in removed_here cs i at.0 (omega (arith, at.0, at.1))
-
-  pub not-found : (cs : List Client) → position test cs ≡ None → IsAbsent number cs
-  not-found cs h = nowhere cs (no_at (position_or_len test cs) (length cs) _ refl h)
 
   -- ---- a thread that is there
 

@@ -3,16 +3,24 @@ use Rattle.std.proofs.Common.{◌≡◌, ℕ, ◌&&◌, ◌||◌, not, Bool, tru
 use Rattle.std.specs.Prelude.{IsSome, IfSome}
 use Rattle.std.specs.List.{AllByRecursion, list_all}
 use Rattle.cap_word.specs.declared.threads.ThreadId.{ThreadId}
+use Rattle.ready_tree.specs.declared.bounds.Bounds.{Bounds}
+use Rattle.ready_tree.specs.declared.needs.Need.{Need}
+use Rattle.ready_tree.specs.Needs.{is_met}
 use Rattle.stride_rule.specs.declared.choices.StrideChoice.{StrideChoice}
 use Rattle.stride_rule.specs.declared.clients.Client.{Client}
 use Rattle.stride_rule.specs.Choices.{IsFirst, IsFirstEligible, IsLawfulStrideChoice, IsLawfulStrideThread, choice_among}
 use Rattle.stride_rule.specs.Clients.{client_of, is_before}
-use Rattle.stride_rule.specs.State.{StrideState, IsNotedAs, IsNotedAsIf, after_choice, waiting_in, waiting_of}
+use Rattle.stride_rule.specs.Told.{need_of}
+use Rattle.stride_rule.proofs.ClientLemmas.{all_to}
+use Rattle.stride_rule.specs.State.{StrideState, AreExact, AreKnown, IsNotedAs, IsNotedAsIf, after_choice, waiting_in, waiting_of}
 
 -- all clients wait
 pub waiting-none : (cs : List Client) → waiting_in None cs ≡ cs
 waiting-none [] = refl
 waiting-none (c ∷ cs) = ap (λ (v : List Client). c ∷ v) (waiting-none cs)
+
+pub all_wait : (running : Option ℕ) (cs : List Client) → running ≡ None → waiting_in running cs ≡ cs
+all_wait running cs none = ap (λ (r : Option ℕ). waiting_in r cs) none ∙ waiting-none cs
 
 both_of : (a b : Bool) → (a && b) ≡ true → (a ≡ true) × (b ≡ true)
 both_of true b e = (refl, e)
@@ -39,7 +47,7 @@ noted_by rule eligible choice is = record {
 pub may_be_noted : (rule : StrideState) (eligible : ThreadId → Bool) (choice : StrideChoice) → rule.running ≡ None →
     IsFirstEligible (waiting_of rule) eligible choice → MayBeNoted rule choice
 may_be_noted rule eligible choice none is =
-    let all : waiting_of rule ≡ rule.clients = ap (λ (r : Option ℕ). waiting_in r rule.clients) none ∙ waiting-none rule.clients in
+    let all : waiting_of rule ≡ rule.clients = all_wait rule.running rule.clients none in
     noted_by rule eligible choice (subst (λ (cs : List Client). IsFirstEligible cs eligible choice) all is)
 
 -- ---- what is noted
@@ -71,3 +79,12 @@ module _ (rule : StrideState) (eligible : ThreadId → Bool) (choice : StrideCho
 
   pub noted_same : after_choice rule choice ≡ after_choice rule (choice_among (waiting_of rule) eligible choice.thread)
   noted_same = ap (λ (b : Bool). record (after_choice rule choice) { held_back = b }) is.held_back
+
+-- ---- by the needs
+
+-- where each need that a world vouches for is met exactly where its thread passes, the needs of all that wait are
+pub exact_if_known : (bounds : Bounds) (test : ThreadId → Bool) (vouches : ThreadId → Need → Type 0) (rule : StrideState) →
+    ((thread : ThreadId) → (need : Need) → vouches thread need → is_met bounds need ≡ test thread) → AreKnown vouches rule → AreExact bounds test rule
+exact_if_known bounds test vouches rule says known =
+    all_to (λ c. vouches c.thread (need_of c.thread.number rule.needs)) (λ c. is_met bounds (need_of c.thread.number rule.needs) ≡ test c.thread)
+    (λ c h. says c.thread (need_of c.thread.number rule.needs) h) (waiting_of rule) known

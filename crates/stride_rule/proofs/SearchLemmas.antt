@@ -4,13 +4,19 @@ use Rattle.std.specs.Prelude.{⊤}
 use Rattle.std.specs.List.{AllByRecursion, list_all}
 use Rattle.std.proofs.lemmas.Bool.Decides.{nat_tests}
 use Rattle.cap_word.specs.declared.threads.ThreadId.{ThreadId}
+use Rattle.ready_tree.specs.declared.bounds.Bounds.{Bounds}
+use Rattle.ready_tree.specs.Needs.{is_met}
 use Rattle.stride_rule.specs.declared.clients.Client.{Client}
+use Rattle.stride_rule.specs.declared.rows.Row.{Row}
 use Rattle.stride_rule.specs.declared.searching.Found.{Found}
 use Rattle.stride_rule.specs.Choices.{IsFirstEligible, IsLawfulStrideThread}
 use Rattle.stride_rule.specs.Clients.{IsAbsent, client_of, is_before, is_running}
-use Rattle.stride_rule.specs.Search.{better, found_with, found_from, found_in, first_with, first_from, first_in}
+use Rattle.stride_rule.specs.Search.{better, found_with, found_from, found_in, found_among, first_with, first_from, first_in, met_with, met_among}
+use Rattle.stride_rule.specs.Rows.{clients_of, needs_in}
+use Rattle.stride_rule.specs.Told.{need_of}
 use Rattle.stride_rule.specs.State.{AreOnce, waiting_in}
-use Rattle.stride_rule.proofs.ClientLemmas.{all_to, by_test, other_number}
+use Rattle.stride_rule.proofs.ClientLemmas.{by_test, other_number}
+use Rattle.stride_rule.proofs.NotingLemmas.{all_wait}
 use Rattle.stride_rule.proofs.OrderLemmas.{goes_before-self, goes_before-asym, goes_before-cotrans}
 
 is_before-self : (a : Client) → is_before a a ≡ false
@@ -27,7 +33,7 @@ abbrev pub Lies : Client → List Client → Type 0
 Lies b [] = ⊥
 Lies b (c ∷ cs) = (c ≡ b) ⊎ Lies b cs
 
-once-waiting : (running : Option ℕ) (cs : List Client) → AreOnce cs → AreOnce (waiting_in running cs)
+pub once-waiting : (running : Option ℕ) (cs : List Client) → AreOnce cs → AreOnce (waiting_in running cs)
 once-waiting running [] once = tt
 once-waiting running (c ∷ cs) once =
     by_test (is_running running c) _
@@ -46,7 +52,7 @@ lies-other number b (c ∷ cs) none (inl is) e = none.0 (ap (λ (v : Client). v.
 lies-other number b (c ∷ cs) none (inr lies) e = lies-other number b cs none.1 lies e
 
 -- a client that stands in the list is that of its thread
-client-of_lies : (b : Client) (cs : List Client) → AreOnce cs → Lies b cs → client_of b.thread.number cs ≡ Some b
+pub client-of_lies : (b : Client) (cs : List Client) → AreOnce cs → Lies b cs → client_of b.thread.number cs ≡ Some b
 client-of_lies b [] once lies = absurd lies
 client-of_lies b (c ∷ cs) once (inl is) =
     let same : (c.thread.number == b.thread.number) ≡ true = let e : c.thread.number ≡ b.thread.number = ap (λ (v : Client). v.thread.number) is in grind (arith, nat_tests) in
@@ -289,27 +295,56 @@ module _ (eligible : ThreadId → Bool) where
       subst (λ (o : Option Client). IsBest eligible running None (waiting_in running cs) o) (sym e) (best_alone running cs none) in
       best.1
 
--- ---- the least of all, where it is eligible
+-- ---- a search through places
 
-module _ (eligible : ThreadId → Bool) (running : Option ℕ) where
-  abbrev anyone : ThreadId → Bool
-  anyone = λ thread. true
+pub found_among_is : (eligible : ThreadId → Bool) (running : Option ℕ) (f : Found) (ps : List (Option Row)) → found_among eligible running f ps ≡ found_from eligible running f (clients_of ps)
+found_among_is eligible running f [] = refl
+found_among_is eligible running f (None ∷ ps) = found_among_is eligible running f ps
+found_among_is eligible running f (Some r ∷ ps) = found_among_is eligible running (found_with eligible running f r.client) ps
 
-  lies_of : (b : Client) (waiting : List Client) → (None ≡ Some b) ⊎ (Lies b waiting × (true ≡ true)) → Lies b waiting
-  lies_of b waiting (inl failing) = absurd cc
-  lies_of b waiting (inr l) = l.0
+-- ---- a search by needs
 
-  eligible_least : (b : Client) (waiting : List Client) → eligible b.thread ≡ true → IsBestNow anyone running None waiting b → IsBestNow eligible running None waiting b
-  eligible_least b waiting passing is = record {
-    from = inr (lies_of b waiting is.from, passing);
-    no_better = tt;
-    first = all_to (λ c. IsTrue true → is_before c b ≡ false) (λ c. IsTrue (eligible c.thread) → is_before c b ≡ false) (λ c h _. h refl) waiting is.first;
-  }
+module _ (bounds : Bounds) (test : ThreadId → Bool) where
+  -- the need at each place is met exactly where its thread passes
+  abbrev pub AreRowsExact : List (Option Row) → Type 0
+  AreRowsExact [] = ⊤
+  AreRowsExact (None ∷ ps) = AreRowsExact ps
+  AreRowsExact (Some r ∷ ps) = (is_met bounds r.need ≡ test r.client.thread) × AreRowsExact ps
 
-  pub first_least : (cs : List Client) (b : Client) → running ≡ None → AreOnce cs → Some b ≡ first_in (λ thread. true) cs → eligible b.thread ≡ true →
-      IsLawfulStrideThread (waiting_in running cs) eligible (Some b.thread)
-  first_least cs b none once e passing =
-      let best : IsBest anyone running None (waiting_in running cs) (Some b) =
-      subst (λ (o : Option Client). IsBest anyone running None (waiting_in running cs) o) (sym e) (best_alone anyone running cs none) in
-      chosen_from eligible running b (waiting_in running cs) (once-waiting running cs once) (eligible_least b (waiting_in running cs) passing best)
-      (list_all (λ c. eligible c.thread) (waiting_in running cs)) refl
+  abbrev IsExact : List (Option Row) → Client → Type 0
+  IsExact ps c = is_met bounds (need_of c.thread.number (needs_in ps)) ≡ test c.thread
+
+  -- those behind the first place
+  tail_exact : (r : Row) (ps : List (Option Row)) (cs : List Client) → IsAbsent r.client.thread.number cs → AllByRecursion (IsExact (Some r ∷ ps)) cs → AllByRecursion (IsExact ps) cs
+  tail_exact r ps [] none all = tt
+  tail_exact r ps (c ∷ cs) none all =
+      let other : (r.client.thread.number == c.thread.number) ≡ false = other_number _ _ (λ e. none.0 (sym e)) in
+      (rw other at all.0, tail_exact r ps cs none.1 all.1)
+
+  pub rows_exact : (ps : List (Option Row)) → AreOnce (clients_of ps) → AllByRecursion (IsExact ps) (clients_of ps) → AreRowsExact ps
+  rows_exact [] once all = tt
+  rows_exact (None ∷ ps) once all = rows_exact ps once all
+  rows_exact (Some r ∷ ps) once all =
+      let same : (r.client.thread.number == r.client.thread.number) ≡ true = grind (arith, nat_tests) in
+      (rw same at all.0, rows_exact ps once.1 (tail_exact r ps (clients_of ps) once.0 all.1))
+
+  pub met_among_is : (best : Option Client) (ps : List (Option Row)) → AreRowsExact ps → met_among bounds best ps ≡ first_from test best (clients_of ps)
+  met_among_is best [] exact = refl
+  met_among_is best (None ∷ ps) exact = met_among_is best ps exact
+  met_among_is best (Some r ∷ ps) exact =
+      let same : met_with bounds best (Some r) ≡ first_with test best r.client = rw exact.0 refl in
+      rw same (met_among_is (first_with test best r.client) ps exact.1)
+
+  -- ---- the choice by needs
+
+  pub first_met_is : (running : Option ℕ) (ps : List (Option Row)) (b : Client) → running ≡ None → AreOnce (clients_of ps) →
+      AllByRecursion (IsExact ps) (waiting_in running (clients_of ps)) → Some b ≡ met_among bounds None ps → IsLawfulStrideThread (waiting_in running (clients_of ps)) test (Some b.thread)
+  first_met_is running ps b none once exact e =
+      first_alone test running (clients_of ps) b none once
+      (e ∙ met_among_is None ps (rows_exact ps once (subst (λ (cs : List Client). AllByRecursion (IsExact ps) cs) (all_wait running (clients_of ps) none) exact)))
+
+  pub none_met_is : (running : Option ℕ) (ps : List (Option Row)) → running ≡ None → AreOnce (clients_of ps) →
+      AllByRecursion (IsExact ps) (waiting_in running (clients_of ps)) → None ≡ met_among bounds None ps → IsLawfulStrideThread (waiting_in running (clients_of ps)) test None
+  none_met_is running ps none once exact e =
+      none_alone test running (clients_of ps) none
+      (e ∙ met_among_is None ps (rows_exact ps once (subst (λ (cs : List Client). AllByRecursion (IsExact ps) cs) (all_wait running (clients_of ps) none) exact)))

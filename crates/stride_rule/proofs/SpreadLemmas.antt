@@ -1,8 +1,10 @@
 -- The passes of clients that are near the latest are at most the greatest stride apart.
-use Rattle.std.proofs.Common.{ℕ, ◌+◌, ◌≤◌, min, max, List, [], ◌∷◌, arith}
+use Rattle.std.proofs.Common.{ℕ, ◌≡◌, ◌+◌, ◌-◌, ◌≤◌, min, max, Option, Some, None, List, [], ◌∷◌, refl, arith}
 use Rattle.std.specs.List.{AllByRecursion}
 use Rattle.stride_rule.specs.declared.clients.Client.{Client}
-use Rattle.stride_rule.specs.Spread.{most_from, least_from, apart_in}
+use Rattle.stride_rule.specs.declared.rows.Row.{Row}
+use Rattle.stride_rule.specs.Rows.{clients_of}
+use Rattle.stride_rule.specs.Spread.{most_from, most_among, least_from, least_among, first_pass, apart_in}
 use Rattle.stride_rule.specs.State.{IsNear}
 
 most-le : (latest greatest pass : ℕ) (cs : List Client) → pass ≤ latest + greatest → AllByRecursion (IsNear latest greatest) cs → most_from pass cs ≤ latest + greatest
@@ -21,3 +23,26 @@ apart-le latest greatest (c ∷ cs) near =
     let most : most_from c.pass cs ≤ latest + greatest = most-le latest greatest c.pass cs near.0.most near.1 in
     let least : latest ≤ least_from c.pass cs = least-ge latest greatest c.pass cs near.0.least near.1 in
     omega arith
+
+-- ---- at places
+
+most_among_is : (pass : ℕ) (ps : List (Option Row)) → most_among pass ps ≡ most_from pass (clients_of ps)
+most_among_is pass [] = refl
+most_among_is pass (None ∷ ps) = most_among_is pass ps
+most_among_is pass (Some r ∷ ps) = most_among_is (max pass r.client.pass) ps
+
+least_among_is : (pass : ℕ) (ps : List (Option Row)) → least_among pass ps ≡ least_from pass (clients_of ps)
+least_among_is pass [] = refl
+least_among_is pass (None ∷ ps) = least_among_is pass ps
+least_among_is pass (Some r ∷ ps) = least_among_is (min pass r.client.pass) ps
+
+apart_from_first : (pass : ℕ) (cs : List Client) → Some pass ≡ first_pass cs → most_from pass cs - least_from pass cs ≡ apart_in cs
+apart_from_first pass [] e = absurd cc
+apart_from_first pass (c ∷ cs) e =
+    let same : pass ≡ c.pass = cc in
+    let most : max pass c.pass ≡ c.pass = omega arith in
+    let least : min pass c.pass ≡ c.pass = omega arith in
+    rw (most, least) refl
+
+pub apart_among : (pass : ℕ) (ps : List (Option Row)) → Some pass ≡ first_pass (clients_of ps) → most_among pass ps - least_among pass ps ≡ apart_in (clients_of ps)
+apart_among pass ps e = rw (most_among_is pass ps, least_among_is pass ps) (apart_from_first pass (clients_of ps) e)

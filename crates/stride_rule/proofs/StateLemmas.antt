@@ -1,16 +1,21 @@
 -- What a rule keeps through its calls.
-use Rattle.std.proofs.Common.{◌≡◌, ℕ, ◌+◌, ◌*◌, ◌^◌, ◌≤◌, ◌<◌, ◌||◌, max, not, Bool, true, false, IsTrue, Option, Some, None, List, [], ◌∷◌, refl, sym, ap, ◌∙◌, subst, arith}
-use Rattle.std.specs.Prelude.{All, IsSome, IfSome, ◌==◌}
+use Rattle.std.proofs.Common.{◌≡◌, ℕ, ◌+◌, ◌*◌, ◌^◌, ◌≤◌, ◌<◌, ◌||◌, max, not, Bool, true, false, IsTrue, Option, Some, None, List, [], ◌∷◌, ◌++◌, refl, sym, ap, ◌∙◌, subst, arith}
+use Rattle.std.specs.Prelude.{IsSome, IfSome, ◌==◌}
 use Rattle.std.specs.List.{AllByRecursion}
 use Rattle.std.proofs.Math.Nat.{div-le_self}
 use Rattle.cap_word.specs.declared.threads.ThreadId.{ThreadId}
+use Rattle.ready_tree.specs.declared.needs.Need.{Need}
 use Rattle.stride_rule.specs.declared.choices.StrideChoice.{StrideChoice}
 use Rattle.stride_rule.specs.declared.clients.Client.{Client}
+use Rattle.stride_rule.specs.declared.rows.Row.{Row}
 use Rattle.stride_rule.specs.Choices.{IsFirst}
-use Rattle.stride_rule.specs.Clients.{IsAbsent, client_of, pass_in, with_growth, grown}
+use Rattle.stride_rule.specs.Clients.{IsAbsent, client_of, pass_in, with_growth, grown, without}
+use Rattle.stride_rule.specs.Told.{with_need, without_need}
+use Rattle.stride_rule.specs.Rows.{clients_of, needs_in}
 use Rattle.stride_rule.specs.Tickets.{AreTickets, stride_of, tickets_of}
-use Rattle.stride_rule.specs.State.{StrideState, IsClient, IsNear, IsKept, new_rule, with_client, after_choice, after_segment, after_leaving}
-use Rattle.stride_rule.proofs.ClientLemmas.{by_test, all_of, all_to, all_append, pass-of_client, all-client, all-without, once-grown, once-without, once-append}
+use Rattle.stride_rule.specs.State.{StrideState, IsClient, IsNear, IsKept, new_rule, with_client, after_choice, after_segment, after_segment_for, after_leaving}
+use Rattle.stride_rule.proofs.ClientLemmas.{by_test, all_to, all_append, pass-of_client, all-client, all-without, once-grown, once-without, once-append}
+use Rattle.stride_rule.proofs.RowLemmas.{clients_appended, needs_appended}
 use Rattle.stride_rule.proofs.OrderLemmas.{not_before-le}
 
 pub stride-le : (tickets : List (ℕ × ℕ)) (thread : ℕ) → stride_of tickets thread ≤ 1048576
@@ -18,8 +23,8 @@ stride-le tickets thread = div-le_self 1048576 (tickets_of tickets thread)
 
 -- ---- at first
 
-kept_empty : (tickets : List (ℕ × ℕ)) → AreTickets tickets → IsKept (new_rule tickets)
-kept_empty tickets are = record {
+pub kept_new : (tickets : List (ℕ × ℕ)) → AreTickets tickets → IsKept (new_rule tickets)
+kept_new tickets are = record {
   tickets = are;
   counted = omega arith;
   latest = omega arith;
@@ -27,10 +32,44 @@ kept_empty tickets are = record {
   clients = tt;
   once = tt;
   near = λ e. tt;
+  there = λ n e. absurd cc;
 }
 
-pub kept_new : (tickets : List (ℕ × ℕ)) (clients : List Client) → clients ≡ [] → AreTickets tickets → IsKept (record (new_rule tickets) { clients = clients })
-kept_new tickets clients none are = subst (λ (cs : List Client). IsKept (record (new_rule tickets) { clients = cs })) (sym none) (kept_empty tickets are)
+-- ---- what is said of each part of a state says what the state is
+
+module _ (rule : StrideState) (kept : IsKept rule) where
+  pub as_started : (thread : ThreadId) (clients : List Client) (greatest : ℕ) (needs : List (ℕ × Need)) → clients ≡ (with_client rule thread).clients → greatest ≡ (with_client rule thread).greatest →
+      needs ≡ with_need thread.number Need.Nothing rule.needs → record rule { clients = clients; greatest = greatest; needs = needs } ≡ with_client rule thread
+  as_started thread clients greatest needs e f h = λ i. record rule { clients = e i; greatest = f i; needs = h i }
+
+  pub as_noted : (choice : StrideChoice) (clients : List Client) (latest noted : ℕ) (held_back : Bool) (needs : List (ℕ × Need)) → clients ≡ grown choice.thread.number rule.clients →
+      latest ≡ pass_in choice.thread.number rule.clients → noted ≡ rule.noted + 1 → held_back ≡ (rule.held_back || not choice.all) → needs ≡ rule.needs →
+      record rule { clients = clients; running = Some choice.thread.number; latest = latest; noted = noted; held_back = held_back; needs = needs } ≡ after_choice rule choice
+  as_noted choice clients latest noted held_back needs e f g b h = λ i. record rule { clients = e i; running = Some choice.thread.number; latest = f i; noted = g i; held_back = b i; needs = h i }
+
+  pub as_told : (number : ℕ) (need : Need) (clients : List Client) (needs : List (ℕ × Need)) → clients ≡ rule.clients → needs ≡ with_need number need rule.needs →
+      record rule { clients = clients; running = None; needs = needs } ≡ after_segment_for rule number need
+  as_told number need clients needs e h = λ i. record rule { clients = e i; running = None; needs = h i }
+
+  pub as_left : (number : ℕ) (clients : List Client) (needs : List (ℕ × Need)) → clients ≡ without number rule.clients → needs ≡ without_need number rule.needs →
+      record rule { clients = clients; running = None; needs = needs } ≡ after_leaving rule number
+  as_left number clients needs e h = λ i. record rule { clients = e i; running = None; needs = h i }
+
+-- ---- a thread that is there
+
+some-append : (n : ℕ) (cs : List Client) (c : Client) → IsSome (client_of n cs) → IsSome (client_of n (cs ++ c ∷ []))
+some-append n [] c some = absurd (let no : false ≡ true = some in cc)
+some-append n (x ∷ xs) c some =
+    by_test (x.thread.number == n) _
+    (λ same. rw same refl)
+    (λ other. let rest : IsSome (client_of n xs) = rw other at some in rw other (some-append n xs c rest))
+
+some-grown : (n : ℕ) (cs : List Client) → IsSome (client_of n cs) → IsSome (client_of n (grown n cs))
+some-grown n [] some = absurd (let no : false ≡ true = some in cc)
+some-grown n (x ∷ xs) some =
+    by_test (x.thread.number == n) _
+    (λ same. rw (same, same) refl)
+    (λ other. let rest : IsSome (client_of n xs) = rw other at some in rw (other, other) (some-grown n xs rest))
 
 -- ---- a thread is started
 
@@ -56,13 +95,8 @@ module _ (rule : StrideState) (thread : ThreadId) (kept : IsKept rule) where
     near = λ e. all_append (IsNear rule.latest (max rule.greatest stride)) rule.clients _
         (all_to (IsNear rule.latest rule.greatest) (IsNear rule.latest (max rule.greatest stride)) near_stays rule.clients (kept.near e))
         (record { least = omega arith; most = omega arith });
+    there = λ n e. some-append n rule.clients _ (kept.there n e);
   }
-
-pub kept_started : (rule : StrideState) (thread : ThreadId) (clients : List Client) (greatest : ℕ) → IsKept rule → IsAbsent thread.number rule.clients →
-    clients ≡ (with_client rule thread).clients → greatest ≡ (with_client rule thread).greatest → IsKept (record rule { clients = clients; greatest = greatest })
-kept_started rule thread clients greatest kept none e f =
-    subst (λ (cs : List Client). IsKept (record rule { clients = cs; greatest = greatest })) (sym e)
-    (subst (λ (g : ℕ). IsKept (record rule { clients = (with_client rule thread).clients; greatest = g })) (sym f) (kept_with_client rule thread kept none))
 
 -- ---- a choice is noted
 
@@ -126,13 +160,13 @@ module _ (rule : StrideState) (choice : StrideChoice) (kept : IsKept rule) where
       (λ same. rw same (client_bound c all.0, all_to (IsClient rule) (IsClient (after_choice rule choice)) client_goes_on cs all.1))
       (λ other. rw other (client_goes_on c all.0, clients_grown cs all.1))
 
-  pub small_passes : All (λ c. c.pass + c.stride ≤ 2 ^ 61) rule.clients
-  small_passes = all_of (λ c. c.pass + c.stride ≤ 2 ^ 61) rule.clients (all_to (IsClient rule) (λ c. c.pass + c.stride ≤ 2 ^ 61) (λ c is.
+  pub small_passes : AllByRecursion (λ c. c.pass + c.stride ≤ 2 ^ 61) rule.clients
+  small_passes = all_to (IsClient rule) (λ c. c.pass + c.stride ≤ 2 ^ 61) (λ c is.
       let h : c.pass ≤ 1048576 * rule.noted = is.bound in
       let k : c.stride ≤ rule.greatest = is.greatest in
       let m : rule.greatest ≤ 1048576 = kept.greatest in
       let n : rule.noted ≤ 2 ^ 40 = kept.counted in
-      omega arith) rule.clients kept.clients)
+      omega arith) rule.clients kept.clients
 
   near_after : (chosen : Client) → client_of number rule.clients ≡ Some chosen → IsFirst rule.clients chosen → rule.held_back ≡ false →
       AllByRecursion (IsNear (pass_in number rule.clients) rule.greatest) (grown number rule.clients)
@@ -163,6 +197,7 @@ module _ (rule : StrideState) (choice : StrideChoice) (kept : IsKept rule) where
         clients = clients_grown rule.clients kept.clients;
         once = once-grown number rule.clients kept.once;
         near = λ e. let calm = not_held rule.held_back choice.all e in near_after chosen.0 chosen.1 (first_of chosen.0 chosen.1 (first calm.1)) calm.0;
+        there = λ n e. let same : number ≡ n = cc in subst (λ (m : ℕ). IsSome (client_of m (grown number rule.clients))) same (some-grown number rule.clients some);
       }
 
 -- ---- the choice under way ends
@@ -184,6 +219,19 @@ kept_after_segment rule kept = record {
   clients = all_to (IsClient rule) (IsClient (after_segment rule)) (client_same rule (after_segment rule) refl refl refl) rule.clients kept.clients;
   once = kept.once;
   near = kept.near;
+  there = λ n e. absurd (let no : None ≡ Some n = e in cc);
+}
+
+pub kept_after_segment_for : (rule : StrideState) (number : ℕ) (need : Need) → IsKept rule → IsKept (after_segment_for rule number need)
+kept_after_segment_for rule number need kept = record {
+  tickets = kept.tickets;
+  counted = kept.counted;
+  latest = kept.latest;
+  greatest = kept.greatest;
+  clients = all_to (IsClient rule) (IsClient (after_segment_for rule number need)) (client_same rule (after_segment_for rule number need) refl refl refl) rule.clients kept.clients;
+  once = kept.once;
+  near = kept.near;
+  there = λ n e. absurd (let no : None ≡ Some n = e in cc);
 }
 
 pub kept_after_leaving : (rule : StrideState) (number : ℕ) → IsKept rule → IsKept (after_leaving rule number)
@@ -196,4 +244,20 @@ kept_after_leaving rule number kept = record {
       (all_to (IsClient rule) (IsClient (after_leaving rule number)) (client_same rule (after_leaving rule number) refl refl refl) rule.clients kept.clients);
   once = once-without number rule.clients kept.once;
   near = λ e. all-without number (IsNear rule.latest rule.greatest) rule.clients (kept.near e);
+  there = λ n e. absurd (let no : None ≡ Some n = e in cc);
 }
+
+-- ---- a thread is started at the end of the places
+
+pub started : (rule : StrideState) → IsKept rule → (mid new : List (Option Row)) (thread : ThreadId) (its greatest : ℕ) → clients_of mid ≡ rule.clients → needs_in mid ≡ rule.needs → IsAbsent thread.number rule.clients →
+    its ≡ stride_of rule.tickets thread.number → greatest ≡ max rule.greatest its →
+    new ≡ mid ++ Some (record { client = record { thread = thread; stride = its; pass = rule.latest }; need = Need.Nothing }) ∷ [] →
+    record rule { clients = clients_of new; greatest = greatest; needs = needs_in new } ≡ with_client rule thread
+started rule kept mid new thread its greatest clients needs none stride_is greatest_is is =
+    let row : Row = record { client = record { thread = thread; stride = its; pass = rule.latest }; need = Need.Nothing } in
+    as_started rule kept thread (clients_of new) greatest (needs_in new)
+    (ap clients_of is ∙ clients_appended mid row ∙ ap (λ (cs : List Client). cs ++ row.client ∷ []) clients
+    ∙ ap (λ (s : ℕ). rule.clients ++ record { thread = thread; stride = s; pass = rule.latest } ∷ []) stride_is)
+    (greatest_is ∙ ap (λ (s : ℕ). max rule.greatest s) stride_is)
+    (ap needs_in is ∙ needs_appended mid row (subst (λ (cs : List Client). IsAbsent thread.number cs) (sym clients) none)
+    ∙ ap (λ (ns : List (ℕ × Need)). with_need thread.number Need.Nothing ns) needs)

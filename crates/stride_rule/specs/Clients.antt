@@ -1,5 +1,5 @@
 -- The threads that are scheduled by strides.
-use Rattle.std.specs.Prelude.{ℕ, ◌≢◌, zero, suc, ◌+◌, ◌==◌, nat_lt, ◌&&◌, ◌||◌, Bool, false, if◌then◌else◌, Option, Some, None, List, [], ◌∷◌, find}
+use Rattle.std.specs.Prelude.{ℕ, ◌≢◌, ◌+◌, ◌==◌, nat_lt, ◌&&◌, ◌||◌, Bool, false, if◌then◌else◌, Option, Some, None, List, [], ◌∷◌, find}
 use Rattle.std.specs.List.{AllByRecursion}
 use Rattle.stride_rule.specs.declared.clients.Client.{Client}
 
@@ -37,17 +37,6 @@ with_growth client = record client { pass = client.pass + client.stride }
 abbrev pub grown : ℕ → List Client → List Client
 grown number [] = []
 grown number (client ∷ clients) = if client.thread.number == number then with_growth client ∷ clients else client ∷ grown number clients
-
--- the same by the place in the list
-abbrev pub pass_at : List Client → ℕ → ℕ
-pass_at [] place = 0
-pass_at (client ∷ clients) zero = client.pass
-pass_at (client ∷ clients) (suc place) = pass_at clients place
-
-abbrev pub grown_at : ℕ → List Client → List Client
-grown_at place [] = []
-grown_at zero (client ∷ clients) = with_growth client ∷ clients
-grown_at (suc place) (client ∷ clients) = client ∷ grown_at place clients
 
 -- ---- a thread leaves
 

@@ -1,6 +1,11 @@
 pub mod Tickets
 pub mod Clients
+pub mod Rows
+pub mod Told
 pub mod Choices
 pub mod Search
+pub mod Summaries
+pub mod Levels
 pub mod Spread
 pub mod State
+pub mod Whole

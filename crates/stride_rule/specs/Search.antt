@@ -1,7 +1,10 @@
 -- A search through the clients, one after another.
 use Rattle.std.specs.Prelude.{ℕ, Bool, true, false, ◌&&◌, if◌then◌else◌, Option, Some, None, List, [], ◌∷◌}
 use Rattle.cap_word.specs.declared.threads.ThreadId.{ThreadId}
+use Rattle.ready_tree.specs.declared.bounds.Bounds.{Bounds}
+use Rattle.ready_tree.specs.Needs.{is_met}
 use Rattle.stride_rule.specs.declared.clients.Client.{Client}
+use Rattle.stride_rule.specs.declared.rows.Row.{Row}
 use Rattle.stride_rule.specs.declared.searching.Found.{Found}
 use Rattle.stride_rule.specs.Clients.{is_before, is_running}
 
@@ -25,6 +28,15 @@ found_from eligible running found (client ∷ clients) = found_from eligible run
 abbrev pub found_in : (ThreadId → Bool) → Option ℕ → List Client → Found
 found_in eligible running clients = found_from eligible running (record { best = None; all = true }) clients
 
+-- the same at places
+abbrev pub found_at : (ThreadId → Bool) → Option ℕ → Found → Option Row → Found
+found_at eligible running found None = found
+found_at eligible running found (Some row) = found_with eligible running found row.client
+
+abbrev pub found_among : (ThreadId → Bool) → Option ℕ → Found → List (Option Row) → Found
+found_among eligible running found [] = found
+found_among eligible running found (place ∷ places) = found_among eligible running (found_at eligible running found place) places
+
 -- ---- the first alone, where all clients wait
 
 -- whether a client goes before the best so far, or there is none
@@ -42,3 +54,12 @@ first_from eligible best (client ∷ clients) = first_from eligible (first_with 
 
 abbrev pub first_in : (ThreadId → Bool) → List Client → Option Client
 first_in eligible clients = first_from eligible None clients
+
+-- the first so far with who is at one more place, whose need is met
+abbrev pub met_with : Bounds → Option Client → Option Row → Option Client
+met_with bounds best None = best
+met_with bounds best (Some row) = if is_before_best row.client best && is_met bounds row.need then Some row.client else best
+
+abbrev pub met_among : Bounds → Option Client → List (Option Row) → Option Client
+met_among bounds best [] = best
+met_among bounds best (place ∷ places) = met_among bounds (met_with bounds best place) places

@@ -1,16 +1,21 @@
 -- What a stride rule means, and what its calls do to that.
-use Rattle.std.specs.Prelude.{ℕ, ◌≡◌, ⊤, ◌+◌, ◌*◌, ◌^◌, ◌≤◌, max, Bool, true, false, not, ◌||◌, IsTrue, Option, Some, None, List, [], ◌∷◌, ◌++◌, filter}
+use Rattle.std.specs.Prelude.{ℕ, ◌≡◌, ⊤, ◌+◌, ◌*◌, ◌^◌, ◌≤◌, max, Bool, true, false, not, ◌||◌, IsTrue, IsSome, Option, Some, None, List, [], ◌∷◌, ◌++◌, filter}
 use Rattle.std.specs.List.{AllByRecursion, list_all}
 use Rattle.cap_word.specs.declared.threads.ThreadId.{ThreadId}
+use Rattle.ready_tree.specs.declared.bounds.Bounds.{Bounds}
+use Rattle.ready_tree.specs.declared.needs.Need.{Need}
+use Rattle.ready_tree.specs.Needs.{is_met}
 use Rattle.stride_rule.specs.declared.choices.StrideChoice.{StrideChoice}
 use Rattle.stride_rule.specs.declared.clients.Client.{Client}
 use Rattle.stride_rule.specs.Choices.{IsFirstEligible, choice_among}
-use Rattle.stride_rule.specs.Clients.{IsAbsent, is_running, pass_in, grown, without}
+use Rattle.stride_rule.specs.Clients.{IsAbsent, client_of, is_running, pass_in, grown, without}
+use Rattle.stride_rule.specs.Told.{need_of, with_need, without_need}
 use Rattle.stride_rule.specs.Tickets.{AreTickets, stride_of}
 
 -- the tickets that are given; the threads that haven't left, with their strides and passes; the number of the thread whose choice is
 -- under way; the pass, before its growth, of the thread chosen last, or 0 at first; the number of choices noted; whether at one of
--- them not all that waited were eligible; and the greatest stride of the threads started so far, or 0 before the first
+-- them not all that waited were eligible; the greatest stride of the threads started so far, or 0 before the first; and what was told
+-- of each of the threads that it waits for
 pub record StrideState : Type 0 where
   pub tickets : List (ℕ × ℕ)
   pub clients : List Client
@@ -19,6 +24,7 @@ pub record StrideState : Type 0 where
   pub noted : ℕ
   pub held_back : Bool
   pub greatest : ℕ
+  pub needs : List (ℕ × Need)
 
 -- the threads that wait
 abbrev pub waiting_in : Option ℕ → List Client → List Client
@@ -29,13 +35,14 @@ waiting_of rule = waiting_in rule.running rule.clients
 
 -- no thread was started
 abbrev pub new_rule : List (ℕ × ℕ) → StrideState
-new_rule tickets = record { tickets = tickets; clients = []; running = None; latest = 0; noted = 0; held_back = false; greatest = 0 }
+new_rule tickets = record { tickets = tickets; clients = []; running = None; latest = 0; noted = 0; held_back = false; greatest = 0; needs = [] }
 
--- a thread was started, at the pass of the thread chosen last
+-- a thread was started, at the pass of the thread chosen last; it waits for nothing
 abbrev pub with_client : StrideState → ThreadId → StrideState
 with_client rule thread = record rule {
   clients = rule.clients ++ record { thread = thread; stride = stride_of rule.tickets thread.number; pass = rule.latest } ∷ [];
   greatest = max rule.greatest (stride_of rule.tickets thread.number);
+  needs = with_need thread.number Need.Nothing rule.needs;
 }
 
 -- a choice was noted: it is under way, and its thread's pass has grown by its stride
@@ -52,9 +59,23 @@ after_choice rule choice = record rule {
 abbrev pub after_segment : StrideState → StrideState
 after_segment rule = record rule { running = None }
 
+-- the choice under way has ended, and its thread waits for this
+abbrev pub after_segment_for : StrideState → ℕ → Need → StrideState
+after_segment_for rule number need = record rule { running = None; needs = with_need number need rule.needs }
+
 -- the choice under way has ended, and its thread has left
 abbrev pub after_leaving : StrideState → ℕ → StrideState
-after_leaving rule number = record rule { clients = without number rule.clients; running = None }
+after_leaving rule number = record rule { clients = without number rule.clients; running = None; needs = without_need number rule.needs }
+
+-- ---- who may go on
+
+-- a world vouches for the needs that were told of the threads that wait
+abbrev pub AreKnown : (ThreadId → Need → Type 0) → StrideState → Type 0
+AreKnown vouches rule = AllByRecursion (λ client. vouches client.thread (need_of client.thread.number rule.needs)) (waiting_of rule)
+
+-- the needs say which threads pass the test
+abbrev pub AreExact : Bounds → (ThreadId → Bool) → StrideState → Type 0
+AreExact bounds test rule = AllByRecursion (λ client. is_met bounds (need_of client.thread.number rule.needs) ≡ test client.thread) (waiting_of rule)
 
 -- the choice as it is noted: its thread is the one to go on; whether all that wait are eligible is told where no thread was held back
 -- before, and tells the rule nothing more where one was
@@ -95,3 +116,4 @@ pub record IsKept (rule : StrideState) : Type 0 where
   pub clients : AllByRecursion (IsClient rule) rule.clients
   pub once : AreOnce rule.clients
   pub near : rule.held_back ≡ false → AllByRecursion (IsNear rule.latest rule.greatest) rule.clients
+  pub there : (number : ℕ) → rule.running ≡ Some number → IsSome (client_of number rule.clients)

@@ -1,14 +1,20 @@
-ghost use Rattle.std.specs.Prelude.{◌≡◌, ◌≤◌, ◌<◌, ◌^◌, ℕ, Some, None, IsTrue, IsSome, IfSome, OnOk, OnErr, ◌||◌, not};
+ghost use Rattle.std.specs.Prelude.{◌≡◌, Bool, ◌≤◌, ◌<◌, ◌^◌, ℕ, Some, None, IsTrue, IsSome, IfSome, OnOk, OnErr, ◌||◌, not};
+ghost use Rattle.cap_word.specs.declared.threads.ThreadId.{ThreadId as ThreadIdOf};
 ghost use Rattle.scheduler.specs.LawfulChoice.{is_eligible};
 ghost use Rattle.stride_rule.specs.Tickets.{AreTickets};
 
 use crate::choices::StrideChoice;
-use crate::clients::{Client, grow, take_out};
-use crate::searching::{search, search_first, search_least};
+use crate::clients::Client;
+use crate::levels::Levels;
+use crate::places::{append, make_room};
+use crate::rows::Row;
+use crate::searching::search;
 use crate::spreads::apart;
+use crate::threads::{grow, take_out, tell};
 use crate::tickets::stride_for;
 use cap_word::{Ready, ThreadId};
-use scheduler::may_go_on;
+use ready_tree::{Bounded, Bounds, Need};
+use scheduler::bounds_at_gate;
 use std::alloc::{AllocError, Global};
 use std::marker::Model;
 
@@ -23,7 +29,9 @@ fn is_held_back(before: bool, all: bool) -> bool
 #[derive(Drop)]
 pub struct StrideRule {
     tickets: Vec<(u32, u32)>,
-    clients: Vec<Client>,
+    places: Vec<Option<Row>>,
+    hints: Vec<usize>,
+    levels: Levels,
     running: Option<u32>,
     latest: u64,
     noted: u64,
@@ -32,20 +40,22 @@ pub struct StrideRule {
 }
 
 impl Model for StrideRule {
-    ghost use Rattle.stride_rule.specs.State.{StrideState, IsKept};
+    ghost use Rattle.stride_rule.specs.Rows.{clients_of, needs_in};
+    ghost use Rattle.stride_rule.specs.State.{StrideState};
+    ghost use Rattle.stride_rule.specs.Whole.{IsWhole};
 
     ghost Value = { StrideState };
 
-    ghost view = { λ s. record { tickets = s.tickets.items; clients = s.clients.items; running = s.running; latest = s.latest; noted = s.noted; held_back = s.held_back; greatest = s.greatest } };
+    ghost view = { λ s. record { tickets = s.tickets.items; clients = clients_of s.places.items; running = s.running; latest = s.latest; noted = s.noted; held_back = s.held_back; greatest = s.greatest; needs = needs_in s.places.items } };
 
-    ghost invariant = { λ s. IsKept (record { tickets = s.tickets.items; clients = s.clients.items; running = s.running; latest = s.latest; noted = s.noted; held_back = s.held_back; greatest = s.greatest }) };
+    ghost invariant = { λ s. IsWhole s.levels s.places.items (record { tickets = s.tickets.items; clients = clients_of s.places.items; running = s.running; latest = s.latest; noted = s.noted; held_back = s.held_back; greatest = s.greatest; needs = needs_in s.places.items }) };
 }
 
 impl StrideRule {
     ghost use Rattle.stride_rule.specs.Choices.{IsLawfulStrideChoice, IsLawfulStrideThread, IsFirst, choice_among};
     ghost use Rattle.stride_rule.specs.Clients.{IsAbsent, client_of};
     ghost use Rattle.stride_rule.specs.Spread.{spread_of};
-    ghost use Rattle.stride_rule.specs.State.{IsNotedAsIf, new_rule, waiting_of, with_client, after_choice, after_segment, after_leaving};
+    ghost use Rattle.stride_rule.specs.State.{AreExact, AreKnown, IsNotedAsIf, new_rule, waiting_of, with_client, after_choice, after_segment, after_segment_for, after_leaving};
 
     /// A rule without threads. The tickets are given by the numbers of threads, which rise strictly, and are from 1 to 1,024
     /// each; every other thread has 1. It takes no memory.
@@ -55,7 +65,9 @@ impl StrideRule {
     {
         StrideRule {
             tickets,
-            clients: Vec::new(alloc),
+            places: Vec::new(alloc),
+            hints: Vec::new(alloc),
+            levels: Levels::new(alloc),
             running: None,
             latest: 0,
             noted: 0,
@@ -64,19 +76,23 @@ impl StrideRule {
         }
     }
 
-    /// Adds a thread that waits, at the pass of the thread chosen last, and the room that later calls need for it.
+    /// Adds a thread that waits, for nothing, at the pass of the thread chosen last, and the room that later calls need for it.
     pub fn start(&mut self, thread: ThreadId) -> Result<(), AllocError>
         requires { IsAbsent thread.number self.old.clients }
         ensures ok { OnOk result (self.new ≡ with_client self.old thread) }
         ensures err { OnErr result (self.new ≡ self.old) }
     {
-        self.clients.reserve(1)?;
+        make_room(&mut self.places, &mut self.hints, &mut self.levels)?;
         let stride = stride_for(self.tickets.as_slice(), thread.number);
-        self.clients.push_reserved(Client {
-            thread,
-            stride,
-            pass: self.latest,
-        });
+        let row = Row {
+            client: Client {
+                thread,
+                stride,
+                pass: self.latest,
+            },
+            need: Need::Nothing,
+        };
+        append(&mut self.places, &mut self.hints, &mut self.levels, row)?;
         self.greatest = self.greatest.max(stride);
         Ok(())
     }
@@ -88,7 +104,7 @@ impl StrideRule {
     pub fn choose<R: Ready>(&self, gate_open: bool, ready: &R) -> Option<StrideChoice>
         ensures { IsLawfulStrideChoice (waiting_of self.now) (is_eligible (R.is_ready ready.now) (R.at_accept ready.now) (R.any_elsewhere ready.now) gate_open) result }
     {
-        let found = search(self.clients.as_slice(), self.running, gate_open, ready);
+        let found = search(self.places.as_slice(), self.running, gate_open, ready);
         match found.best {
             Some(client) => Some(StrideChoice {
                 thread: client.thread,
@@ -106,48 +122,43 @@ impl StrideRule {
         requires room { self.old.noted < 2 ^ 40 }
         ensures { self.new ≡ after_choice self.old choice.now }
     {
-        self.latest = grow(&mut self.clients, choice.thread.number);
+        self.latest = grow(&mut self.places, &self.hints, choice.thread);
         self.running = Some(choice.thread.number);
         self.noted += 1;
         self.held_back = is_held_back(self.held_back, choice.all);
     }
 
-    /// The thread of the choice that `choose` makes, where no choice is under way. The first thread of all is asked before the
-    /// others, and then none that goes after the best one so far. It takes no memory.
-    pub fn first<R: Ready>(&self, gate_open: bool, ready: &R) -> Option<ThreadId>
+    /// The thread of the choice among those whose needs are met, where no choice is under way. No thread is asked. It takes no
+    /// memory.
+    fn first(&self, bounds: &Bounds) -> Option<ThreadId>
         requires { self.now.running ≡ None }
-        ensures { IsLawfulStrideThread (waiting_of self.now) (is_eligible (R.is_ready ready.now) (R.at_accept ready.now) (R.any_elsewhere ready.now) gate_open) result }
+        ensures { (test : ThreadIdOf → Bool) → AreExact bounds.now test self.now → IsLawfulStrideThread (waiting_of self.now) test result }
     {
-        let clients = self.clients.as_slice();
-        if let Some(least) = search_least(clients) {
-            if may_go_on(ready, gate_open, least.thread) {
-                return Some(least.thread);
-            }
-        }
-        match search_first(clients, gate_open, ready) {
+        match self.levels.first_met(self.places.as_slice(), bounds) {
             Some(client) => Some(client.thread),
             None => None,
         }
     }
 
-    /// The choice as it is to be noted. Where a thread was held back before, it isn't looked for whether one is now.
-    fn choice_to_note<R: Ready>(&self, gate_open: bool, ready: &R) -> Option<StrideChoice>
-        requires { self.now.running ≡ None }
-        ensures { IsNotedAsIf self.now (is_eligible (R.is_ready ready.now) (R.at_accept ready.now) (R.any_elsewhere ready.now) gate_open) result }
+    /// The choice as it is to be noted, by the needs. Where a thread was held back before, it isn't looked for whether one is now,
+    /// and no thread is asked.
+    fn choice_by_needs<W: Bounded>(&self, gate_open: bool, world: &W) -> Option<StrideChoice>
+        requires none_under_way { self.now.running ≡ None }
+        requires known { AreKnown (W.vouches world.now) self.now }
+        ensures { IsNotedAsIf self.now (is_eligible (W.is_ready world.now) (W.at_accept world.now) (W.any_elsewhere world.now) gate_open) result }
     {
         if self.held_back {
-            match self.first(gate_open, ready) {
+            let bounds = bounds_at_gate(world, gate_open);
+            match self.first(&bounds) {
                 Some(thread) => Some(StrideChoice { thread, all: false }),
                 None => None,
             }
         } else {
-            self.choose(gate_open, ready)
+            self.choose(gate_open, world)
         }
     }
 
-    /// The thread of the choice that `choose` makes. The choice is noted, and under way from here on. Each thread that waits is
-    /// asked until some choice finds one that isn't eligible, and from then on none that goes after the best one so far. It takes
-    /// no memory.
+    /// The thread of the choice that `choose` makes. The choice is noted, and under way from here on. It takes no memory.
     pub fn take<R: Ready>(&mut self, gate_open: bool, ready: &R) -> Option<ThreadId>
         requires none_under_way { self.old.running ≡ None }
         requires room { self.old.noted < 2 ^ 40 }
@@ -155,18 +166,50 @@ impl StrideRule {
         ensures noted { IfSome result (λ thread. self.new ≡ after_choice self.old (choice_among (waiting_of self.old) (is_eligible (R.is_ready ready.now) (R.at_accept ready.now) (R.any_elsewhere ready.now) gate_open) thread)) }
         ensures none { result ≡ None → self.new ≡ self.old }
     {
-        let Some(choice) = self.choice_to_note(gate_open, ready) else {
+        let Some(choice) = self.choose(gate_open, ready) else {
             return None;
         };
         self.note_choice(&choice);
         Some(choice.thread)
     }
 
-    /// Ends the choice under way: its thread waits again. It takes no memory.
+    /// The same where the world vouches for the needs that were told. Each thread that waits is asked until some choice finds one
+    /// that isn't eligible. From then on none is: the needs say who may go on. It takes no memory.
+    pub fn take_choice<W: Bounded>(&mut self, gate_open: bool, world: &W) -> Option<ThreadId>
+        requires none_under_way { self.old.running ≡ None }
+        requires known { AreKnown (W.vouches world.now) self.old }
+        requires room { self.old.noted < 2 ^ 40 }
+        ensures lawful { IsLawfulStrideThread (waiting_of self.old) (is_eligible (W.is_ready world.now) (W.at_accept world.now) (W.any_elsewhere world.now) gate_open) result }
+        ensures noted { IfSome result (λ thread. self.new ≡ after_choice self.old (choice_among (waiting_of self.old) (is_eligible (W.is_ready world.now) (W.at_accept world.now) (W.any_elsewhere world.now) gate_open) thread)) }
+        ensures none { result ≡ None → self.new ≡ self.old }
+    {
+        let Some(choice) = self.choice_by_needs(gate_open, world) else {
+            return None;
+        };
+        self.note_choice(&choice);
+        Some(choice.thread)
+    }
+
+    /// Ends the choice under way: its thread waits again, for what it waited before. It takes no memory.
     pub fn rejoin(&mut self, thread: ThreadId)
         requires { self.old.running ≡ Some thread.number }
         ensures { self.new ≡ after_segment self.old }
     {
+        self.running = None;
+    }
+
+    /// Ends the choice under way: its thread waits for this. It takes no memory.
+    pub fn rejoin_for(&mut self, thread: ThreadId, need: Need)
+        requires { self.old.running ≡ Some thread.number }
+        ensures { self.new ≡ after_segment_for self.old thread.number need }
+    {
+        tell(
+            &mut self.places,
+            &self.hints,
+            &mut self.levels,
+            thread,
+            need,
+        );
         self.running = None;
     }
 
@@ -175,7 +218,7 @@ impl StrideRule {
         requires { self.old.running ≡ Some thread.number }
         ensures { self.new ≡ after_leaving self.old thread.number }
     {
-        take_out(&mut self.clients, thread.number);
+        take_out(&mut self.places, &self.hints, &mut self.levels, thread);
         self.running = None;
     }
 
@@ -189,7 +232,7 @@ impl StrideRule {
         if self.held_back {
             None
         } else {
-            Some(apart(self.clients.as_slice()))
+            Some(apart(self.places.as_slice()))
         }
     }
 }

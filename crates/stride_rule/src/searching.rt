@@ -1,9 +1,11 @@
-ghost use Rattle.std.specs.Prelude.{◌≡◌, true};
+ghost use Rattle.std.specs.Prelude.{◌≡◌, true, None};
 ghost use Rattle.scheduler.specs.LawfulChoice.{is_eligible};
-ghost use Rattle.stride_rule.specs.Search.{better, found_with, found_in, first_in, is_before_best};
+ghost use Rattle.stride_rule.specs.Search.{better, found_with, found_at, found_among, is_before_best, met_with};
 
 use crate::clients::{Client, is_client_before, is_client_running};
+use crate::rows::Row;
 use cap_word::Ready;
+use ready_tree::Bounds;
 use scheduler::may_go_on;
 
 /// How far a search through the clients has come.
@@ -56,21 +58,37 @@ fn looked_at<R: Ready>(
     }
 }
 
+/// The same with one more place.
+fn looked_at_place<R: Ready>(
+    found: Found,
+    running: Option<u32>,
+    place: &Option<Row>,
+    gate_open: bool,
+    ready: &R,
+) -> Found
+    ensures { result ≡ found_at (is_eligible (R.is_ready ready.now) (R.at_accept ready.now) (R.any_elsewhere ready.now) gate_open) running found place.now }
+{
+    match place {
+        Some(row) => looked_at(found, running, &row.client, gate_open, ready),
+        None => found,
+    }
+}
+
 /// What is found among all clients. Each that waits is asked once.
 pub(crate) fn search<R: Ready>(
-    clients: &[Client],
+    places: &[Option<Row>],
     running: Option<u32>,
     gate_open: bool,
     ready: &R,
 ) -> Found
-    ensures { result ≡ found_in (is_eligible (R.is_ready ready.now) (R.at_accept ready.now) (R.any_elsewhere ready.now) gate_open) running clients.now }
+    ensures { result ≡ found_among (is_eligible (R.is_ready ready.now) (R.at_accept ready.now) (R.any_elsewhere ready.now) gate_open) running (record { best = None; all = true }) places.now }
 {
     let mut found = Found {
         best: None,
         all: true,
     };
-    for client in clients {
-        found = looked_at(found, running, client, gate_open, ready);
+    for place in places {
+        found = looked_at_place(found, running, place, gate_open, ready);
     }
     found
 }
@@ -85,32 +103,18 @@ fn is_before_best_so_far(client: &Client, best: &Option<Client>) -> bool
     }
 }
 
-/// The first of the clients, whether they may go on or not.
-pub(crate) fn search_least(clients: &[Client]) -> Option<Client>
-    ensures { result ≡ first_in (λ thread. true) clients.now }
+/// The first of the best so far and who is at one more place, if its need is met.
+pub(crate) fn met_at(best: Option<Client>, place: &Option<Row>, bounds: &Bounds) -> Option<Client>
+    ensures { result ≡ met_with bounds.now best place.now }
 {
-    let mut best: Option<Client> = None;
-    for client in clients {
-        if is_before_best_so_far(client, &best) {
-            best = Some(*client);
+    match place {
+        Some(row) => {
+            if is_before_best_so_far(&row.client, &best) && bounds.meet(row.need) {
+                Some(row.client)
+            } else {
+                best
+            }
         }
+        None => best,
     }
-    best
-}
-
-/// The first of the clients that may go on, where no choice is under way. A client that goes after the best so far isn't asked.
-pub(crate) fn search_first<R: Ready>(
-    clients: &[Client],
-    gate_open: bool,
-    ready: &R,
-) -> Option<Client>
-    ensures { result ≡ first_in (is_eligible (R.is_ready ready.now) (R.at_accept ready.now) (R.any_elsewhere ready.now) gate_open) clients.now }
-{
-    let mut best: Option<Client> = None;
-    for client in clients {
-        if is_before_best_so_far(client, &best) && may_go_on(ready, gate_open, client.thread) {
-            best = Some(*client);
-        }
-    }
-    best
 }

@@ -1,27 +1,60 @@
 ghost use Rattle.std.specs.Prelude.{◌≡◌, ◌-◌};
-ghost use Rattle.stride_rule.specs.Spread.{apart_in, most_from, least_from};
+ghost use Rattle.stride_rule.specs.Rows.{clients_of};
+ghost use Rattle.stride_rule.specs.Spread.{apart_in, first_pass, most_among, most_with, least_among, least_with};
 
-use crate::clients::Client;
+use crate::rows::Row;
 
 /// The greatest pass less the least, or 0 where there is no client.
-pub(crate) fn apart(clients: &[Client]) -> u64
-    ensures { result ≡ apart_in clients.now }
+pub(crate) fn apart(places: &[Option<Row>]) -> u64
+    ensures { result ≡ apart_in (clients_of places.now) }
 {
-    match clients {
-        [] => 0,
-        [first, rest @ ..] => apart_from(first.pass, rest),
+    match pass_of_first(places) {
+        Some(pass) => apart_from(pass, places),
+        None => 0,
     }
 }
 
-/// The same of a pass and these clients.
-fn apart_from(pass: u64, clients: &[Client]) -> u64
-    ensures { result ≡ most_from pass clients.now - least_from pass clients.now }
+/// The pass of the first client.
+fn pass_of_first(places: &[Option<Row>]) -> Option<u64>
+    ensures { result ≡ first_pass (clients_of places.now) }
+{
+    for place in places {
+        if let Some(row) = place {
+            return Some(row.client.pass);
+        }
+    }
+    None
+}
+
+/// The greater of a pass and that at a place.
+fn most_of(pass: u64, place: &Option<Row>) -> u64
+    ensures { result ≡ most_with pass place.now }
+{
+    match place {
+        Some(row) => pass.max(row.client.pass),
+        None => pass,
+    }
+}
+
+/// The lesser of a pass and that at a place.
+fn least_of(pass: u64, place: &Option<Row>) -> u64
+    ensures { result ≡ least_with pass place.now }
+{
+    match place {
+        Some(row) => pass.min(row.client.pass),
+        None => pass,
+    }
+}
+
+/// How far apart a pass and those at the places are.
+fn apart_from(pass: u64, places: &[Option<Row>]) -> u64
+    ensures { result ≡ most_among pass places.now - least_among pass places.now }
 {
     let mut most = pass;
     let mut least = pass;
-    for client in clients {
-        most = most.max(client.pass);
-        least = least.min(client.pass);
+    for place in places {
+        most = most_of(most, place);
+        least = least_of(least, place);
     }
     most - least
 }

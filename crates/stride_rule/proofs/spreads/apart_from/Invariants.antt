@@ -1,10 +1,10 @@
 use Rattle.std.proofs.Common.{◌≡◌, ◌≤◌, drop}
-use Rattle.stride_rule.specs.Spread.{most_from, least_from}
+use Rattle.stride_rule.specs.Spread.{most_among, least_among}
 use Rattle.stride_rule.proofs.spreads.apart_from.Given as goal
 
-abbrev pub invariant-loop-client : goal.invariant-loop-client
-invariant-loop-client l = record {
-  most : most_from l.most (drop l.client-index l.clients) ≡ most_from l.pass l.clients;
-  least : least_from l.least (drop l.client-index l.clients) ≡ least_from l.pass l.clients;
+abbrev pub invariant-loop-place : goal.invariant-loop-place
+invariant-loop-place l = record {
+  most : most_among l.most (drop l.place-index l.places) ≡ most_among l.pass l.places;
+  least : least_among l.least (drop l.place-index l.places) ≡ least_among l.pass l.places;
   order : l.least ≤ l.most;
 }

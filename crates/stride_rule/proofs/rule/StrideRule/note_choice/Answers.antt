@@ -1,17 +1,31 @@
-use Rattle.std.proofs.Common.{refl}
-use Rattle.stride_rule.proofs.StateLemmas.{small_passes, kept_after_choice}
+use Rattle.std.proofs.Common.{refl, subst, sym}
+use Rattle.stride_rule.specs.State.{IsKept}
+use Rattle.stride_rule.proofs.StateLemmas.{as_noted, small_passes, kept_after_choice}
 use Rattle.stride_rule.proofs.rule.StrideRule.note_choice.Goals as goal
 
 pub grow-self-inside-requires : goal.grow-self-inside-requires
-grow-self-inside-requires c = record { room = small_passes _ c.args.choice.now c.self.invariant }
+grow-self-inside-requires c = record {
+  once = c.self.invariant.kept.once;
+  room = (small_passes _ c.args.choice.now c.self.invariant.kept);
+}
 
 pub invariant_of-self : goal.invariant_of-self
 invariant_of-self c =
     let waits = rw (← c.self.view_is) at c.requires.waits in
     let first = rw (← c.self.view_is) at c.requires.first in
     let room = rw (← c.self.view_is) at c.requires.room in
-    rw (c.grow-self-inside.ensures.pass, c.grow-self-inside.ensures.grown, c.is_held_back-self-inside.ensures)
-    (kept_after_choice _ c.args.choice.now c.self.invariant waits first room)
+    let clients = c.grow-self-inside.ensures.grown in
+    let pass = c.grow-self-inside.ensures.pass in
+    let needs = c.grow-self-inside.ensures.needs in
+    record {
+      kept = subst IsKept (sym (as_noted _ c.self.invariant.kept c.args.choice.now _ _ _ _ _ clients pass refl c.is_held_back-self-inside.ensures needs))
+          (kept_after_choice _ c.args.choice.now c.self.invariant.kept waits first room);
+      covered = c.grow-self-inside.ensures.levels _ c.self.invariant.covered;
+    }
 
 pub returns : goal.returns
-returns c = rw (← c.self.view_is, c.grow-self-inside.ensures.pass, c.grow-self-inside.ensures.grown, c.is_held_back-self-inside.ensures) refl
+returns c =
+    let clients = c.grow-self-inside.ensures.grown in
+    let pass = c.grow-self-inside.ensures.pass in
+    let needs = c.grow-self-inside.ensures.needs in
+    rw (← c.self.view_is) (as_noted _ c.self.invariant.kept c.args.choice.now _ _ _ _ _ clients pass refl c.is_held_back-self-inside.ensures needs)

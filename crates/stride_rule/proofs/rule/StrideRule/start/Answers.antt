@@ -1,12 +1,24 @@
-use Rattle.std.proofs.Common.{rules}
-use Rattle.stride_rule.specs.Clients.{IsAbsent}
-use Rattle.stride_rule.proofs.StateLemmas.{kept_started}
+use Rattle.std.proofs.Common.{subst, sym}
+use Rattle.stride_rule.specs.State.{IsKept}
+use Rattle.stride_rule.proofs.StateLemmas.{kept_with_client, started}
 use Rattle.stride_rule.proofs.rule.StrideRule.start.Goals as goal
-
-pub invariant_of-self : goal.invariant_of-self
-invariant_of-self c = rw c.reserve.ensures.items c.self.invariant
 
 pub invariant_of-self-2 : goal.invariant_of-self-2
 invariant_of-self-2 c =
-    let none : IsAbsent c.args.thread.number c.self.inside.clients.items = rw (← c.self.view_is) at c.requires in
-    kept_started _ c.args.thread _ _ c.self.invariant none (search rules) (search rules)
+    let none = rw (← c.self.view_is) at c.requires in
+    let stride = rw c.as_slice.ensures.value at c.stride_for-stride.ensures.value in
+    record {
+      kept = subst IsKept
+          (sym (started _ c.self.invariant.kept c.make_room.new.places.items c.append.new.places.items c.args.thread c.stride_for-stride.result c.max-self-inside.result c.make_room.ensures.clients c.make_room.ensures.needs none stride
+          c.max-self-inside.ensures c.in_ok-append.ensures.ok))
+          (kept_with_client _ c.args.thread c.self.invariant.kept none);
+      covered = c.append.ensures.levels;
+    }
+
+pub returns-clause-ok : goal.returns-clause-ok
+returns-clause-ok c =
+    let none = rw (← c.self.view_is) at c.requires in
+    let stride = rw c.as_slice.ensures.value at c.stride_for-stride.ensures.value in
+    rw (← c.self.view_is)
+    (started _ c.self.invariant.kept c.make_room.new.places.items c.append.new.places.items c.args.thread c.stride_for-stride.result c.max-self-inside.result c.make_room.ensures.clients c.make_room.ensures.needs none stride
+    c.max-self-inside.ensures c.in_ok-append.ensures.ok)

@@ -1,0 +1,221 @@
+-- Summaries at each level, while places change.
+use Rattle.std.proofs.Common.{◌≡◌, ◌≢◌, ℕ, zero, suc, false, ◌+◌, ◌<◌, ◌≤◌, ◌/◌, ◌%◌, Option, Some, None, List, [], ◌∷◌, ◌++◌, length, slice_set, refl, ap, ◌∙◌, subst, ⊎_elim, arith}
+use Rattle.std.proofs.lemmas.Bool.{cases_eq}
+use Rattle.std.proofs.lemmas.Bool.Decides.{nat_tests}
+use Rattle.std.proofs.lemmas.List.{get_or-set_same, get_or-set_other, length-set, length_push, get_or_append_left}
+use Rattle.std.proofs.Math.Seq.{get_or-append_seam}
+use Rattle.ready_tree.specs.declared.bounds.Bounds.{Bounds}
+use Rattle.stride_rule.specs.declared.clients.Client.{Client}
+use Rattle.stride_rule.specs.declared.levels.Levels.{Levels}
+use Rattle.stride_rule.specs.declared.rows.Row.{Row}
+use Rattle.stride_rule.specs.declared.summaries.Summary.{Summary}
+use Rattle.stride_rule.specs.Clients.{goes_before}
+use Rattle.stride_rule.specs.Levels.{AreLevels, AreLevelsBut, HasRoom, IsCovered, IsThere}
+use Rattle.stride_rule.specs.Rows.{row_at, row_grown}
+use Rattle.stride_rule.specs.Search.{met_with}
+use Rattle.stride_rule.specs.Summaries.{Covers, Includes, may_help, summary_at}
+use Rattle.stride_rule.proofs.SummaryLemmas.{includes_covers, no_help}
+
+later_still : (pass stride number p n : ℕ) → goes_before pass number p n ≡ false → goes_before (pass + stride) number p n ≡ false
+later_still pass stride number p n h = grind (arith, nat_tests)
+
+grown_covered : (s : Summary) (place : Option Row) → Covers s place → Covers s (row_grown place)
+grown_covered s None covers = tt
+grown_covered s (Some r) covers = record { met = covers.met; least = later_still r.client.pass r.client.stride r.client.thread.number s.pass s.number covers.least }
+
+-- ---- one level
+
+module _ (at : ℕ → ℕ) (level : List Summary) (ps : List (Option Row)) where
+  abbrev pub AreCovered : Type 0
+  AreCovered = (place : ℕ) → place < length ps → IsCovered level (at place) (row_at ps place)
+
+  -- a thread's pass has grown
+  pub covered_grown : (k : ℕ) → k < length ps → AreCovered → (place : ℕ) → place < length (slice_set ps k (row_grown (row_at ps k))) → IsCovered level (at place) (row_at (slice_set ps k (row_grown (row_at ps k))) place)
+  covered_grown k there covered place below =
+      let within : place < length ps = rw (length-set ps k (row_grown (row_at ps k))) at below in
+      ⊎_elim
+      (λ (same : place ≡ k). record {
+        there = (covered place within).there;
+        covers = rw (same, get_or-set_same ps k (row_grown (row_at ps k)) None there) (grown_covered (summary_at level (at k)) (row_at ps k) (covered k there).covers);
+      })
+      (λ (apart : place ≢ k). record {
+        there = (covered place within).there;
+        covers = rw (get_or-set_other ps k place (row_grown (row_at ps k)) None apart) (covered place within).covers;
+      })
+      (cases_eq place k)
+
+  -- another stands at a place: all but that one are covered
+  pub covered_but : (k : ℕ) (row : Option Row) → AreCovered → (place : ℕ) → place < length (slice_set ps k row) → place ≢ k → Covers (summary_at level (at place)) (row_at (slice_set ps k row) place)
+  covered_but k row covered place below apart =
+      let within : place < length ps = rw (length-set ps k row) at below in
+      rw (get_or-set_other ps k place row None apart) (covered place within).covers
+
+  -- one summary is brought up to date
+  pub covered_set : (k : ℕ) (s : Summary) → ((place : ℕ) → place < length ps → at place < length level) → ((place : ℕ) → place < length ps → place ≢ k → Covers (summary_at level (at place)) (row_at ps place)) →
+      ((place : ℕ) → place < length ps → at place ≡ at k → Covers s (row_at ps place)) → (place : ℕ) → place < length ps → IsCovered (slice_set level (at k) s) (at place) (row_at ps place)
+  covered_set k s there but mine place below =
+      ⊎_elim
+      (λ (same : at place ≡ at k). record {
+        there = rw (length-set level (at k) s) (there place below);
+        covers = rw (same, get_or-set_same level (at k) s _ (subst (λ (i : ℕ). i < length level) same (there place below))) (mine place below same);
+      })
+      (λ (apart : at place ≢ at k). record {
+        there = rw (length-set level (at k) s) (there place below);
+        covers = rw (get_or-set_other level (at k) (at place) s _ apart) (but place below (λ e. apart (ap at e)));
+      })
+      (cases_eq (at place) (at k))
+
+  -- one more stands behind the others
+  pub covered_push : (row : Option Row) → AreCovered → IsCovered level (at (length ps)) row → (place : ℕ) → place < length (ps ++ row ∷ []) → IsCovered level (at place) (row_at (ps ++ row ∷ []) place)
+  covered_push row covered its place below =
+      let long : length (ps ++ row ∷ []) ≡ length ps + 1 = length_push ps row in
+      ⊎_elim
+      (λ (same : place ≡ length ps). rw (same, get_or-append_seam ps row [] None) its)
+      (λ (apart : place ≢ length ps).
+      let within : place < length ps = omega arith in
+      rw (get_or_append_left ps (row ∷ []) None place within) (covered place within))
+      (cases_eq place (length ps))
+
+-- ---- one summary is of one more place
+
+pub cover_set : (level : List Summary) (i : ℕ) (s : Summary) → Includes s (summary_at level i) → (other : ℕ) (row : Option Row) → IsCovered level other row → IsCovered (slice_set level i s) other row
+cover_set level i s includes other row covered =
+    ⊎_elim
+    (λ (same : other ≡ i). record {
+      there = rw (length-set level i s) covered.there;
+      covers = rw (same, get_or-set_same level i s _ (subst (λ (k : ℕ). k < length level) same covered.there))
+          (includes_covers s (summary_at level i) row includes (subst (λ (k : ℕ). Covers (summary_at level k) row) same covered.covers));
+    })
+    (λ (apart : other ≢ i). record {
+      there = rw (length-set level i s) covered.there;
+      covers = rw (get_or-set_other level i other s _ apart) covered.covers;
+    })
+    (cases_eq other i)
+
+pub cover_set_its : (level : List Summary) (i : ℕ) (s : Summary) (row : Option Row) → i < length level → Covers s row → IsCovered (slice_set level i s) i row
+cover_set_its level i s row there covers = record { there = rw (length-set level i s) there; covers = rw (get_or-set_same level i s _ there) covers }
+
+pub cover_push : (level : List Summary) (s : Summary) (other : ℕ) (row : Option Row) → IsCovered level other row → IsCovered (level ++ s ∷ []) other row
+cover_push level s other row covered =
+    let long : length (level ++ s ∷ []) ≡ length level + 1 = length_push level s in
+    let there : other < length level = covered.there in
+    record { there = omega arith; covers = rw (get_or_append_left level (s ∷ []) _ other there) covered.covers }
+
+pub cover_push_its : (level : List Summary) (s : Summary) (i : ℕ) (row : Option Row) → i ≡ length level → Covers s row → IsCovered (level ++ s ∷ []) i row
+cover_push_its level s i row is covers =
+    let long : length (level ++ s ∷ []) ≡ length level + 1 = length_push level s in
+    record { there = omega arith; covers = rw (is, get_or-append_seam level s [] _) covers }
+
+-- ---- numbers of summaries
+
+pub by_256 : (place : ℕ) → place / 16 / 16 ≡ place / 256
+by_256 place = omega arith
+
+pub by_4096 : (place : ℕ) → place / 256 / 16 ≡ place / 4096
+by_4096 place = omega arith
+
+-- ---- all levels
+
+pub levels_grown : (levels : Levels) (ps : List (Option Row)) (k : ℕ) → k < length ps → AreLevels levels ps → AreLevels levels (slice_set ps k (row_grown (row_at ps k)))
+levels_grown levels ps k there are = record {
+  small = covered_grown (λ place. place / 16) levels.small.items ps k there are.small;
+  middle = covered_grown (λ place. place / 256) levels.middle.items ps k there are.middle;
+  large = covered_grown (λ place. place / 4096) levels.large.items ps k there are.large;
+}
+
+pub levels_there : (levels : Levels) (ps : List (Option Row)) (place : ℕ) → AreLevels levels ps → place < length ps → IsThere levels place
+levels_there levels ps place are below = record { small = (are.small place below).there; middle = (are.middle place below).there; large = (are.large place below).there }
+
+pub levels_but : (levels : Levels) (ps : List (Option Row)) (k : ℕ) (row : Option Row) → AreLevels levels ps → AreLevelsBut levels (slice_set ps k row) k
+levels_but levels ps k row are = record {
+  there = λ place below. levels_there levels ps place are (rw (length-set ps k row) at below);
+  small = covered_but (λ place. place / 16) levels.small.items ps k row are.small;
+  middle = covered_but (λ place. place / 256) levels.middle.items ps k row are.middle;
+  large = covered_but (λ place. place / 4096) levels.large.items ps k row are.large;
+}
+
+pub levels_room : (levels : Levels) (ps : List (Option Row)) → AreLevels levels ps → HasRoom levels (length ps)
+levels_room levels ps are = by (length ps) refl where
+  by : (n : ℕ) → n ≡ length ps → HasRoom levels n
+  by zero e = record { small = omega arith; middle = omega arith; large = omega arith }
+  by (suc n) e =
+      let small : n / 16 < length levels.small.items = (are.small n (omega arith)).there in
+      let middle : n / 256 < length levels.middle.items = (are.middle n (omega arith)).there in
+      let large : n / 4096 < length levels.large.items = (are.large n (omega arith)).there in
+      record { small = omega arith; middle = omega arith; large = omega arith }
+
+pub levels_push : (levels : Levels) (ps : List (Option Row)) (row : Option Row) → AreLevels levels ps → IsCovered levels.small.items (length ps / 16) row → IsCovered levels.middle.items (length ps / 256) row →
+    IsCovered levels.large.items (length ps / 4096) row → AreLevels levels (ps ++ row ∷ [])
+levels_push levels ps row are small middle large = record {
+  small = covered_push (λ place. place / 16) levels.small.items ps row are.small small;
+  middle = covered_push (λ place. place / 256) levels.middle.items ps row are.middle middle;
+  large = covered_push (λ place. place / 4096) levels.large.items ps row are.large large;
+}
+
+-- ---- a level over the one below
+
+pub covered_above : (below : List Summary) (s : Summary) (i n : ℕ) (row : Option Row) → ((other : ℕ) → other < length below → other / 16 ≡ n → Includes s (summary_at below other)) → i / 16 ≡ n → IsCovered below i row → Covers s row
+covered_above below s i n row includes its covered = includes_covers s (summary_at below i) row (includes i covered.there its) covered.covers
+
+pub record AreSummaries (s m l : List Summary) (ps : List (Option Row)) : Type 0 where
+  pub small : (place : ℕ) → place < length ps → IsCovered s (place / 16) (row_at ps place)
+  pub middle : (place : ℕ) → place < length ps → IsCovered m (place / 256) (row_at ps place)
+  pub large : (place : ℕ) → place < length ps → IsCovered l (place / 4096) (row_at ps place)
+
+pub levels_renewed : (levels : Levels) (ps : List (Option Row)) (k : ℕ) (s m l : Summary) → AreLevelsBut levels ps k →
+    ((place : ℕ) → place < length ps → place / 16 ≡ k / 16 → Covers s (row_at ps place)) →
+    ((other : ℕ) → other < length (slice_set levels.small.items (k / 16) s) → other / 16 ≡ k / 256 → Includes m (summary_at (slice_set levels.small.items (k / 16) s) other)) →
+    ((other : ℕ) → other < length (slice_set levels.middle.items (k / 256) m) → other / 16 ≡ k / 4096 → Includes l (summary_at (slice_set levels.middle.items (k / 256) m) other)) →
+    AreSummaries (slice_set levels.small.items (k / 16) s) (slice_set levels.middle.items (k / 256) m) (slice_set levels.large.items (k / 4096) l) ps
+levels_renewed levels ps k s m l but mine_small mine_middle mine_large =
+    let smalls : (place : ℕ) → place < length ps → IsCovered (slice_set levels.small.items (k / 16) s) (place / 16) (row_at ps place) =
+    covered_set (λ place. place / 16) levels.small.items ps k s (λ place below. (but.there place below).small) but.small mine_small in
+    let middles : (place : ℕ) → place < length ps → IsCovered (slice_set levels.middle.items (k / 256) m) (place / 256) (row_at ps place) =
+    covered_set (λ place. place / 256) levels.middle.items ps k m (λ place below. (but.there place below).middle) but.middle
+    (λ place below same. covered_above (slice_set levels.small.items (k / 16) s) m (place / 16) (k / 256) (row_at ps place) mine_middle (by_256 place ∙ same) (smalls place below)) in
+    record {
+      small = smalls;
+      middle = middles;
+      large = covered_set (λ place. place / 4096) levels.large.items ps k l (λ place below. (but.there place below).large) but.large
+          (λ place below same. covered_above (slice_set levels.middle.items (k / 256) m) l (place / 256) (k / 4096) (row_at ps place) mine_large (by_4096 place ∙ same) (middles place below));
+    }
+
+covered_all : (below level : List Summary) (old i n : ℕ) (row : Option Row) → ((other : ℕ) → other < length below → other / 16 < old → Includes (summary_at level (other / 16)) (summary_at below other)) → length level ≡ old → i / 16 ≡ n → n < old →
+    IsCovered below i row → IsCovered level n row
+covered_all below level old i n row includes long is there covered =
+    let its : i / 16 < old = omega arith in
+    record {
+      there = omega arith;
+      covers = subst (λ (k : ℕ). Covers (summary_at level k) row) is (includes_covers (summary_at level (i / 16)) (summary_at below i) row (includes i covered.there its) covered.covers);
+    }
+
+pub levels_all : (levels : Levels) (ps : List (Option Row)) (s m l : List Summary) → ((place : ℕ) → place < length ps → IsThere levels place) →
+    length s ≡ length levels.small.items → length m ≡ length levels.middle.items → length l ≡ length levels.large.items →
+    ((place : ℕ) → place < length ps → place / 16 < length levels.small.items → Covers (summary_at s (place / 16)) (row_at ps place)) →
+    ((other : ℕ) → other < length s → other / 16 < length levels.middle.items → Includes (summary_at m (other / 16)) (summary_at s other)) →
+    ((other : ℕ) → other < length m → other / 16 < length levels.large.items → Includes (summary_at l (other / 16)) (summary_at m other)) →
+    AreSummaries s m l ps
+levels_all levels ps s m l there long_s long_m long_l each_s each_m each_l =
+    let smalls : (place : ℕ) → place < length ps → IsCovered s (place / 16) (row_at ps place) =
+    λ place below. record { there = rw long_s (there place below).small; covers = each_s place below (there place below).small } in
+    let middles : (place : ℕ) → place < length ps → IsCovered m (place / 256) (row_at ps place) =
+    λ place below. covered_all s m (length levels.middle.items) (place / 16) (place / 256) (row_at ps place) each_m long_m (by_256 place) (there place below).middle (smalls place below) in
+    record {
+      small = smalls;
+      middle = middles;
+      large = λ place below. covered_all m l (length levels.large.items) (place / 256) (place / 4096) (row_at ps place) each_l long_l (by_4096 place) (there place below).large (middles place below);
+    }
+
+-- ---- places that are passed
+
+pub block_16 : (place other : ℕ) → place % 16 ≡ 0 → place ≤ other → other < place + 16 → other / 16 ≡ place / 16
+block_16 place other start from to = omega arith
+
+pub block_256 : (place other : ℕ) → place % 256 ≡ 0 → place ≤ other → other < place + 256 → other / 256 ≡ place / 256
+block_256 place other start from to = omega arith
+
+pub block_4096 : (place other : ℕ) → place % 4096 ≡ 0 → place ≤ other → other < place + 4096 → other / 4096 ≡ place / 4096
+block_4096 place other start from to = omega arith
+
+pub passed_block : (bounds : Bounds) (best : Option Client) (level : List Summary) (i n : ℕ) (row : Option Row) → may_help bounds best (summary_at level i) ≡ false → n ≡ i → IsCovered level n row → met_with bounds best row ≡ best
+passed_block bounds best level i n row none same covered = no_help bounds best (summary_at level i) row none (subst (λ (k : ℕ). Covers (summary_at level k) row) same covered.covers)

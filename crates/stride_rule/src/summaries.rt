@@ -1,0 +1,80 @@
+// What is known of several places at once, so that a search passes them without looking at each.
+ghost use Rattle.std.specs.Prelude.{◌≡◌};
+ghost use Rattle.stride_rule.specs.Clients.{goes_before};
+ghost use Rattle.stride_rule.specs.Summaries.{Covers, Includes, may_help as may_help_in};
+
+use crate::clients::Client;
+use crate::rows::Row;
+use ready_tree::{Bounds, Needs};
+
+/// What is known of several places.
+#[derive(Clone, Copy)]
+pub struct Summary {
+    /// What some thread there waits for.
+    pub needs: Needs,
+    /// No thread there goes before this pass with the number.
+    pub pass: u64,
+    /// The number.
+    pub number: u32,
+}
+
+impl Summary {
+    /// Nobody is there.
+    pub const NONE: Summary = Summary {
+        needs: Needs::NONE,
+        pass: u64::MAX,
+        number: u32::MAX,
+    };
+
+    /// Whether a pass with a number goes before the least here.
+    fn is_after(&self, pass: u64, number: u32) -> bool
+        ensures { result ≡ goes_before pass number self.now.pass self.now.number }
+    {
+        pass < self.pass || pass == self.pass && number < self.number
+    }
+
+    /// What is known of these places and others.
+    pub fn join(&self, other: &Summary) -> Summary
+        ensures left { Includes result self.now }
+        ensures right { Includes result other.now }
+    {
+        let needs = self.needs.join(&other.needs);
+        if self.is_after(other.pass, other.number) {
+            Summary { needs, ..*other }
+        } else {
+            Summary { needs, ..*self }
+        }
+    }
+
+    /// What is known of these places and one more.
+    pub fn with(&self, place: &Option<Row>) -> Summary
+        ensures covers { Covers result place.now }
+        ensures keeps { Includes result self.now }
+    {
+        match place {
+            Some(row) => self.join(&Summary {
+                needs: Needs::of(row.need),
+                pass: row.client.pass,
+                number: row.client.thread.number,
+            }),
+            None => *self,
+        }
+    }
+
+    /// Whether someone here may be the first whose need is met, with the best so far.
+    pub fn may_help(&self, bounds: &Bounds, best: &Option<Client>) -> bool
+        ensures { result ≡ may_help_in bounds.now best.now self.now }
+    {
+        match best {
+            Some(client) => self.is_before(client) && bounds.meet_some(&self.needs),
+            None => bounds.meet_some(&self.needs),
+        }
+    }
+
+    /// Whether the least here goes before a client.
+    fn is_before(&self, client: &Client) -> bool
+        ensures { result ≡ goes_before self.now.pass self.now.number client.now.pass client.now.thread.number }
+    {
+        self.pass < client.pass || self.pass == client.pass && self.number < client.thread.number
+    }
+}
