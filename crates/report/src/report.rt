@@ -98,7 +98,7 @@ impl<'a> Watch for Course<'a> {
             Ok(()) => match self.unasked.add(named) {
                 Ok(()) => match self.pair(told) {
                     Ok(()) => self.take(entry, told),
-                    Err(AllocError) => Err(HistoryError::Memory),
+                    Err(error) => Err(error),
                 },
                 Err(error) => Err(error),
             },
@@ -189,7 +189,7 @@ impl<'a> Course<'a> {
     }
 
     /// Takes what tells of requests and outputs, where a user says which belong together.
-    fn pair(&mut self, told: Happening) -> Result<(), AllocError> {
+    fn pair(&mut self, told: Happening) -> Result<(), HistoryError> {
         if let Some(pairs) = &mut self.pairs {
             return pairs.add(told);
         }

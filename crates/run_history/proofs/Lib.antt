@@ -1,3 +1,6 @@
 mod EmptyPlaces
 pub mod Gathered
 pub mod Readings
+pub mod Paired
+pub mod PairedOnce
+pub mod FollowedOnce

@@ -1,8 +1,12 @@
 pub mod Answers
+pub mod Followed
+pub mod FollowedRuns
 pub mod Happenings
 pub mod Known
 pub mod Longest
 pub mod Numbers
+pub mod PairedRuns
+pub mod Pairs
 pub mod Parts
 pub mod Queues
 pub mod Spells

@@ -1,9 +1,12 @@
 // A request followed through `spawn`: a thread that was started works for the request that its starter served, until it takes one.
+ghost use Rattle.std.specs.Prelude.{◌≡◌};
+ghost use Rattle.run_history.specs.Followed.{works_for};
 
 use crate::answers::Answers;
 use crate::happenings::{Happening, Segment};
+use crate::history::HistoryError;
 use crate::pairs::add_answer;
-use std::alloc::{AllocError, Global};
+use std::alloc::Global;
 use std::collections::BTreeMap;
 
 /// A thread that a segment started.
@@ -18,39 +21,77 @@ pub struct Spawned {
 /// The answers to requests so far, with those of the threads that work for them.
 #[derive(Drop)]
 pub struct Followed<'a> {
-    /// The threads that were started, in order, and how many of them are known so far.
-    spawned: &'a [Spawned],
-    known: usize,
+    /// The threads that are still to be started, in order.
+    pub left: &'a [Spawned],
     /// How many segments are over.
-    segments: u64,
+    pub segments: u64,
     /// The request that a thread works for which has taken none.
-    works_for: BTreeMap<u32, u64>,
+    pub started: BTreeMap<u32, u64>,
     /// When requests were answered, at the places of their numbers from 0.
     pub answers: Vec<Option<Answers>>,
 }
 
 impl<'a> Followed<'a> {
+    ghost use Rattle.std.specs.Prelude.{◌≡◌, ℕ, List, [], ◌∷◌, ◌++◌, ◌+◌, None, OnOk};
+    ghost use Rattle.run_history.specs.FollowedRuns.{IsFollowed};
+    ghost use Rattle.run_history.specs.declared.happenings.Happening.{Happening};
+    ghost use Rattle.run_history.specs.declared.followed.Spawned.{Spawned};
+    ghost use Rattle.std.specs.BTreeMap.{get};
+    ghost use Rattle.std.specs.Ordering.{nat_cmp};
+    ghost use Rattle.run_history.specs.Answers.{answers_at, answers_from};
+    ghost use Rattle.run_history.specs.Followed.{clocks_by, followed_with, inherits, left_after, left_with, named_by, segments_with, started_with, works_for};
+
     /// Before the first entry. It takes no memory.
-    pub fn new(alloc: Global, spawned: &'a [Spawned]) -> Followed<'a> {
+    pub fn new(alloc: Global, spawned: &'a [Spawned]) -> Followed<'a>
+        ensures left { result.left.now ≡ spawned.now }
+        ensures segments { result.segments ≡ 0 }
+        ensures followed { IsFollowed spawned.now [] result }
+        ensures started { (thread : ℕ) → get nat_cmp result.started thread ≡ None }
+    {
         Followed {
-            spawned,
-            known: 0,
+            left: spawned,
             segments: 0,
-            works_for: BTreeMap::new(alloc),
+            started: BTreeMap::new(alloc),
             answers: Vec::new(alloc),
         }
     }
 
-    /// What one entry more tells.
-    pub fn add(&mut self, told: Happening) -> Result<(), AllocError> {
+    /// What one entry more tells. After a refusal nothing is said.
+    pub fn add(&mut self, told: Happening) -> Result<(), HistoryError>
+        ensures segments { OnOk result (self.new.segments ≡ segments_with told self.old.segments) }
+        ensures left { OnOk result (self.new.left.now ≡ left_with told self.old.segments self.old.left.now) }
+        ensures started { (thread : ℕ) → OnOk result (get nat_cmp self.new.started thread ≡ started_with told self.old.segments self.old.left.now (λ one. get nat_cmp self.old.started one) thread) }
+        ensures answers { (request : ℕ) → OnOk result (answers_at self.new.answers.items request ≡ followed_with request told (λ one. get nat_cmp self.old.started one) (answers_at self.old.answers.items request)) }
+        ensures followed { (spawned : List Spawned) → (before : List Happening) → IsFollowed spawned before self.old → OnOk result (IsFollowed spawned (before ++ told ∷ []) self.new) }
+    {
+        match self.take(told) {
+            Ok(()) => Ok(()),
+            Err(error) => Err(error),
+        }
+    }
+
+    /// Takes what an entry tells, as `add` does.
+    fn take(&mut self, told: Happening) -> Result<(), HistoryError>
+        ensures segments { OnOk result (self.new.segments ≡ segments_with told self.old.segments) }
+        ensures left { OnOk result (self.new.left.now ≡ left_with told self.old.segments self.old.left.now) }
+        ensures started { (thread : ℕ) → OnOk result (get nat_cmp self.new.started thread ≡ started_with told self.old.segments self.old.left.now (λ one. get nat_cmp self.old.started one) thread) }
+        ensures answers { (request : ℕ) → OnOk result (answers_at self.new.answers.items request ≡ followed_with request told (λ one. get nat_cmp self.old.started one) (answers_at self.old.answers.items request)) }
+    {
         match told {
+            Happening::Came { .. } => Ok(()),
+            Happening::Lost { .. } => Ok(()),
+            Happening::Started { .. } => Ok(()),
+            Happening::Waited(_) => Ok(()),
+            Happening::Put { .. } => Ok(()),
             Happening::Ran { segment, .. } => self.run(segment),
-            _ => Ok(()),
+            Happening::Nothing => Ok(()),
         }
     }
 
     /// The same with the request that a segment's thread works for as the one that it serves.
-    pub fn named(&self, told: Happening) -> Happening {
+    pub fn named(&self, told: Happening) -> Happening
+        ensures { result ≡ named_by (λ one. get nat_cmp self.now.started one) told }
+    {
         match told {
             Happening::Ran { segment, free } => Happening::Ran {
                 segment: Segment {
@@ -64,18 +105,28 @@ impl<'a> Followed<'a> {
     }
 
     /// The request that a segment serves, or for which its thread works.
-    fn request_of(&self, segment: Segment) -> Option<u64> {
+    fn request_of(&self, segment: Segment) -> Option<u64>
+        ensures { result ≡ works_for segment.request (get nat_cmp self.now.started segment.thread) }
+    {
         match segment.request {
             Some(served) => Some(served),
-            None => self.works_for.get(&segment.thread).copied(),
+            None => self.started.get(&segment.thread).copied(),
         }
     }
 
     /// A segment is over: its outputs answer the request of its thread, for which the threads work that it started.
-    fn run(&mut self, segment: Segment) -> Result<(), AllocError> {
+    fn run(&mut self, segment: Segment) -> Result<(), HistoryError>
+        ensures segments { OnOk result (self.new.segments ≡ self.old.segments + 1) }
+        ensures left { OnOk result (self.new.left.now ≡ left_after self.old.segments self.old.left.now) }
+        ensures started { (thread : ℕ) → OnOk result (get nat_cmp self.new.started thread ≡ inherits self.old.segments (works_for segment.request (get nat_cmp self.old.started segment.thread)) thread self.old.left.now (get nat_cmp self.old.started thread)) }
+        ensures answers { (request : ℕ) → OnOk result (answers_at self.new.answers.items request ≡ answers_from (answers_at self.old.answers.items request) (clocks_by request (works_for segment.request (get nat_cmp self.old.started segment.thread)) segment)) }
+    {
         let request = self.request_of(segment);
         self.start_all(request)?;
-        self.segments = self.segments.saturating_add(1);
+        let Some(segments) = self.segments.checked_add(1) else {
+            return Err(HistoryError::Count);
+        };
+        self.segments = segments;
         match request {
             Some(number) if segment.puts > 0 => {
                 add_answer(&mut self.answers, number as usize, segment.ended)
@@ -85,18 +136,22 @@ impl<'a> Followed<'a> {
     }
 
     /// The threads that the segment under way started work for that request.
-    fn start_all(&mut self, request: Option<u64>) -> Result<(), AllocError> {
-        let spawned = self.spawned;
-        for place in self.known..spawned.len() {
-            match spawned.get(place) {
-                Some(one) if one.segment == self.segments => {
-                    self.known = place.saturating_add(1);
-                    if let Some(number) = request {
-                        self.works_for.insert(one.thread, number)?;
-                    }
-                }
-                _ => return Ok(()),
+    fn start_all(&mut self, request: Option<u64>) -> Result<(), HistoryError>
+        ensures started { (thread : ℕ) → OnOk result (get nat_cmp self.new.started thread ≡ inherits self.old.segments request thread self.old.left.now (get nat_cmp self.old.started thread)) }
+        ensures left { OnOk result (self.new.left.now ≡ left_after self.old.segments self.old.left.now) }
+        ensures segments { self.new.segments ≡ self.old.segments }
+        ensures answers { self.new.answers ≡ self.old.answers }
+    {
+        while let Some((one, rest)) = self.left.split_first() {
+            if one.segment != self.segments {
+                return Ok(());
             }
+            if let Some(number) = request {
+                let Ok(_) = self.started.insert(one.thread, number) else {
+                    return Err(HistoryError::Memory);
+                };
+            }
+            self.left = rest;
         }
         Ok(())
     }

@@ -180,7 +180,10 @@ impl Numbers {
 }
 
 /// Makes places for the answers to all requests up to this one.
-fn make_places(answers: &mut Vec<Option<Answers>>, place: usize) -> Result<(), AllocError>
+pub(crate) fn make_places(
+    answers: &mut Vec<Option<Answers>>,
+    place: usize,
+) -> Result<(), AllocError>
     ensures same { (request : ℕ) → OnOk result (answers_at answers.new.items request ≡ answers_at answers.old.items request) }
     ensures there { OnOk result (place < length answers.new.items) }
 {

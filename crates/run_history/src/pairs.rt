@@ -1,10 +1,19 @@
 // Which request an output answers, where a user says how: the N-th output the N-th request, or the first request of its value.
+ghost use Rattle.std.specs.Prelude.{◌≡◌, ℕ, ℤ, ◌++◌, ◌∷◌, [], OnOk, take, drop, option_to_list, if◌then◌else◌};
+ghost use Rattle.std.specs.Ordering.{int_eq};
+ghost use Rattle.run_history.specs.Answers.{answers_at, answers_from};
+ghost use Rattle.run_history.specs.Pairs.{clocks_for, clocks_of, waiting_in};
 
-use crate::answers::Answers;
+use crate::answers::{Answers, one_more};
 use crate::happenings::Happening;
+use crate::history::HistoryError;
+use crate::numbers::make_places;
 use schedule_log::Item;
-use std::alloc::{AllocError, Global};
+use std::alloc::Global;
 use std::collections::{BTreeMap, VecDeque};
+
+/// The numbers of the requests of each value that have no answer, the oldest first.
+type Unanswered = BTreeMap<i32, VecDeque<u64>>;
 
 /// How outputs answer requests.
 #[derive(Clone, Copy)]
@@ -21,104 +30,231 @@ pub struct Pairs {
     alloc: Global,
     pub pairing: Pairing,
     /// How many requests came, and how many outputs were put.
-    came: u64,
-    put: u64,
+    pub came: u64,
+    pub put: u64,
     /// The requests of each value that aren't answered, in order.
-    open: BTreeMap<i32, VecDeque<u64>>,
+    pub unanswered: Unanswered,
     /// The requests that the segment under way answers.
-    under_way: Vec<u64>,
+    pub under_way: Vec<u64>,
     /// When requests were answered, at the places of their numbers from 0.
     pub answers: Vec<Option<Answers>>,
 }
 
 impl Pairs {
+    ghost use Rattle.std.specs.Prelude.{◌≡◌, ℕ, ℤ, List, ◌+◌, ◌++◌, ◌∷◌, [], OnOk, take, drop, if◌then◌else◌};
+    ghost use Rattle.std.specs.Ordering.{int_eq};
+    ghost use Rattle.run_history.specs.Answers.{answers_at, answers_from};
+    ghost use Rattle.run_history.specs.Pairs.{answers_with, came_item, came_with, clocks_of, first_with, puts_with, value_with, waiting_in, waiting_item, waiting_with};
+    ghost use Rattle.run_history.specs.PairedRuns.{ArePairsByOrder, ArePairsByValue};
+    ghost use Rattle.run_history.specs.declared.happenings.Happening.{Happening};
+    ghost use Rattle.run_history.specs.declared.pairs.Pairing.TheVariants.{First, Value};
+
     /// Before the first entry. It takes no memory.
-    pub fn new(alloc: Global, pairing: Pairing) -> Pairs {
+    pub fn new(alloc: Global, pairing: Pairing) -> Pairs
+        ensures pairing { result.pairing ≡ pairing }
+        ensures put { result.put ≡ 0 }
+        ensures came { result.came ≡ 0 }
+        ensures unanswered { (value : ℤ) → waiting_in result.unanswered value ≡ [] }
+        ensures by_order { pairing ≡ First → ArePairsByOrder [] result }
+        ensures by_value { pairing ≡ Value → ArePairsByValue [] result }
+        ensures under_way { result.under_way.items ≡ [] }
+        ensures answers { result.answers.items ≡ [] }
+    {
         Pairs {
             alloc,
             pairing,
             came: 0,
             put: 0,
-            open: BTreeMap::new(alloc),
+            unanswered: BTreeMap::new(alloc),
             under_way: Vec::new(alloc),
             answers: Vec::new(alloc),
         }
     }
 
-    /// What one entry more tells.
-    pub fn add(&mut self, told: Happening) -> Result<(), AllocError> {
-        match told {
-            Happening::Came {
-                item: Item::Arrive { value },
-                ..
-            } => self.come(value),
-            Happening::Put { value, .. } => self.note(value),
-            Happening::Ran { segment, .. } => self.answer_all(segment.ended),
-            _ => Ok(()),
+    /// What one entry more tells. After a refusal nothing is said.
+    pub fn add(&mut self, told: Happening) -> Result<(), HistoryError>
+        ensures pairing { self.new.pairing ≡ self.old.pairing }
+        ensures put { OnOk result (self.new.put ≡ puts_with told self.old.put) }
+        ensures came { OnOk result (self.new.came ≡ came_with told self.old.came) }
+        ensures unanswered { (value : ℤ) → self.old.pairing ≡ Value → OnOk result (waiting_in self.new.unanswered value ≡ waiting_with told self.old.came value (waiting_in self.old.unanswered value)) }
+        ensures value { self.old.pairing ≡ Value → OnOk result (self.new.under_way.items ≡ value_with told (λ value. waiting_in self.old.unanswered value) self.old.under_way.items) }
+        ensures first { self.old.pairing ≡ First → OnOk result (self.new.under_way.items ≡ first_with told self.old.put self.old.under_way.items) }
+        ensures answers { (request : ℕ) → OnOk result (answers_at self.new.answers.items request ≡ answers_with request told self.old.under_way.items (answers_at self.old.answers.items request)) }
+        ensures by_order { (before : List Happening) → self.old.pairing ≡ First → ArePairsByOrder before self.old → OnOk result (ArePairsByOrder (before ++ told ∷ []) self.new) }
+        ensures by_value { (before : List Happening) → self.old.pairing ≡ Value → ArePairsByValue before self.old → OnOk result (ArePairsByValue (before ++ told ∷ []) self.new) }
+    {
+        match self.take(told) {
+            Ok(()) => Ok(()),
+            Err(error) => Err(error),
         }
     }
 
-    /// A request came.
-    fn come(&mut self, value: i32) -> Result<(), AllocError> {
-        let request = self.came;
-        self.came = request.saturating_add(1);
-        if matches!(self.pairing, Pairing::First) {
-            return Ok(());
+    /// Takes what an entry tells, as `add` does.
+    fn take(&mut self, told: Happening) -> Result<(), HistoryError>
+        ensures pairing { self.new.pairing ≡ self.old.pairing }
+        ensures put { OnOk result (self.new.put ≡ puts_with told self.old.put) }
+        ensures came { OnOk result (self.new.came ≡ came_with told self.old.came) }
+        ensures unanswered { (value : ℤ) → self.old.pairing ≡ Value → OnOk result (waiting_in self.new.unanswered value ≡ waiting_with told self.old.came value (waiting_in self.old.unanswered value)) }
+        ensures value { self.old.pairing ≡ Value → OnOk result (self.new.under_way.items ≡ value_with told (λ value. waiting_in self.old.unanswered value) self.old.under_way.items) }
+        ensures first { self.old.pairing ≡ First → OnOk result (self.new.under_way.items ≡ first_with told self.old.put self.old.under_way.items) }
+        ensures answers { (request : ℕ) → OnOk result (answers_at self.new.answers.items request ≡ answers_with request told self.old.under_way.items (answers_at self.old.answers.items request)) }
+    {
+        match told {
+            Happening::Came { item, .. } => self.come(item),
+            Happening::Lost { .. } => Ok(()),
+            Happening::Started { .. } => Ok(()),
+            Happening::Waited(_) => Ok(()),
+            Happening::Put { value, .. } => self.note(value),
+            Happening::Ran { segment, .. } => self.answer_all(segment.ended),
+            Happening::Nothing => Ok(()),
         }
-        let open = self.open.entry(value)?.or_insert(VecDeque::new(self.alloc));
-        open.push_back(request)?;
-        Ok(())
+    }
+
+    /// A request or a message came.
+    fn come(&mut self, item: Item) -> Result<(), HistoryError>
+        ensures pairing { self.new.pairing ≡ self.old.pairing }
+        ensures put { self.new.put ≡ self.old.put }
+        ensures came { OnOk result (self.new.came ≡ came_item item self.old.came) }
+        ensures unanswered { (value : ℤ) → self.old.pairing ≡ Value → OnOk result (waiting_in self.new.unanswered value ≡ waiting_item item self.old.came value (waiting_in self.old.unanswered value)) }
+        ensures under_way { self.new.under_way.items ≡ self.old.under_way.items }
+        ensures answers { self.new.answers.items ≡ self.old.answers.items }
+    {
+        match item {
+            Item::Arrive { value } => self.come_with(value),
+            Item::Data { .. } => Ok(()),
+        }
+    }
+
+    /// A request came with that value.
+    fn come_with(&mut self, value: i32) -> Result<(), HistoryError>
+        ensures pairing { self.new.pairing ≡ self.old.pairing }
+        ensures put { self.new.put ≡ self.old.put }
+        ensures came { OnOk result (self.new.came ≡ self.old.came + 1) }
+        ensures unanswered { (other : ℤ) → self.old.pairing ≡ Value → OnOk result (waiting_in self.new.unanswered other ≡ if int_eq value other then waiting_in self.old.unanswered other ++ self.old.came ∷ [] else waiting_in self.old.unanswered other) }
+        ensures under_way { self.new.under_way.items ≡ self.old.under_way.items }
+        ensures answers { self.new.answers.items ≡ self.old.answers.items }
+    {
+        let request = self.came;
+        let Some(came) = request.checked_add(1) else {
+            return Err(HistoryError::Count);
+        };
+        self.came = came;
+        match self.pairing {
+            Pairing::First => Ok(()),
+            Pairing::Value => join(&mut self.unanswered, self.alloc, value, request),
+        }
     }
 
     /// A word was put.
-    fn note(&mut self, value: i32) -> Result<(), AllocError> {
+    fn note(&mut self, value: i32) -> Result<(), HistoryError>
+        ensures pairing { self.new.pairing ≡ self.old.pairing }
+        ensures put { OnOk result (self.new.put ≡ self.old.put + 1) }
+        ensures came { self.new.came ≡ self.old.came }
+        ensures unanswered { (other : ℤ) → self.old.pairing ≡ Value → OnOk result (waiting_in self.new.unanswered other ≡ if int_eq value other then drop 1 (waiting_in self.old.unanswered other) else waiting_in self.old.unanswered other) }
+        ensures value { self.old.pairing ≡ Value → OnOk result (self.new.under_way.items ≡ self.old.under_way.items ++ take 1 (waiting_in self.old.unanswered value)) }
+        ensures first { self.old.pairing ≡ First → OnOk result (self.new.under_way.items ≡ self.old.under_way.items ++ self.old.put ∷ []) }
+        ensures answers { self.new.answers.items ≡ self.old.answers.items }
+    {
         let place = self.put;
-        self.put = place.saturating_add(1);
+        let Some(put) = place.checked_add(1) else {
+            return Err(HistoryError::Count);
+        };
+        self.put = put;
         let answered = match self.pairing {
             Pairing::First => Some(place),
-            Pairing::Value => match self.open.get_mut(&value) {
-                Some(open) => open.pop_front(),
-                None => None,
-            },
+            Pairing::Value => take_oldest(&mut self.unanswered, value),
         };
-        if let Some(request) = answered {
-            self.under_way.push(request)?;
+        match answered {
+            None => Ok(()),
+            Some(request) => match self.under_way.push(request) {
+                Ok(()) => Ok(()),
+                Err(_) => Err(HistoryError::Memory),
+            },
         }
-        Ok(())
     }
 
     /// The segment under way is over: its outputs are there at that clock.
-    fn answer_all(&mut self, at: u64) -> Result<(), AllocError> {
-        for place in 0..self.under_way.len() {
-            let request = self.under_way.as_slice().get(place).copied();
-            if let Some(number) = request {
-                add_answer(&mut self.answers, number as usize, at)?;
-            }
-        }
+    fn answer_all(&mut self, at: u64) -> Result<(), HistoryError>
+        ensures pairing { self.new.pairing ≡ self.old.pairing }
+        ensures put { self.new.put ≡ self.old.put }
+        ensures came { self.new.came ≡ self.old.came }
+        ensures unanswered { self.new.unanswered ≡ self.old.unanswered }
+        ensures under_way { OnOk result (self.new.under_way.items ≡ []) }
+        ensures answers { (request : ℕ) → OnOk result (answers_at self.new.answers.items request ≡ answers_from (answers_at self.old.answers.items request) (clocks_of request at self.old.under_way.items)) }
+    {
+        add_all(&mut self.answers, self.under_way.as_slice(), at)?;
         self.under_way.clear();
         Ok(())
     }
 }
 
+/// A request of that value joins those without an answer.
+fn join(
+    unanswered: &mut Unanswered,
+    alloc: Global,
+    value: i32,
+    request: u64,
+) -> Result<(), HistoryError>
+    ensures { (other : ℤ) → OnOk result (waiting_in unanswered.new other ≡ if int_eq value other then waiting_in unanswered.old other ++ request ∷ [] else waiting_in unanswered.old other) }
+{
+    if let Some(queue) = unanswered.get_mut(&value) {
+        return match queue.push_back(request) {
+            Ok(()) => Ok(()),
+            Err(_) => Err(HistoryError::Memory),
+        };
+    }
+    let mut queue = VecDeque::new(alloc);
+    let Ok(()) = queue.push_back(request) else {
+        return Err(HistoryError::Memory);
+    };
+    match unanswered.insert(value, queue) {
+        Ok(_) => Ok(()),
+        Err(_) => Err(HistoryError::Memory),
+    }
+}
+
+/// The oldest request of that value without an answer. It is answered now.
+fn take_oldest(unanswered: &mut Unanswered, value: i32) -> Option<u64>
+    ensures oldest { option_to_list result ≡ take 1 (waiting_in unanswered.old value) }
+    ensures others { (other : ℤ) → waiting_in unanswered.new other ≡ if int_eq value other then drop 1 (waiting_in unanswered.old other) else waiting_in unanswered.old other }
+{
+    match unanswered.get_mut(&value) {
+        Some(queue) => queue.pop_front(),
+        None => None,
+    }
+}
+
+/// Each of these requests is answered once more, at that clock.
+#[tactic(auto, using(crate::proofs::Paired::answers_more))]
+fn add_all(
+    answers: &mut Vec<Option<Answers>>,
+    requests: &[u64],
+    at: u64,
+) -> Result<(), HistoryError>
+    ensures { (request : ℕ) → OnOk result (answers_at answers.new.items request ≡ answers_from (answers_at answers.old.items request) (clocks_of request at requests.now)) }
+{
+    for request in requests {
+        add_answer(answers, *request as usize, at)?;
+    }
+    Ok(())
+}
+
 /// A request is answered once more, at that clock.
 pub(crate) fn add_answer(
     answers: &mut Vec<Option<Answers>>,
-    request: usize,
+    place: usize,
     at: u64,
-) -> Result<(), AllocError> {
-    for _ in answers.len()..request.saturating_add(1) {
-        answers.push(None)?;
+) -> Result<(), HistoryError>
+    ensures { (request : ℕ) → OnOk result (answers_at answers.new.items request ≡ answers_from (answers_at answers.old.items request) (clocks_for request at place)) }
+{
+    let Ok(()) = make_places(answers, place) else {
+        return Err(HistoryError::Memory);
+    };
+    match one_more(answers[place], at) {
+        Some(more) => {
+            answers[place] = Some(more);
+            Ok(())
+        }
+        None => Err(HistoryError::Count),
     }
-    if let Some(place) = answers.get_mut(request) {
-        let (first, count) = match *place {
-            None => (at, 0),
-            Some(before) => (before.first, before.count),
-        };
-        *place = Some(Answers {
-            first,
-            last: at,
-            count: count.saturating_add(1),
-        });
-    }
-    Ok(())
 }

@@ -1,0 +1,8 @@
+use Rattle.std.proofs.Common.{◌≡◌, ℕ, take}
+use Rattle.run_history.specs.Answers.{answers_at, answers_from}
+use Rattle.run_history.specs.Pairs.{clocks_of}
+use Rattle.run_history.proofs.pairs.add_all.Given as goal
+
+abbrev pub invariant-loop-request : goal.invariant-loop-request
+invariant-loop-request l =
+    (request : ℕ) → answers_at l.answers.items request ≡ answers_from (answers_at l.initial.answers.items request) (clocks_of request l.at (take l.request-index l.requests))
