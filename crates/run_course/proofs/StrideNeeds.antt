@@ -1,5 +1,5 @@
 -- The needs that were told of the threads that wait by strides, from step to step.
-use Rattle.std.proofs.Common.{◌≡◌, ◌≢◌, ℕ, zero, suc, ◌<◌, Bool, true, false, List, [], ◌∷◌, ◌++◌, Option, Some, None, inl, inr, refl, sym, ap, ◌∙◌, subst, arith}
+use Rattle.std.proofs.Common.{◌≡◌, ◌≢◌, ℕ, zero, suc, ◌<◌, true, false, List, [], ◌∷◌, ◌++◌, Option, Some, None, inl, inr, refl, sym, ap, ◌∙◌, subst, arith}
 use Rattle.std.specs.List.{AllByRecursion}
 use Rattle.std.specs.Prelude.{◌==◌}
 use Rattle.std.proofs.lemmas.Bool.Decides.{nat_tests}
@@ -21,9 +21,9 @@ use Rattle.ready_tree.specs.declared.needs.Need.{Need}
 use Rattle.rule_state.specs.Strides.{StridesState}
 use Rattle.stride_rule.specs.declared.clients.Client.{Client}
 use Rattle.stride_rule.specs.declared.choices.StrideChoice.{StrideChoice}
-use Rattle.stride_rule.specs.Clients.{IsAbsent, client_of, is_running, with_growth, grown, without}
+use Rattle.stride_rule.specs.Clients.{IsAbsent, client_of, is_running, grown, without}
 use Rattle.stride_rule.specs.State.{StrideState, AreKnown, AreOnce, after_choice, after_leaving, after_segment_for, waiting_in, waiting_of, with_client}
-use Rattle.stride_rule.specs.Told.{need_of, with_need, without_need}
+use Rattle.stride_rule.specs.Told.{need_of}
 use Rattle.stride_rule.proofs.ClientLemmas.{all_to, all-grown, by_test, same_number, other_number}
 use Rattle.stride_rule.proofs.NotingLemmas.{all_wait, waiting-none}
 use Rattle.stride_rule.proofs.SearchLemmas.{Lies, client-of_lies, once-waiting}
@@ -92,25 +92,30 @@ strides_rejoined w rule thread need running own needed =
     (each rule.clients (subst (λ (r : Option ℕ). AllByRecursion (IsNeededClient w rule) (waiting_in r rule.clients)) running needed)) where
       now : StrideState
       now = after_segment_for rule thread.number need
+
       each : (cs : List Client) → AllByRecursion (IsNeededClient w rule) (waiting_in (Some thread.number) cs) → AllByRecursion (IsNeededClient w now) cs
       each [] all = tt
       each (c ∷ cs) all =
           by_test (c.thread.number == thread.number) _
           (λ same.
           let e : c.thread.number ≡ thread.number = same_number _ _ same in
-          let rest : AllByRecursion (IsNeededClient w rule) (waiting_in (Some thread.number) cs) = rw same at all in
-          (record {
-            thread = own.thread;
-            live = ap (λ (n : ℕ). thread_of w n) e ∙ own.live;
-            need = ap (λ (n : ℕ). need_of n now.needs) e ∙ need_of-told rule.needs thread.number need ∙ own.need;
-          }, each cs rest))
+          let rest : AllByRecursion (IsNeededClient w rule) (waiting_in (Some thread.number) cs) = rw same at all in (
+            record {
+              thread = own.thread;
+              live = ap (λ (n : ℕ). thread_of w n) e ∙ own.live;
+              need = ap (λ (n : ℕ). need_of n now.needs) e ∙ need_of-told rule.needs thread.number need ∙ own.need;
+            },
+            each cs rest,
+          ))
           (λ other.
-          let parts : AllByRecursion (IsNeededClient w rule) (c ∷ waiting_in (Some thread.number) cs) = rw other at all in
-          (record {
-            thread = parts.0.thread;
-            live = parts.0.live;
-            need = need_of-others rule.needs thread.number c.thread.number need (λ e. let same : (c.thread.number == thread.number) ≡ true = grind (arith, nat_tests) in absurd cc) ∙ parts.0.need;
-          }, each cs parts.1))
+          let parts : AllByRecursion (IsNeededClient w rule) (c ∷ waiting_in (Some thread.number) cs) = rw other at all in (
+            record {
+              thread = parts.0.thread;
+              live = parts.0.live;
+              need = need_of-others rule.needs thread.number c.thread.number need (λ e. let same : (c.thread.number == thread.number) ≡ true = grind (arith, nat_tests) in absurd cc) ∙ parts.0.need;
+            },
+            each cs parts.1,
+          ))
 
 pub strides_left : (w : World) (rule : StrideState) (number : ℕ) → rule.running ≡ Some number → AreOnce rule.clients → AreNeededByStrides w rule → AreNeededByStrides w (after_leaving rule number)
 strides_left w rule number running once needed =
@@ -184,9 +189,10 @@ placed_in : (places : List (Option ℕ)) (nodes : List ℕ) (waiting : List Wait
     (cs : List Client) → ((c : Client) → Lies c cs → Lies c all) → AllByRecursion (λ c. IsPlaced places c.thread) cs
 placed_in places nodes waiting all once each [] there = tt
 placed_in places nodes waiting all once each (c ∷ cs) there =
-    let its : client_of c.thread.number all ≡ Some c = client-of_lies c all once (there c (inl refl)) in
-    (placed_of places nodes c (waiter_of c.thread.number waiting) (subst (λ (o : Option Client). AreBoth places nodes o (waiter_of c.thread.number waiting)) its (each c.thread.number)),
-    placed_in places nodes waiting all once each cs (λ x lies. there x (inr lies)))
+    let its : client_of c.thread.number all ≡ Some c = client-of_lies c all once (there c (inl refl)) in (
+      placed_of places nodes c (waiter_of c.thread.number waiting) (subst (λ (o : Option Client). AreBoth places nodes o (waiter_of c.thread.number waiting)) its (each c.thread.number)),
+      placed_in places nodes waiting all once each cs (λ x lies. there x (inr lies)),
+    )
 
 pub strides_known : (held : Held) (strides : StridesState) (waiting : List Waiter) → held.machine.running ≡ None → AreClients held.places strides waiting → AreNeededByStrides held.machine strides.rule → AreKnown (Vouches held) strides.rule
 strides_known held strides waiting rests clients needed =
