@@ -117,7 +117,7 @@ waits_self : (rule : StrideState) (running : Option ℕ) (number : ℕ) (cs : Li
 waits_self rule None number cs apart = ap (λ (l : List Client). client_of number l) (waiting-none cs)
 waits_self rule (Some other) number cs apart = but_other number_of other number cs (λ e. apart (ap Some (sym e)))
 
-none_by : (places : List (Option ℕ)) (nodes : List ℕ) (c : Option Client) (w : Option Waiter) → w ≡ None → AreBoth places nodes c w → c ≡ None
+pub none_by : (places : List (Option ℕ)) (nodes : List ℕ) (c : Option Client) (w : Option Waiter) → w ≡ None → AreBoth places nodes c w → c ≡ None
 none_by places nodes None w e both = refl
 none_by places nodes (Some c) None e both = absurd both
 none_by places nodes (Some c) (Some w) e both = absurd (cc)

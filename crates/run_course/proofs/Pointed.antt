@@ -1,5 +1,5 @@
 -- A choice point that goes on: the event that is next, and its delivery.
-use Rattle.std.proofs.Common.{◌≡◌, ℕ, ◌+◌, ◌-◌, ◌*◌, ◌<◌, Bool, true, false, Option, Some, None, refl, sym, ap, ◌∙◌, subst, arith, if◌then◌else◌}
+use Rattle.std.proofs.Common.{◌≡◌, ℕ, ◌+◌, ◌-◌, ◌*◌, ◌<◌, Bool, true, false, Option, Some, None, refl, ap, ◌∙◌, subst, arith, if◌then◌else◌}
 use Rattle.event_trace.specs.Lines.{FitsEvent, FitsKind}
 use Rattle.choice_rules.specs.Deliveries.{delivery_of}
 use Rattle.event_trace.specs.declared.events.Event.{Event}

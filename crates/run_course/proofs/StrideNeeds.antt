@@ -1,5 +1,5 @@
 -- The needs that were told of the threads that wait by strides, from step to step.
-use Rattle.std.proofs.Common.{◌≡◌, ◌≢◌, ℕ, zero, suc, ◌<◌, Bool, true, false, List, [], ◌∷◌, ◌++◌, Option, Some, None, inl, inr, refl, sym, ap, ◌∙◌, subst, arith}
+use Rattle.std.proofs.Common.{◌≡◌, ◌≢◌, ℕ, zero, suc, ◌<◌, true, false, List, [], ◌∷◌, ◌++◌, Option, Some, None, inl, inr, refl, sym, ap, ◌∙◌, subst, arith}
 use Rattle.std.specs.List.{AllByRecursion}
 use Rattle.std.specs.Prelude.{◌==◌}
 use Rattle.std.proofs.lemmas.Bool.Decides.{nat_tests}
@@ -7,11 +7,11 @@ use Rattle.cap_word.specs.declared.threads.ThreadId.{ThreadId}
 use Rattle.choice_rules.specs.Seen.{Waiter}
 use Rattle.lawful_log.specs.Setup.{Setup, setting_of}
 use Rattle.lawful_log.specs.State.{Segment, State}
-use Rattle.lawful_steps.specs.Clients.{AreBoth, AreClients, HasRunner, waiter_of}
+use Rattle.lawful_steps.specs.Clients.{AreBoth, AreClients, waiter_of}
 use Rattle.lawful_steps.specs.Waiting.{IsPlaced, waits}
 use Rattle.lawful_steps.specs.Within.{IsWithin}
-use Rattle.lawful_steps.proofs.Finding.{apart_at, none_waiting}
-use Rattle.lawful_steps.proofs.Going.{none_by, number_of}
+use Rattle.lawful_steps.proofs.Finding.{all_both, apart_at, none_waiting}
+use Rattle.lawful_steps.proofs.Going.{none_by}
 use Rattle.lawful_steps.proofs.Own.{found_below}
 use Rattle.lawful_steps.proofs.Within.{within_goes}
 use Rattle.machine_world.specs.Alone.{KeepsThread}
@@ -21,9 +21,9 @@ use Rattle.ready_tree.specs.declared.needs.Need.{Need}
 use Rattle.rule_state.specs.Strides.{StridesState}
 use Rattle.stride_rule.specs.declared.clients.Client.{Client}
 use Rattle.stride_rule.specs.declared.choices.StrideChoice.{StrideChoice}
-use Rattle.stride_rule.specs.Clients.{IsAbsent, client_of, is_running, with_growth, grown, without}
+use Rattle.stride_rule.specs.Clients.{IsAbsent, client_of, is_running, grown, without}
 use Rattle.stride_rule.specs.State.{StrideState, AreKnown, AreOnce, after_choice, after_leaving, after_segment_for, waiting_in, waiting_of, with_client}
-use Rattle.stride_rule.specs.Told.{need_of, with_need, without_need}
+use Rattle.stride_rule.specs.Told.{need_of}
 use Rattle.stride_rule.proofs.ClientLemmas.{all_to, all-grown, by_test, same_number, other_number}
 use Rattle.stride_rule.proofs.NotingLemmas.{all_wait, waiting-none}
 use Rattle.stride_rule.proofs.SearchLemmas.{Lies, client-of_lies, once-waiting}
@@ -42,10 +42,6 @@ waiting_of_all P running (c ∷ cs) all =
     by_test (is_running running c) _
     (λ runs. rw runs (waiting_of_all P running cs all.1))
     (λ rests. rw rests (all.0, waiting_of_all P running cs all.1))
-
-both : (P Q R : Client → Type 0) → ((c : Client) → P c → Q c → R c) → (cs : List Client) → AllByRecursion P cs → AllByRecursion Q cs → AllByRecursion R cs
-both P Q R goes [] ps qs = tt
-both P Q R goes (c ∷ cs) ps qs = (goes c ps.0 qs.0, both P Q R goes cs ps.1 qs.1)
 
 -- those of a list that wait beside one that runs, without it
 left_behind : (P : Client → Type 0) (number : ℕ) (cs : List Client) → AreOnce cs → AllByRecursion P (waiting_in (Some number) cs) → AllByRecursion (λ c. (c.thread.number ≢ number) × P c) (without number cs)
@@ -83,7 +79,7 @@ strides_started w rule thread absent own needed =
     let n : ℕ = thread.number in
     let now : StrideState = with_client rule thread in
     let kept : AllByRecursion (IsNeededClient w now) (waiting_of rule) =
-    both (λ c. c.thread.number ≢ n) (IsNeededClient w rule) (IsNeededClient w now)
+    all_both (λ c. c.thread.number ≢ n) (IsNeededClient w rule) (IsNeededClient w now)
     (λ c apart is. record { thread = is.thread; live = is.live; need = need_of-others rule.needs n c.thread.number Need.Nothing apart ∙ is.need })
     (waiting_of rule) (waiting_of_all (λ c. c.thread.number ≢ n) rule.running rule.clients absent) needed in
     with_one (IsNeededClient w now) rule.running rule.clients _ kept
@@ -96,25 +92,30 @@ strides_rejoined w rule thread need running own needed =
     (each rule.clients (subst (λ (r : Option ℕ). AllByRecursion (IsNeededClient w rule) (waiting_in r rule.clients)) running needed)) where
       now : StrideState
       now = after_segment_for rule thread.number need
+
       each : (cs : List Client) → AllByRecursion (IsNeededClient w rule) (waiting_in (Some thread.number) cs) → AllByRecursion (IsNeededClient w now) cs
       each [] all = tt
       each (c ∷ cs) all =
           by_test (c.thread.number == thread.number) _
           (λ same.
           let e : c.thread.number ≡ thread.number = same_number _ _ same in
-          let rest : AllByRecursion (IsNeededClient w rule) (waiting_in (Some thread.number) cs) = rw same at all in
-          (record {
-            thread = own.thread;
-            live = ap (λ (n : ℕ). thread_of w n) e ∙ own.live;
-            need = ap (λ (n : ℕ). need_of n now.needs) e ∙ need_of-told rule.needs thread.number need ∙ own.need;
-          }, each cs rest))
+          let rest : AllByRecursion (IsNeededClient w rule) (waiting_in (Some thread.number) cs) = rw same at all in (
+            record {
+              thread = own.thread;
+              live = ap (λ (n : ℕ). thread_of w n) e ∙ own.live;
+              need = ap (λ (n : ℕ). need_of n now.needs) e ∙ need_of-told rule.needs thread.number need ∙ own.need;
+            },
+            each cs rest,
+          ))
           (λ other.
-          let parts : AllByRecursion (IsNeededClient w rule) (c ∷ waiting_in (Some thread.number) cs) = rw other at all in
-          (record {
-            thread = parts.0.thread;
-            live = parts.0.live;
-            need = need_of-others rule.needs thread.number c.thread.number need (λ e. let same : (c.thread.number == thread.number) ≡ true = grind (arith, nat_tests) in absurd cc) ∙ parts.0.need;
-          }, each cs parts.1))
+          let parts : AllByRecursion (IsNeededClient w rule) (c ∷ waiting_in (Some thread.number) cs) = rw other at all in (
+            record {
+              thread = parts.0.thread;
+              live = parts.0.live;
+              need = need_of-others rule.needs thread.number c.thread.number need (λ e. let same : (c.thread.number == thread.number) ≡ true = grind (arith, nat_tests) in absurd cc) ∙ parts.0.need;
+            },
+            each cs parts.1,
+          ))
 
 pub strides_left : (w : World) (rule : StrideState) (number : ℕ) → rule.running ≡ Some number → AreOnce rule.clients → AreNeededByStrides w rule → AreNeededByStrides w (after_leaving rule number)
 strides_left w rule number running once needed =
@@ -130,14 +131,14 @@ strides_left w rule number running once needed =
 -- where each client that waits is of a thread that stays as it is
 pub strides_kept : (old new : World) (rule : StrideState) → AllByRecursion (λ c. thread_of new c.thread.number ≡ thread_of old c.thread.number) (waiting_of rule) → AreNeededByStrides old rule → AreNeededByStrides new rule
 strides_kept old new rule same needed =
-    both (λ c. thread_of new c.thread.number ≡ thread_of old c.thread.number) (IsNeededClient old rule) (IsNeededClient new rule)
+    all_both (λ c. thread_of new c.thread.number ≡ thread_of old c.thread.number) (IsNeededClient old rule) (IsNeededClient new rule)
     (λ c stays is. record { thread = is.thread; live = stays ∙ is.live; need = is.need }) (waiting_of rule) same needed
 
 -- no client that waits is of the thread whose segment is under way
 pub strides_apart : (places : List (Option ℕ)) (strides : StridesState) (waiting : List Waiter) (number : ℕ) → waits waiting number ≡ false → AreClients places strides waiting →
     AllByRecursion (λ c. c.thread.number ≢ number) (waiting_of strides.rule)
 strides_apart places strides waiting number none clients =
-    apart_at number_of number (waiting_of strides.rule) (none_by places strides.nodes _ _ (none_waiting waiting number none) (clients.each number))
+    apart_at (λ (c : Client). c.thread.number) number (waiting_of strides.rule) (none_by places strides.nodes _ _ (none_waiting waiting number none) (clients.each number))
 
 everyone : (P : Client → Type 0) → ((c : Client) → P c) → (cs : List Client) → AllByRecursion P cs
 everyone P is [] = tt
@@ -150,7 +151,7 @@ pub strides_step : (g : Setup) (state : State) (segment : Segment) (begun : ℕ)
     AreClients places strides waiting → AreNeededByStrides here strides.rule → (after : World) → ((number : ℕ) → here.running ≢ Some number → number ≢ here.next → thread_of after number ≡ thread_of here number) →
     AreNeededByStrides after strides.rule
 strides_step g state segment begun here waiting is places strides clients needed after keeps =
-    both (λ c. c.thread.number ≢ segment.thread) (IsNeededClient here strides.rule) (IsNeededClient after strides.rule)
+    all_both (λ c. c.thread.number ≢ segment.thread) (IsNeededClient here strides.rule) (IsNeededClient after strides.rule)
     (λ c apart its. record {
       thread = its.thread;
       live = keeps c.thread.number
@@ -188,12 +189,13 @@ placed_in : (places : List (Option ℕ)) (nodes : List ℕ) (waiting : List Wait
     (cs : List Client) → ((c : Client) → Lies c cs → Lies c all) → AllByRecursion (λ c. IsPlaced places c.thread) cs
 placed_in places nodes waiting all once each [] there = tt
 placed_in places nodes waiting all once each (c ∷ cs) there =
-    let its : client_of c.thread.number all ≡ Some c = client-of_lies c all once (there c (inl refl)) in
-    (placed_of places nodes c (waiter_of c.thread.number waiting) (subst (λ (o : Option Client). AreBoth places nodes o (waiter_of c.thread.number waiting)) its (each c.thread.number)),
-    placed_in places nodes waiting all once each cs (λ x lies. there x (inr lies)))
+    let its : client_of c.thread.number all ≡ Some c = client-of_lies c all once (there c (inl refl)) in (
+      placed_of places nodes c (waiter_of c.thread.number waiting) (subst (λ (o : Option Client). AreBoth places nodes o (waiter_of c.thread.number waiting)) its (each c.thread.number)),
+      placed_in places nodes waiting all once each cs (λ x lies. there x (inr lies)),
+    )
 
 pub strides_known : (held : Held) (strides : StridesState) (waiting : List Waiter) → held.machine.running ≡ None → AreClients held.places strides waiting → AreNeededByStrides held.machine strides.rule → AreKnown (Vouches held) strides.rule
 strides_known held strides waiting rests clients needed =
-    both (λ c. IsPlaced held.places c.thread) (IsNeededClient held.machine strides.rule) (λ c. Vouches held c.thread (need_of c.thread.number strides.rule.needs))
+    all_both (λ c. IsPlaced held.places c.thread) (IsNeededClient held.machine strides.rule) (λ c. Vouches held c.thread (need_of c.thread.number strides.rule.needs))
     (λ c placed is. vouched_by held (record { thread = c.thread; need = need_of c.thread.number strides.rule.needs }) is rests placed) (waiting_of strides.rule)
     (placed_in held.places strides.nodes waiting (waiting_of strides.rule) (once-waiting strides.rule.running strides.rule.clients clients.once) clients.each (waiting_of strides.rule) (λ c lies. lies)) needed

@@ -1,5 +1,5 @@
 -- The state of the rule beside the state of a log.
-use Rattle.std.specs.Prelude.{ℕ, ◌≡◌, ⊤, List, [], Option, None}
+use Rattle.std.specs.Prelude.{ℕ, ◌≡◌, List, [], Option, None}
 use Rattle.cap_word.specs.declared.threads.ThreadId.{ThreadId}
 use Rattle.choice_rules.specs.Policy.{Rule, by_graph, by_stride}
 use Rattle.choice_rules.specs.Seen.{Waiter, Past}
