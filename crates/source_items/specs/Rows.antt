@@ -1,6 +1,8 @@
 -- Where the words of names stand, one name after another.
-use Rattle.std.specs.Prelude.{◌≡◌, ℕ, ◌<◌, List, length, sum, take, slice_index}
+use Rattle.std.specs.Prelude.{◌≡◌, ℕ, ◌<◌, List, length, sum, take, slice_index, Option, Some, None, Ok, Err}
+use Rattle.cap_word.specs.declared.traps.TrapKind.{TrapKind}
 use Rattle.c_mean.specs.Layout.{rows_of}
+use Rattle.c_mean.specs.Values.{Value}
 use Rattle.source_items.specs.declared.rows.Rows.{Rows}
 
 -- each name's words start behind those of the names before it
@@ -19,3 +21,8 @@ IsRows rows = AreRows rows.widths.now rows.starts.now rows.words.now
 -- the rows of the names
 abbrev pub rows_in : Rows → List (List ℕ)
 rows_in rows = rows_of rows.widths.now rows.words.now
+
+-- a word, or the trap of an index out of range where there is none
+abbrev pub or_index : Option ℕ → Value
+or_index None = Err TrapKind.Index
+or_index (Some word) = Ok word

@@ -17,5 +17,5 @@ pub use items::{
     Item, Part, condition_of, leave, push_body, push_stmt, push_stmts, push_turn, skip, start_of,
     step_of, take_item,
 };
-pub use rows::{Rows, element_of, word_of};
+pub use rows::Rows;
 pub use values::evaluate;

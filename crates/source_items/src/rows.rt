@@ -3,9 +3,7 @@
 ghost use Rattle.std.specs.Prelude.{◌≡◌, ◌<◌, length, slice_index, nat_lt};
 ghost use Rattle.cap_word.specs.Rows.{width, word_at};
 ghost use Rattle.c_mean.specs.Values.{in_range};
-ghost use Rattle.source_items.specs.Rows.{IsRows, rows_in};
-
-use cap_word::TrapKind;
+ghost use Rattle.source_items.specs.Rows.{IsRows, or_index, rows_in};
 
 /// The words of names: how many words each name has, where its words start, and the words of all.
 #[derive(Clone, Copy)]
@@ -16,7 +14,7 @@ pub struct Rows<'a> {
 }
 
 /// The word of a scalar.
-pub fn word_of(rows: &Rows, x: u32) -> u32
+pub(crate) fn word_of(rows: &Rows, x: u32) -> u32
     requires rows { IsRows rows.now }
     requires there { x < length rows.now.widths.now }
     requires one_word { slice_index rows.now.widths.now x ≡ 1 }
@@ -25,15 +23,15 @@ pub fn word_of(rows: &Rows, x: u32) -> u32
     rows.words[rows.starts[x as usize] as usize]
 }
 
-/// The word of an array at an index, read unsigned, or the trap where it isn't below the array's size.
-pub fn element_of(rows: &Rows, a: u32, index: u32) -> Result<u32, TrapKind>
+/// The word of an array at an index, read unsigned, or `None` where it isn't below the array's size.
+pub(crate) fn element_of(rows: &Rows, a: u32, index: u32) -> Option<u32>
     requires rows { IsRows rows.now }
     requires there { a < length rows.now.widths.now }
-    ensures { result ≡ in_range (nat_lt index (width (rows_in rows.now) a)) (word_at (rows_in rows.now) a index) }
+    ensures { or_index result ≡ in_range (nat_lt index (width (rows_in rows.now) a)) (word_at (rows_in rows.now) a index) }
 {
     if index < rows.widths[a as usize] {
-        Ok(rows.words[rows.starts[a as usize] as usize + index as usize])
+        Some(rows.words[rows.starts[a as usize] as usize + index as usize])
     } else {
-        Err(TrapKind::Index)
+        None
     }
 }

@@ -5,7 +5,7 @@ ghost use Rattle.c_tree.specs.Views.{expr_tree};
 ghost use Rattle.c_mean.specs.Chains.{joined_value, IsDecided, IsOpen};
 ghost use Rattle.c_mean.specs.Layout.{IsInRange};
 ghost use Rattle.c_mean.specs.Values.{value};
-ghost use Rattle.source_items.specs.Rows.{IsRows, rows_in};
+ghost use Rattle.source_items.specs.Rows.{IsRows, or_index, rows_in};
 
 use crate::operators::{binary, unary};
 use crate::rows::{Rows, element_of, word_of};
@@ -36,51 +36,87 @@ fn joined(operator: Infix, left: u32, right: u32) -> u32
 }
 
 /// The value of an expression over these names and globals, or its first trap. It recurses as deep as the expression nests.
+#[inline(always)]
 pub fn evaluate(names: &Rows, globals: &Rows, expr: &Expr) -> Result<u32, TrapKind>
     requires names { IsRows names.now }
     requires globals { IsRows globals.now }
     requires in_range { IsInRange names.now.widths.now globals.now.widths.now (expr_tree expr.now) }
     ensures { result ≡ value (rows_in names.now) (rows_in globals.now) (expr_tree expr.now) }
 {
+    match operand(names, globals, expr) {
+        Some(word) => Ok(word),
+        None => Err(TrapKind::Index),
+    }
+}
+
+/// The value of an expression, or `None` if an index is out of range. A number or a name takes no call.
+#[cycle(operand)]
+#[inline(always)]
+fn operand(names: &Rows, globals: &Rows, expr: &Expr) -> Option<u32>
+    requires names { IsRows names.now }
+    requires globals { IsRows globals.now }
+    requires in_range { IsInRange names.now.widths.now globals.now.widths.now (expr_tree expr.now) }
+    ensures { or_index result ≡ value (rows_in names.now) (rows_in globals.now) (expr_tree expr.now) }
+{
     match expr {
-        Expr::Number(number) => Ok(*number),
-        Expr::Local(x) => Ok(word_of(names, *x)),
-        Expr::Global(g) => Ok(word_of(globals, *g)),
+        Expr::Number(number) => Some(*number),
+        Expr::Local(x) => Some(word_of(names, *x)),
+        Expr::Global(g) => Some(word_of(globals, *g)),
+        _ => composed(names, globals, expr),
+    }
+}
+
+/// The value of an expression of any form, or `None` if an index is out of range.
+#[cycle(operand)]
+#[inline(never)]
+fn composed(names: &Rows, globals: &Rows, expr: &Expr) -> Option<u32>
+    requires names { IsRows names.now }
+    requires globals { IsRows globals.now }
+    requires in_range { IsInRange names.now.widths.now globals.now.widths.now (expr_tree expr.now) }
+    ensures { or_index result ≡ value (rows_in names.now) (rows_in globals.now) (expr_tree expr.now) }
+{
+    match expr {
+        Expr::Number(number) => Some(*number),
+        Expr::Local(x) => Some(word_of(names, *x)),
+        Expr::Global(g) => Some(word_of(globals, *g)),
         Expr::LocalElement { array, index } => {
-            let index = evaluate(names, globals, index)?;
+            let index = operand(names, globals, index)?;
             element_of(names, *array, index)
         }
         Expr::GlobalElement { array, index } => {
-            let index = evaluate(names, globals, index)?;
+            let index = operand(names, globals, index)?;
             element_of(globals, *array, index)
         }
-        Expr::Unary { operator, operand } => {
-            let operand = evaluate(names, globals, operand)?;
-            Ok(unary(*operator, operand))
+        Expr::Unary {
+            operator,
+            operand: inner,
+        } => {
+            let word = operand(names, globals, inner)?;
+            Some(unary(*operator, word))
         }
-        Expr::Parenthesized(inner) => evaluate(names, globals, inner),
+        Expr::Parenthesized(inner) => operand(names, globals, inner),
         Expr::Chain { first, rest } => {
-            let mut left = evaluate(names, globals, first)?;
-            for (operator, operand) in rest {
+            let mut left = operand(names, globals, first)?;
+            for (operator, right) in rest {
                 if let Some(word) = decided(*operator, left) {
                     left = word;
                 } else {
-                    let right = evaluate(names, globals, operand)?;
+                    let right = operand(names, globals, right)?;
                     left = joined(*operator, left, right);
                 }
             }
-            Ok(left)
+            Some(left)
         }
         Expr::Conditional {
             condition,
             then,
             otherwise,
         } => {
-            let condition = evaluate(names, globals, condition)?;
+            let condition = operand(names, globals, condition)?;
             if condition != 0 {
-                evaluate(names, globals, then)
+                operand(names, globals, then)
             } else {
-                evaluate(names, globals, otherwise)
+                operand(names, globals, otherwise)
             }
         }
     }

@@ -128,6 +128,7 @@ fn two_arguments(call: ModelledCall, first: u32, second: u32) -> Move
 
 impl<'a> Interpreter<'a> {
     /// The value of an expression in the running frame.
+    #[inline(always)]
     pub(crate) fn value(
         &self,
         thread: &Thread<'a>,

@@ -119,8 +119,8 @@ impl<'a> Interpreter<'a> {
         ensures function { IfOk result (λ frame. frame.function ≡ function) }
     {
         names.resize(self.layout(function).words, 0)?;
-        let mut items = Vec::new(self.alloc);
         let body = &self.program.functions()[function as usize].body;
+        let mut items = Vec::with_capacity(self.alloc, body.len())?;
         push_stmts(&mut items, body)?;
         Ok(Frame {
             function,
@@ -131,6 +131,7 @@ impl<'a> Interpreter<'a> {
     }
 
     /// Runs a thread up to what it asks next, its end or its trap, by at most `left` steps, which falls by the steps taken.
+    #[inline(never)]
     pub fn run(
         &self,
         thread: &mut Thread<'a>,

@@ -34,6 +34,7 @@ pub(crate) fn went(pushed: Result<(), AllocError>) -> Result<Move, Halt>
 
 impl<'a> Interpreter<'a> {
     /// One step. A function that reaches its end returns 0 if it is an `int` function.
+    #[inline(always)]
     pub(crate) fn step(&self, thread: &mut Thread<'a>, globals: &mut Vec<u32>) -> Result<Move, Halt>
         requires ready { IsReady self.now }
         requires thread { IsThread (tree_of self.now) thread.old globals.old.items }
@@ -50,6 +51,7 @@ impl<'a> Interpreter<'a> {
     }
 
     /// An item, where the thread has only the items after it still to do.
+    #[inline(always)]
     fn perform(
         &self,
         thread: &mut Thread<'a>,
@@ -82,6 +84,7 @@ impl<'a> Interpreter<'a> {
     }
 
     /// A statement that is done whole.
+    #[inline(always)]
     fn whole(
         &self,
         thread: &mut Thread<'a>,
@@ -96,7 +99,7 @@ impl<'a> Interpreter<'a> {
         ensures { HasStepped (tree_of self.now) (performs (tree_of self.now) (running_of (tree_of self.now) thread.old globals.old.items) (whole_item (stmt_tree stmt.now)) (to_do thread.old.front.items.items)) thread.new globals.new.items result }
     {
         match stmt {
-            Stmt::Simple(simple) => self.simply(thread, globals, simple),
+            Stmt::Simple(simple) => self.perform_simple(thread, globals, simple),
             Stmt::If { condition, then } => self.choose(thread, globals, condition, then, None),
             Stmt::IfElse {
                 condition,
@@ -117,6 +120,7 @@ impl<'a> Interpreter<'a> {
     }
 
     /// The test of a branch.
+    #[inline(always)]
     fn choose(
         &self,
         thread: &mut Thread<'a>,
@@ -145,6 +149,7 @@ impl<'a> Interpreter<'a> {
     }
 
     /// The test of a loop.
+    #[inline(always)]
     fn test(
         &self,
         thread: &mut Thread<'a>,
@@ -169,6 +174,7 @@ impl<'a> Interpreter<'a> {
     }
 
     /// `return`, with a value if there is one.
+    #[inline(always)]
     fn return_right(
         &self,
         thread: &mut Thread<'a>,
@@ -190,9 +196,26 @@ impl<'a> Interpreter<'a> {
         }
     }
 
+    /// A declaration of one name, an assignment or a call.
+    #[inline(never)]
+    fn simply(
+        &self,
+        thread: &mut Thread<'a>,
+        globals: &mut Vec<u32>,
+        simple: &Simple,
+    ) -> Result<Move, Halt>
+        requires ready { IsReady self.now }
+        requires thread { IsThread (tree_of self.now) thread.old globals.old.items }
+        requires scoped { InSomeScope (λ scope. IsSimpleScoped (context_at (tree_of self.now) thread.old.front.function) scope (simple_tree simple.now)) }
+        ensures { HasStepped (tree_of self.now) (does (tree_of self.now) (running_of (tree_of self.now) thread.old globals.old.items) (simple_tree simple.now)) thread.new globals.new.items result }
+    {
+        self.perform_simple(thread, globals, simple)
+    }
+
     /// A declaration of one name, an assignment or a call. In `a[i] = e` the index comes before the right side, and the range
     /// test after it.
-    fn simply(
+    #[inline(always)]
+    fn perform_simple(
         &self,
         thread: &mut Thread<'a>,
         globals: &mut Vec<u32>,
@@ -249,6 +272,7 @@ impl<'a> Interpreter<'a> {
     }
 
     /// A right side, whose value or result goes to a place.
+    #[inline(always)]
     fn assign(
         &self,
         thread: &mut Thread<'a>,

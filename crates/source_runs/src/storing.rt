@@ -26,6 +26,7 @@ fn clear_row(words: &mut Vec<u32>, start: usize, width: usize)
 impl<'a> Interpreter<'a> {
     /// A word goes to a place. An element's index, read unsigned, has to be below the array's size. A word that goes back to
     /// the caller is all that is left to do.
+    #[inline(always)]
     pub(crate) fn store(
         &self,
         thread: &mut Thread<'a>,

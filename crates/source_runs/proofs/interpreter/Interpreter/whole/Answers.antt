@@ -15,8 +15,8 @@ use Rattle.source_runs.proofs.Parts.{whole-so, while-so}
 use Rattle.source_runs.proofs.Scopes.{do-scoped, empty-scoped, if-condition, if-first, else-condition, else-first, else-second, while-condition, return-scoped}
 use Rattle.source_runs.proofs.interpreter.Interpreter.whole.Goals as goal
 
-pub simply-requires-clause-scoped : goal.simply-requires-clause-scoped
-simply-requires-clause-scoped c = do-scoped _ _ (subst (IsScoped (context_at (tree_of c.args.self.now) c.args.thread.now.front.function)) (ap stmt_tree c.in-Simple.is ∙ stmt_tree-Simple c.in-Simple.simple) c.requires.scoped)
+pub perform_simple-requires-clause-scoped : goal.perform_simple-requires-clause-scoped
+perform_simple-requires-clause-scoped c = do-scoped _ _ (subst (IsScoped (context_at (tree_of c.args.self.now) c.args.thread.now.front.function)) (ap stmt_tree c.in-Simple.is ∙ stmt_tree-Simple c.in-Simple.simple) c.requires.scoped)
 
 pub choose-requires-clause-condition : goal.choose-requires-clause-condition
 choose-requires-clause-condition c = if-condition _ _ _ (subst (IsScoped (context_at (tree_of c.args.self.now) c.args.thread.now.front.function)) (ap stmt_tree c.in-If.is ∙ stmt_tree-If c.in-If.condition c.in-If.then) c.requires.scoped)
@@ -52,7 +52,7 @@ returns-in-Simple c =
     let thread = c.args.thread.now in
     let running = running_of tree thread words in
     let rest = to_do thread.front.items.items in
-    whole-so tree running rest c.simply.new.thread c.simply.new.globals.items c.simply.result _ _ (ap stmt_tree c.in-Simple.is ∙ stmt_tree-Simple c.in-Simple.simple) c.simply.ensures
+    whole-so tree running rest c.perform_simple.new.thread c.perform_simple.new.globals.items c.perform_simple.result _ _ (ap stmt_tree c.in-Simple.is ∙ stmt_tree-Simple c.in-Simple.simple) c.perform_simple.ensures
 
 pub returns-in-If : goal.returns-in-If
 returns-in-If c =

@@ -10,7 +10,7 @@ use Rattle.source_runs.specs.Layouts.{context_at, tree_of}
 use Rattle.source_runs.specs.Threads.{running_of}
 use Rattle.source_runs.proofs.Functions.{globals-there}
 use Rattle.source_runs.proofs.Moved.{made-so, trap-from, value-used}
-use Rattle.source_runs.proofs.interpreter.Interpreter.simply.Goals as goal
+use Rattle.source_runs.proofs.interpreter.Interpreter.perform_simple.Goals as goal
 
 pub clear-requires-clause-named : goal.clear-requires-clause-named
 clear-requires-clause-named c = let h = rw c.in-DeclareScalar.is at c.requires.scoped in h.scoped.0

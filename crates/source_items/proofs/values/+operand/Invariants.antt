@@ -5,10 +5,10 @@ use Rattle.source_items.specs.Rows.{rows_in}
 use Rattle.c_mean.specs.Values.{value}
 use Rattle.c_mean.specs.Chains.{chain_value}
 use Rattle.c_mean.proofs.ChainLemmas.{OperandsInRange}
-use Rattle.source_items.proofs.values.+evaluate.Given as goal
+use Rattle.source_items.proofs.values.+operand.Given as goal
 
-abbrev pub invariant-loop-operator : goal.invariant-loop-operator
-invariant-loop-operator l = record {
+abbrev pub invariant-composed-loop-operator : goal.invariant-composed-loop-operator
+invariant-composed-loop-operator l = record {
   left : chain_value (rows_in l.names) (rows_in l.globals) (Ok l.left) (map (λ p. (p.0, expr_tree p.1)) (drop l.operator-index l.operator-items))
       ≡ value (rows_in l.names) (rows_in l.globals) (expr_tree l.expr);
   in_range : OperandsInRange l.names.widths.now l.globals.widths.now (map (λ p. (p.0, expr_tree p.1)) (drop l.operator-index l.operator-items));
