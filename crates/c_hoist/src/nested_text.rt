@@ -3,7 +3,9 @@ ghost use Rattle.std.specs.Prelude.{◌≡◌, ◌≢◌, ◌≤◌, ◌⊎◌, 
 ghost use Rattle.c_tree.specs.Trees.{ProgramTree};
 ghost use Rattle.c_tree.specs.ProgramView.{program_tree};
 ghost use Rattle.c_tree.specs.RawProgramView.{raw_program_tree};
+ghost use Rattle.c_tree.specs.WholeCalls.{AreCallsWhole};
 ghost use Rattle.whole_calls.specs.WholeForParts.{AreForPartsWhole};
+ghost use Rattle.hoist_parts.specs.Statements.{items_hoisted};
 ghost use Rattle.c_hoist.specs.NestedText.{IsHoistedTo, IsRefusedHoisted, ReadsNested, IsNestedSourceErrorOf, MeansText};
 
 use c_lex::lex;
@@ -13,7 +15,7 @@ use c_tree::{Program, RawProgram};
 use call_numbers::site_numbers;
 use hoist_rules::hoist;
 use scope_rules::{ScopeError, resolve_numbered};
-use std::alloc::Global;
+use std::alloc::{AllocError, Global};
 
 /// The program that a source of at most 1,048,576 bytes is, where a call may stand inside an expression everywhere but in the
 /// parentheses of a `for`: its tokens (ISO/IEC 9899:2018, 6.4), its tree (6.5 to 6.9), in which each call that isn't whole goes before
@@ -54,19 +56,29 @@ fn read(alloc: Global, source: &[u8]) -> Result<Program, SourceError>
         Ok(raw) => raw,
         Err(error) => return Err(of_parse(error)),
     };
-    match resolve_hoisted(alloc, &raw) {
+    drop(tokens);
+    match resolve_hoisted(alloc, raw) {
         Ok(program) => Ok(program),
         Err(error) => Err(of_scope(error)),
     }
 }
 
-// The program of the rewritten tree, or a refusal of it.
-fn resolve_hoisted(alloc: Global, raw: &RawProgram) -> Result<Program, ScopeError>
-    requires { AreForPartsWhole (raw_program_tree raw.now) }
-    ensures resolved { IfOk result (λ p. IsHoistedTo (raw_program_tree raw.now) (program_tree p)) }
-    ensures refused { IfErr result (λ e. IsRefusedHoisted (raw_program_tree raw.now) e) }
+// The rewritten tree. It frees the tree as it is read.
+fn rewritten(alloc: Global, raw: RawProgram) -> Result<RawProgram, AllocError>
+    requires { AreForPartsWhole (raw_program_tree raw) }
+    ensures rewritten { IfOk result (λ p. raw_program_tree p ≡ items_hoisted (raw_program_tree raw)) }
+    ensures whole { IfOk result (λ p. AreCallsWhole (raw_program_tree p)) }
 {
-    let Ok(hoisted) = hoist(alloc, raw) else {
+    Ok(hoist(alloc, &raw)?)
+}
+
+// The program of the rewritten tree, or a refusal of it.
+fn resolve_hoisted(alloc: Global, raw: RawProgram) -> Result<Program, ScopeError>
+    requires { AreForPartsWhole (raw_program_tree raw) }
+    ensures resolved { IfOk result (λ p. IsHoistedTo (raw_program_tree raw) (program_tree p)) }
+    ensures refused { IfErr result (λ e. IsRefusedHoisted (raw_program_tree raw) e) }
+{
+    let Ok(hoisted) = rewritten(alloc, raw) else {
         return Err(ScopeError::Memory);
     };
     let Ok(numbers) = site_numbers(alloc, &hoisted) else {

@@ -1,8 +1,8 @@
 // Operators one after another, of which some have gone before the statement.
 ghost use Rattle.std.specs.Prelude.{◌≡◌, IfOk};
 ghost use Rattle.c_tree.specs.RawTrees.{RawUnary};
-ghost use Rattle.c_tree.specs.RawViews.{raw_expr_tree, raw_joined};
-ghost use Rattle.hoist_parts.specs.Chains.{chain_tree, branches, condition_by};
+ghost use Rattle.c_tree.specs.RawViews.{raw_expr_tree, raw_joined, raw_chained};
+ghost use Rattle.hoist_parts.specs.Chains.{chain_tree, operand_trees, branches, condition_by};
 ghost use Rattle.hoist_parts.specs.Expressions.{is_true, is_false};
 
 use crate::new_names::used;
@@ -37,20 +37,32 @@ impl Chain {
         }
     }
 
-    /// The expression.
+    /// The expression. Its list of operators has no spare capacity.
     pub fn whole(self, alloc: Global) -> Result<RawExpr, AllocError>
         ensures { IfOk result (λ e. raw_expr_tree e ≡ chain_tree self) }
     {
-        let Chain { first, rest } = self;
+        let Chain { first, mut rest } = self;
         if rest.is_empty() {
             Ok(first)
         } else {
-            Ok(RawExpr::Chain {
-                first: Box::new(alloc, first)?,
-                rest,
-            })
+            rest.shrink_to_fit();
+            Ok(chained(alloc, first, rest)?)
         }
     }
+}
+
+// A first operand, and operators with the operands after it.
+fn chained(
+    alloc: Global,
+    first: RawExpr,
+    rest: Vec<(Infix, RawExpr)>,
+) -> Result<RawExpr, AllocError>
+    ensures { IfOk result (λ e. raw_expr_tree e ≡ raw_chained (raw_expr_tree first) (operand_trees rest.items)) }
+{
+    Ok(RawExpr::Chain {
+        first: Box::new(alloc, first)?,
+        rest,
+    })
 }
 
 /// An operator before its operand.

@@ -5,7 +5,7 @@ ghost use Rattle.c_tree.specs.RawViews.{raw_expr_tree, raw_stmt_tree};
 ghost use Rattle.hoist_parts.specs.Expressions.{is_false, in_block};
 ghost use Rattle.hoist_parts.specs.Statements.{as_body};
 
-use crate::hoisting::Hoisting;
+use crate::hoisting::{Hoisting, fitted};
 use c_tree::{RawExpr, RawStmt};
 use hoist_parts::is_false;
 use std::alloc::{AllocError, Global};
@@ -15,7 +15,7 @@ fn as_body(mut statements: Vec<RawStmt>) -> RawStmt
     ensures { raw_stmt_tree result ≡ as_body (map raw_stmt_tree statements.items) }
 {
     if 1 < statements.len() {
-        return RawStmt::Block(statements);
+        return RawStmt::Block(fitted(statements));
     }
     match statements.pop() {
         Some(one) => one,
@@ -59,7 +59,7 @@ impl Hoisting {
         ensures next { self.new.next ≡ self.old.next }
     {
         let alloc = self.alloc;
-        let turn = RawStmt::Block(self.leave(outer));
+        let turn = RawStmt::Block(fitted(self.leave(outer)));
         let body = Box::new(alloc, turn)?;
         let condition = RawExpr::Number(1);
         self.push(RawStmt::While { condition, body })

@@ -7,7 +7,7 @@ ghost use Rattle.hoist_parts.specs.Expressions.{in_block, is_true};
 ghost use Rattle.hoist_parts.specs.Chains.{chain_tree, condition_by};
 
 use crate::built::boxed_pair;
-use crate::hoisting::Hoisting;
+use crate::hoisting::{Hoisting, fitted};
 use c_tree::{Infix, RawExpr, RawStmt};
 use hoist_parts::{Chain, condition_by, is_true, used};
 use std::alloc::AllocError;
@@ -57,7 +57,7 @@ impl Hoisting {
         ensures next { OnOk result (self.new.next ≡ self.old.next) }
     {
         match self.set(number, value) {
-            Ok(()) => Ok(RawStmt::Block(self.leave(outer))),
+            Ok(()) => Ok(RawStmt::Block(fitted(self.leave(outer)))),
             Err(error) => {
                 drop(outer);
                 Err(error)

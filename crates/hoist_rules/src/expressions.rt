@@ -253,7 +253,7 @@ impl Hoisting {
         ensures before { OnOk result (map raw_stmt_tree self.new.statements.items ≡ map raw_stmt_tree self.old.statements.items ++ arguments_before is_first_kept self.old.next (raw_expr_trees raw.now)) }
         ensures next { OnOk result (self.new.next ≡ self.old.next + arguments_names is_first_kept (raw_expr_trees raw.now)) }
     {
-        let mut arguments = Vec::new(self.alloc);
+        let mut arguments = Vec::with_capacity(self.alloc, raw.len())?;
         let mut stays = is_first_kept;
         let mut calls = calls_among(raw);
         for argument in raw {

@@ -8,6 +8,14 @@ use hoist_parts::{new_name, used};
 use std::alloc::{AllocError, Global};
 use std::mem;
 
+/// The same statements, without spare capacity: a list that grows by doubling has room for four at least, and a branch has two.
+pub(crate) fn fitted(mut statements: Vec<RawStmt>) -> Vec<RawStmt>
+    ensures { result.items ≡ statements.items }
+{
+    statements.shrink_to_fit();
+    statements
+}
+
 /// The statements of the block so far, and the number of the next new name of the function.
 #[derive(Drop)]
 pub(crate) struct Hoisting {

@@ -8,7 +8,7 @@ ghost use Rattle.hoist_parts.specs.Expressions.{names_in};
 ghost use Rattle.hoist_parts.specs.Statements.{stmt_names, stmts_names, as_body, turn_of, hoisted, all_hoisted};
 
 use crate::bodies::ends_unless;
-use crate::hoisting::Hoisting;
+use crate::hoisting::{Hoisting, fitted};
 use c_tree::{RawExpr, RawStmt};
 use hoist_parts::holds_call;
 use std::alloc::AllocError;
@@ -116,7 +116,7 @@ impl Hoisting {
                 }
             }
         }
-        Ok(self.leave(outer))
+        Ok(fitted(self.leave(outer)))
     }
 
     // A body: a block, where other statements than one stand in its place.

@@ -148,7 +148,7 @@ fn operands(
     ensures tree { IfOk result (λ ps. operand_trees ps.items ≡ operands_of names.now rest.now) }
     ensures faults { OnOk result (least.new ≡ least_of least.old (operands_faults names.now rest.now)) }
 {
-    let mut operands = Vec::new(alloc);
+    let mut operands = Vec::with_capacity(alloc, rest.len())?;
     for (operator, operand) in rest {
         let next = both(*operator, expr(alloc, names, least, operand));
         operands = with_next(operands, next)?;
@@ -181,7 +181,7 @@ pub fn exprs(
     ensures tree { IfOk result (λ es. map expr_tree es.items ≡ exprs_of names.now (map raw_expr_tree raw.now)) }
     ensures faults { OnOk result (least.new ≡ least_of least.old (exprs_faults names.now (map raw_expr_tree raw.now))) }
 {
-    let mut exprs = Vec::new(alloc);
+    let mut exprs = Vec::with_capacity(alloc, raw.len())?;
     for argument in raw {
         exprs = with_next(exprs, expr(alloc, names, least, argument))?;
     }

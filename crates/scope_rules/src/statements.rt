@@ -276,7 +276,7 @@ impl<'a> Place<'a> {
         ensures place { OnOk result (spot_of self.new ≡ stmts_after (spot_of self.old) (raw_stmt_trees raw.now)) }
         ensures faults { OnOk result (self.new.least ≡ least_of self.old.least (stmts_faults gives loops (spot_of self.old) (raw_stmt_trees raw.now))) }
     {
-        let mut stmts = Vec::new(self.alloc);
+        let mut stmts = Vec::with_capacity(self.alloc, raw.len())?;
         for stmt in raw {
             stmts = with_next(stmts, self.stmt(gives, loops, stmt))?;
         }

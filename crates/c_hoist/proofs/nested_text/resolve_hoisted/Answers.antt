@@ -11,8 +11,8 @@ resolve_numbered-requires-clause-each c =
 
 pub returns-in-Ok-resolve_numbered-clause-resolved : goal.returns-in-Ok-resolve_numbered-clause-resolved
 returns-in-Ok-resolve_numbered-clause-resolved c =
-    hoisted_by (raw_program_tree c.args.raw.now) (raw_program_tree c.in-Ok.hoisted) c.deref.result.now (program_tree c.in-Ok-resolve_numbered.program) c.in-Ok.ensures.rewritten
+    hoisted_by (raw_program_tree c.args.raw) (raw_program_tree c.in-Ok.hoisted) c.deref.result.now (program_tree c.in-Ok-resolve_numbered.program) c.in-Ok.ensures.rewritten
     (c.deref.ensures.value ∙ c.in-Ok-site_numbers.ensures.numbers) c.in-Ok-resolve_numbered.ensures.resolved
 
 pub returns-clause-refused : goal.returns-clause-refused
-returns-clause-refused c = refused_by (raw_program_tree c.args.raw.now) (raw_program_tree c.in-Ok.hoisted) c.in-Err.error c.in-Ok.ensures.rewritten c.in-Err.ensures.refused
+returns-clause-refused c = refused_by (raw_program_tree c.args.raw) (raw_program_tree c.in-Ok.hoisted) c.in-Err.error c.in-Ok.ensures.rewritten c.in-Err.ensures.refused

@@ -40,8 +40,8 @@ operands-loop-operator-preserved t c =
     let i = c.loop-operator.operator-index in
     let names = c.args.names.now in
     let cut : drop i rest ≡ item ∷ drop (i + 1) rest = drop_at rest i item c.loop-operator-test.true c.loop-operator-item.is in
-    let pushed = operand_pushed c.expr.result c.both-next.result c.loop-operator.operands.items c.in_ok-operands.operands.items item.0 _ c.in_ok-operands.ensures c.both-next.ensures.before c.both-next.ensures.next c.expr.ensures.tree in
-    let fault = pushed_pair_fact _ _ c.expr.result c.both-next.result c.in_ok-operands.ensures c.both-next.ensures.next c.expr.ensures.faults in
+    let pushed = operand_pushed c.expr.result c.both-next.result c.loop-operator.operands.items c.in_ok-operands-2.operands.items item.0 _ c.in_ok-operands-2.ensures c.both-next.ensures.before c.both-next.ensures.next c.expr.ensures.tree in
+    let fault = pushed_pair_fact _ _ c.expr.result c.both-next.result c.in_ok-operands-2.ensures c.both-next.ensures.next c.expr.ensures.faults in
     record {
       trees = rw (pushed, append_assoc) (rw cut at c.loop-operator.invariant.trees);
       faults = rw (fault, ← least_of_append c.loop-operator.least (expr_faults names (raw_expr_tree item.1)) (operands_faults names (drop (i + 1) rest))) (rw cut at c.loop-operator.invariant.faults);

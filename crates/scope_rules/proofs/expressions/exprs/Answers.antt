@@ -15,6 +15,6 @@ loop-argument-preserved c =
     let names = c.args.names.now in
     let cut : drop i rest ≡ item ∷ drop (i + 1) rest = drop_at rest i item c.loop-argument-test.true c.argument-item.is in
     record {
-      trees = rw (pushed_view expr_tree c.expr.result c.loop-argument.exprs.items c.in_ok-exprs.exprs.items _ c.in_ok-exprs.ensures c.expr.ensures.tree, append_assoc) (rw cut at c.loop-argument.invariant.trees);
-      faults = rw (pushed_fact _ _ c.expr.result c.in_ok-exprs.ensures c.expr.ensures.faults, ← least_of_append c.loop-argument.least (expr_faults names (raw_expr_tree item)) (exprs_faults names (map raw_expr_tree (drop (i + 1) rest)))) (rw cut at c.loop-argument.invariant.faults);
+      trees = rw (pushed_view expr_tree c.expr.result c.loop-argument.exprs.items c.in_ok-exprs-2.exprs.items _ c.in_ok-exprs-2.ensures c.expr.ensures.tree, append_assoc) (rw cut at c.loop-argument.invariant.trees);
+      faults = rw (pushed_fact _ _ c.expr.result c.in_ok-exprs-2.ensures c.expr.ensures.faults, ← least_of_append c.loop-argument.least (expr_faults names (raw_expr_tree item)) (exprs_faults names (map raw_expr_tree (drop (i + 1) rest)))) (rw cut at c.loop-argument.invariant.faults);
     }

@@ -101,11 +101,11 @@ stmts-loop-stmt-preserved t c =
     let g = c.args.gives in
     let l = c.args.loops in
     let cut : drop i raw ≡ item ∷ drop (i + 1) raw = drop_at raw i item c.loop-stmt-test.true c.stmt-item.is in
-    let place = pushed_fact _ _ c.stmt.result c.in_ok-stmts.ensures c.stmt.ensures.place in
+    let place = pushed_fact _ _ c.stmt.result c.in_ok-stmts-2.ensures c.stmt.ensures.place in
     record {
-      trees = rw (pushed_view stmt_tree c.stmt.result c.loop-stmt.stmts.items c.in_ok-stmts.stmts.items _ c.in_ok-stmts.ensures c.stmt.ensures.tree, append_assoc, place) (rw cut at c.loop-stmt.invariant.trees);
+      trees = rw (pushed_view stmt_tree c.stmt.result c.loop-stmt.stmts.items c.in_ok-stmts-2.stmts.items _ c.in_ok-stmts-2.ensures c.stmt.ensures.tree, append_assoc, place) (rw cut at c.loop-stmt.invariant.trees);
       place = rw place (rw cut at c.loop-stmt.invariant.place);
-      faults = rw (place, pushed_fact _ _ c.stmt.result c.in_ok-stmts.ensures c.stmt.ensures.faults, ← least_of_append c.loop-stmt.self.least (stmt_faults g l s (raw_stmt_tree item)) (stmts_faults g l (stmt_after s (raw_stmt_tree item)) (raw_stmt_trees (drop (i + 1) raw)))) (rw cut at c.loop-stmt.invariant.faults);
+      faults = rw (place, pushed_fact _ _ c.stmt.result c.in_ok-stmts-2.ensures c.stmt.ensures.faults, ← least_of_append c.loop-stmt.self.least (stmt_faults g l s (raw_stmt_tree item)) (stmts_faults g l (stmt_after s (raw_stmt_tree item)) (raw_stmt_trees (drop (i + 1) raw)))) (rw cut at c.loop-stmt.invariant.faults);
     }
 
 pub stmts-returns-clause-tree : goal.stmts-returns-clause-tree
