@@ -8,6 +8,7 @@ use crate::{Begun, Outcome, accepted_of, begin};
 use accepted_pairs::Accepted;
 use cap_word::Ask;
 use codegen_link::Options;
+use decoded_code::Kind;
 use rv_machine::{Regs, StepResult, step};
 use segment_run::{Areas, Context, Fuel, Segment, run_segment};
 use std::alloc::Global;
@@ -78,6 +79,29 @@ fn with_fuel(left: u64) -> Outcome {
             0
         },
     }
+}
+
+// The bit of the group that an operation of a kind begins; 0 for a kind that begins none.
+fn group_bit(kind: Kind) -> u32 {
+    match kind {
+        Kind::LwLw => 1,
+        Kind::LwSw => 2,
+        Kind::SwLw => 4,
+        Kind::SwSw => 8,
+        Kind::AddiSw => 16,
+        Kind::LuiAddi => 32,
+        Kind::LuiAddiSw => 64,
+        _ => 0,
+    }
+}
+
+// Whether the code has every group, so that fuel runs out within each.
+fn has_groups(accepted: &Accepted) -> bool {
+    let mut found = 0;
+    for op in accepted.ready() {
+        found |= group_bit(op.kind);
+    }
+    found == 127
 }
 
 fn fuel_runs_out(alloc: Global, accepted: &Accepted) -> bool {
@@ -176,8 +200,8 @@ fn holds(alloc: Global, source: &[u8], options: Options, trial: Trial) -> bool
         Some(accepted) => {
             let is_so = match trial {
                 Trial::Chunks => each_chunk_is_lacked(alloc, &accepted),
-                Trial::Fuel => fuel_runs_out(alloc, &accepted),
-                Trial::GoingOn => goes_on(alloc, &accepted),
+                Trial::Fuel => has_groups(&accepted) && fuel_runs_out(alloc, &accepted),
+                Trial::GoingOn => has_groups(&accepted) && goes_on(alloc, &accepted),
             };
             drop(accepted);
             is_so
