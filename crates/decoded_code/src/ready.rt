@@ -86,7 +86,8 @@ impl Kind {
         let first = self.first();
         let behind = next.first();
         match (first, behind, next) {
-            (Kind::Sw, _, Kind::SwSw | Kind::SwSwSw) => Kind::SwSwSw,
+            (Kind::Sw, _, Kind::SwSw) => Kind::SwSwSw,
+            (Kind::Sw, _, Kind::SwSwSw) => Kind::SwSwSw,
             (Kind::Sw, _, Kind::LwSw) => Kind::SwLwSw,
             (Kind::Sw, _, Kind::LwLw) => Kind::SwLwLw,
             (Kind::Lui, _, Kind::AddiSw) => Kind::LuiAddiSw,

@@ -5,7 +5,12 @@ use Rattle.decoded_code.specs.Ready.{place_at, ready_effect, second, third, Does
 use Rattle.decoded_code.specs.declared.ready.Kind.{Kind}
 use Rattle.decoded_code.specs.declared.ready.Ready.{Ready}
 use Rattle.machine_world.specs.Areas.{Areas}
-use Rattle.machine_world.specs.Local.{Local}
+use Rattle.flat_code.specs.WellFormed.{IsWellFormed}
+use Rattle.machine_world.specs.Places.{Checked}
+use Rattle.rv_machine.specs.declared.registers.Regs.{Regs}
+use Rattle.segment_laws.specs.Ways.{HasForm}
+use Rattle.segment_run.specs.Safe.{StaysSafe}
+use Rattle.segment_run.specs.declared.running.Thread.{Thread}
 use Rattle.rv_code.specs.declared.instructions.Instr.{Instr}
 use Rattle.rv_machine.specs.Step.{instruction_at}
 use Rattle.segment_run.specs.ReadyRuns.{Run, IsIn}
@@ -13,7 +18,25 @@ use Rattle.segment_run.specs.ReadyTurns.{machine_at, IsReadyIn, IsKindAt, GoesOn
 use Rattle.segment_run.specs.Turns.{thread_of, IsUnderWay}
 use Rattle.segment_run.proofs.Instructions.{stands_at}
 use Rattle.segment_run.proofs.ReadyTurns.{is_ready, goes, step_of_turn}
-use Rattle.segment_run.proofs.UnderWay.{safe_now}
+use Rattle.segment_run.proofs.UnderWay.{safe_now, begun}
+
+-- ---- where a run begins
+
+abbrev pub run_of : Checked → List ℕ → Areas → Thread → ℕ → Run
+run_of checked code areas thread fuel = record { checked = checked; code = code; thread = thread; start = thread_of areas thread; fuel = fuel }
+
+pub begins : (checked : Checked) (code : List ℕ) (areas : Areas) (thread : Thread) (fuel : ℕ) (ready : List Ready) (at : ℕ) (x : List ℕ) →
+    IsWellFormed checked.flat → HasForm checked (thread_of areas thread) → StaysSafe checked code (thread_of areas thread) → AreReady code (length code) ready →
+    place_at at ≡ thread.regs.pc → x ≡ thread.regs.x → IsIn (run_of checked code areas thread fuel) ready areas x at fuel
+begins checked code areas thread fuel ready at x formed form safe are pc same = record {
+  formed = formed;
+  safe = safe;
+  are_ready = are;
+  way = subst (λ (regs : Regs). IsUnderWay checked code (thread_of areas thread) fuel (thread_of areas (record thread { regs = regs })) fuel)
+      (λ i. record { pc = sym pc i; x = sym same i }) (begun checked code (thread_of areas thread) fuel form);
+}
+
+-- ---- one operation more
 
 pub standing : (run : Run) (ready : List Ready) (areas : Areas) (x : List ℕ) (at left : ℕ) → IsIn run ready areas x at left → (instr : Instr) × (instruction_at run.code (place_at at) ≡ Ok instr)
 standing run ready areas x at left is =
