@@ -1,5 +1,5 @@
 -- A run by ready operations goes on by one operation.
-use Rattle.std.proofs.Common.{◌≡◌, ℕ, zero, suc, ◌+◌, ◌-◌, ◌^◌, ◌<◌, List, [], ◌∷◌, length, Option, Some, None, Ok, refl, sym, ap, subst, ◌∙◌, arith}
+use Rattle.std.proofs.Common.{◌≡◌, ℕ, zero, suc, ◌+◌, ◌-◌, ◌<◌, List, [], ◌∷◌, length, Option, Some, None, Ok, refl, sym, ap, subst, ◌∙◌, arith}
 use Rattle.std.specs.Prelude.{slice_get, IfSome}
 use Rattle.decoded_code.specs.Ready.{place_at, ready_effect, second, third, DoesAs, AreReady}
 use Rattle.decoded_code.specs.declared.ready.Kind.{Kind}
@@ -80,15 +80,15 @@ unchanged run ready areas after x x_after at left same_areas same_x is =
 
 -- ---- the operations behind one that begins a group
 
-pub second_at : (words : List ℕ) (ready : List Ready) (at : ℕ) (op : Ready) (k other : Kind) → AreReady words (length words) ready → slice_get ready at ≡ Some op → op.kind ≡ k → second k ≡ Some other → IsKindAt ready (at + 1) other
-second_at words ready at op k other are there is behind = λ next got.
+pub second_at : (words : List ℕ) (ready : List Ready) (at : ℕ) (op : Ready) (k behind : Kind) → AreReady words (length words) ready → slice_get ready at ≡ Some op → op.kind ≡ k → second k ≡ Some behind → IsKindAt ready (at + 1) behind
+second_at words ready at op k behind are there is is_second = λ next got.
     let before : IfSome (second op.kind) (λ o. DoesAs o next.kind) = (are.groups at op next there got).0 in
-    subst (λ (found : Option Kind). IfSome found (λ o. DoesAs o next.kind)) (ap second is ∙ behind) before
+    subst (λ (found : Option Kind). IfSome found (λ o. DoesAs o next.kind)) (ap second is ∙ is_second) before
 
 one_before : {X : Type 0} (xs : List X) (k : ℕ) (x : X) → slice_get xs (k + 1) ≡ Some x → (y : X) × (slice_get xs k ≡ Some y)
 one_before [] k x e = absurd (cc)
 one_before (y ∷ xs) zero x e = (y, refl)
-one_before (y ∷ xs) (suc k) x e = one_before xs k x e
+one_before (y ∷ xs) (suc k) x e = let same : suc (k + 1) ≡ suc k + 1 = omega arith in one_before xs k x (ap (slice_get (y ∷ xs)) same ∙ e)
 
 pub third_at : (words : List ℕ) (ready : List Ready) (at : ℕ) (op : Ready) (k last : Kind) → AreReady words (length words) ready → slice_get ready at ≡ Some op → op.kind ≡ k → third k ≡ Some last → IsKindAt ready (at + 2) last
 third_at words ready at op k last are there is end = λ after got.

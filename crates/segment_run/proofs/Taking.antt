@@ -1,8 +1,8 @@
 -- What a take leaves of the pool and of the areas around it.
-use Rattle.std.proofs.Common.{◌≡◌, ℕ, ◌-◌, ◌*◌, ◌<◌, Option, Some, None, refl, sym, ap, subst, ◌∙◌}
+use Rattle.std.proofs.Common.{◌≡◌, ℕ, Option, Some, None, refl, ap, ◌∙◌}
 use Rattle.chunk_pool.specs.Pool.{Pool, Taken, taken_for, IsTaken, shape_of}
 use Rattle.chunk_pool.proofs.NeedLaws.{taken_for-shape}
-use Rattle.chunk_pool.proofs.ShapeLaws.{count-same, words_of-same, payload_place_of-same, first_bytes-same}
+use Rattle.chunk_pool.proofs.ShapeLaws.{first_bytes-same}
 use Rattle.machine_world.specs.Areas.{Areas}
 use Rattle.accepted_pairs.specs.declared.accepted.Accepted.{Accepted}
 use Rattle.segment_run.specs.Contexts.{AreOf}
