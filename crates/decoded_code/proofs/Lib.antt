@@ -1,3 +1,3 @@
 mod Jumps
 mod MoreReady
-pub mod Pairs
+mod Groups

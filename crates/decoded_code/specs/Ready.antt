@@ -56,29 +56,50 @@ done_as kind.Bltu op a b m = Some (branches_to m op.imm (nat_lt a b))
 done_as kind.LwLw op a b m = Some (loads m op.rd (word_loaded m.bytes (word.add a op.imm)))
 done_as kind.LwSw op a b m = Some (loads m op.rd (word_loaded m.bytes (word.add a op.imm)))
 done_as kind.SwLw op a b m = Some (word_stored m (word.add a op.imm) b)
+done_as kind.SwSw op a b m = Some (word_stored m (word.add a op.imm) b)
 done_as kind.AddiSw op a b m = Some (sets m op.rd (word.add a op.imm))
+done_as kind.LuiAddi op a b m = Some (sets m op.rd op.imm)
+done_as kind.SwSwSw op a b m = Some (word_stored m (word.add a op.imm) b)
+done_as kind.SwLwSw op a b m = Some (word_stored m (word.add a op.imm) b)
+done_as kind.SwLwLw op a b m = Some (word_stored m (word.add a op.imm) b)
+done_as kind.LuiAddiSw op a b m = Some (sets m op.rd op.imm)
 
 -- an operation of the one kind does what it does as one of the other
 abbrev pub DoesAs : Kind → Kind → Type 0
 DoesAs kind other = (op : Ready) (a b : ℕ) (m : Machine) → done_as kind op a b m ≡ done_as other op a b m
 
--- of a kind that begins a pair, the kind of the operation behind it
+-- of a kind that begins a group, the kind of the operation behind it, and of a group of three the kind of the last
 abbrev pub second : Kind → Option Kind
 second kind.LwLw = Some kind.Lw
 second kind.LwSw = Some kind.Sw
 second kind.SwLw = Some kind.Lw
+second kind.SwSw = Some kind.Sw
 second kind.AddiSw = Some kind.Sw
+second kind.LuiAddi = Some kind.Addi
+second kind.SwSwSw = Some kind.Sw
+second kind.SwLwSw = Some kind.Lw
+second kind.SwLwLw = Some kind.Lw
+second kind.LuiAddiSw = Some kind.Addi
 second _ = None
 
--- an operation of the one kind can stand before one of the other: where it begins a pair, that does what its second does
-abbrev pub IsBefore : Kind → Kind → Type 0
-IsBefore kind next = IfSome (second kind) (λ other. DoesAs other next)
+abbrev pub third : Kind → Option Kind
+third kind.SwSwSw = Some kind.Sw
+third kind.SwLwSw = Some kind.Sw
+third kind.SwLwLw = Some kind.Lw
+third kind.LuiAddiSw = Some kind.Sw
+third _ = None
 
--- the kinds that begin a pair as its first instruction does: each goes on to the next word
+-- an operation of the one kind can stand before one of the other: where it begins a group, that does what the group's second
+-- does, and begins a pair with its third
+abbrev pub IsBefore : Kind → Kind → Type 0
+IsBefore kind next = IfSome (second kind) (λ other. DoesAs other next) × IfSome (third kind) (λ last. second next ≡ Some last)
+
+-- the kinds that begin a group as its first instruction does: each goes on to the next word
 abbrev pub passes_on : Kind → Bool
 passes_on kind.Lw = true
 passes_on kind.Sw = true
 passes_on kind.Addi = true
+passes_on kind.Lui = true
 passes_on _ = false
 
 unfoldable pub done : Ready → ℕ → ℕ → Machine → Option Outcome
@@ -120,8 +141,8 @@ pub record AreEachReady (words : List ℕ) (count : ℕ) (ops : List Ready) : Ty
   pub count_is : length ops ≡ count
   pub each : (at word : ℕ) (op : Ready) → place_at at < 2 ^ 32 → slice_get words at ≡ Some word → slice_get ops at ≡ Some op → IsReadyAt op (place_at at) (decoding word)
 
--- and where one begins a pair, the one behind it does what the pair's second does
+-- and where one begins a group, those behind it do what the group's others do
 pub record AreReady (words : List ℕ) (count : ℕ) (ops : List Ready) : Type 0 where
   pub count_is : length ops ≡ count
   pub each : (at word : ℕ) (op : Ready) → place_at at < 2 ^ 32 → slice_get words at ≡ Some word → slice_get ops at ≡ Some op → IsReadyAt op (place_at at) (decoding word)
-  pub pairs : (at : ℕ) (op next : Ready) → slice_get ops at ≡ Some op → slice_get ops (at + 1) ≡ Some next → IsBefore op.kind next.kind
+  pub groups : (at : ℕ) (op next : Ready) → slice_get ops at ≡ Some op → slice_get ops (at + 1) ≡ Some next → IsBefore op.kind next.kind

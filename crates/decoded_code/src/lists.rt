@@ -34,18 +34,18 @@ pub fn ready_all(alloc: Global, words: &[u32]) -> Result<Vec<Ready>, AllocError>
         ready.push(ready_at(place, decode(*word)))?;
         place = add(place, 4);
     }
-    pair_all(ready.as_mut_slice());
+    group_all(ready.as_mut_slice());
     Ok(ready)
 }
 
-// Gives each operation that begins a pair the kind of the pair.
-fn pair_all(ready: &mut [Ready])
+// Gives each operation that begins a group the kind of the group, from the last on, so that each knows the kind behind it.
+fn group_all(ready: &mut [Ready])
     ensures { (words : List ℕ) (count : ℕ) → AreEachReady words count ready.old → AreReady words count ready.new }
 {
-    let mut behind = 1;
-    while behind < ready.len() {
-        let kind = ready[behind - 1].kind.before(ready[behind].kind);
-        ready[behind - 1].kind = kind;
-        behind += 1;
+    let mut at = ready.len();
+    while at > 1 {
+        at -= 1;
+        let kind = ready[at - 1].kind.before(ready[at].kind);
+        ready[at - 1].kind = kind;
     }
 }

@@ -1,11 +1,11 @@
 ghost use Rattle.std.specs.Prelude.{◌≡◌, ℕ, None, true};
-ghost use Rattle.decoded_code.specs.Ready.{done_as, acted, second, passes_on, acts_on, DoesAs, IsBefore};
+ghost use Rattle.decoded_code.specs.Ready.{done_as, acted, second, third, passes_on, acts_on, DoesAs, IsBefore};
 ghost use Rattle.rv_machine.specs.Rows.{Machine};
 
 use cap_word::{add, div, mul, rem, sll, slt, sltu, sra, sub};
 
 /// What a ready operation does, named after its instruction (RISC-V unprivileged manual, chapters "RV32I" and "M"). One
-/// that begins a pair does what the pair's first instruction does, and tells the kind of the operation behind it.
+/// that begins a group does what the group's first instruction does, and tells the kinds of the operations behind it.
 #[derive(Clone, Copy)]
 pub enum Kind {
     /// What the machine's step does; no other kind fits.
@@ -46,36 +46,57 @@ pub enum Kind {
     LwSw,
     /// SW, with LW behind it.
     SwLw,
+    /// SW, with SW behind it.
+    SwSw,
     /// ADDI, with SW behind it.
     AddiSw,
+    /// LUI, with ADDI behind it.
+    LuiAddi,
+    /// SW, with SW and SW behind it.
+    SwSwSw,
+    /// SW, with LW and SW behind it.
+    SwLwSw,
+    /// SW, with LW and LW behind it.
+    SwLwLw,
+    /// LUI, with ADDI and SW behind it.
+    LuiAddiSw,
 }
 
 impl Kind {
-    // The kind of an operation of this kind that begins no pair.
+    // The kind of an operation of this kind that begins no group.
     fn first(self) -> Kind
         ensures does { DoesAs result self }
-        ensures alone { second result ≡ None }
+        ensures no_pair { second result ≡ None }
+        ensures no_triple { third result ≡ None }
     {
         match self {
             Kind::LwLw | Kind::LwSw => Kind::Lw,
-            Kind::SwLw => Kind::Sw,
+            Kind::SwLw | Kind::SwSw | Kind::SwSwSw | Kind::SwLwSw | Kind::SwLwLw => Kind::Sw,
             Kind::AddiSw => Kind::Addi,
+            Kind::LuiAddi | Kind::LuiAddiSw => Kind::Lui,
             kind => kind,
         }
     }
 
-    // The kind of an operation of this kind with one of another behind it: that of a pair where the two are one.
+    // The kind of an operation of this kind with one of another behind it: that of a group where they are one.
     pub(crate) fn before(self, next: Kind) -> Kind
         ensures does { DoesAs result self }
-        ensures pair { IsBefore result next }
+        ensures group { IsBefore result next }
     {
         let first = self.first();
         let behind = next.first();
-        match (first, behind) {
-            (Kind::Lw, Kind::Lw) => Kind::LwLw,
-            (Kind::Lw, Kind::Sw) => Kind::LwSw,
-            (Kind::Sw, Kind::Lw) => Kind::SwLw,
-            (Kind::Addi, Kind::Sw) => Kind::AddiSw,
+        match (first, behind, next) {
+            (Kind::Sw, _, Kind::SwSw) => Kind::SwSwSw,
+            (Kind::Sw, _, Kind::SwSwSw) => Kind::SwSwSw,
+            (Kind::Sw, _, Kind::LwSw) => Kind::SwLwSw,
+            (Kind::Sw, _, Kind::LwLw) => Kind::SwLwLw,
+            (Kind::Lui, _, Kind::AddiSw) => Kind::LuiAddiSw,
+            (Kind::Lw, Kind::Lw, _) => Kind::LwLw,
+            (Kind::Lw, Kind::Sw, _) => Kind::LwSw,
+            (Kind::Sw, Kind::Lw, _) => Kind::SwLw,
+            (Kind::Sw, Kind::Sw, _) => Kind::SwSw,
+            (Kind::Addi, Kind::Sw, _) => Kind::AddiSw,
+            (Kind::Lui, Kind::Addi, _) => Kind::LuiAddi,
             _ => first,
         }
     }
@@ -128,7 +149,7 @@ impl Ready {
     {
         match kind {
             Kind::Other => Action::Steps,
-            Kind::Lui => Action::Sets { value: self.imm },
+            Kind::Lui | Kind::LuiAddi | Kind::LuiAddiSw => Action::Sets { value: self.imm },
             Kind::Addi | Kind::AddiSw => Action::Sets {
                 value: add(a, self.imm),
             },
@@ -156,9 +177,10 @@ impl Ready {
             Kind::Lw | Kind::LwLw | Kind::LwSw => Action::Loads {
                 address: add(a, self.imm),
             },
-            Kind::Sw | Kind::SwLw => Action::Stores {
-                address: add(a, self.imm),
-            },
+            Kind::Sw | Kind::SwLw | Kind::SwSw | Kind::SwSwSw | Kind::SwLwSw | Kind::SwLwLw =>
+                Action::Stores {
+                    address: add(a, self.imm),
+                },
             Kind::Jump => Action::Jumps { to: self.imm },
             Kind::Call => Action::Calls { to: self.imm },
             Kind::JumpTo => Action::JumpsNear {

@@ -8,6 +8,7 @@ use crate::{Begun, Outcome, accepted_of, begin};
 use accepted_pairs::Accepted;
 use cap_word::Ask;
 use codegen_link::Options;
+use decoded_code::Kind;
 use rv_machine::{Regs, StepResult, step};
 use segment_run::{Areas, Context, Fuel, Segment, run_segment};
 use std::alloc::Global;
@@ -80,6 +81,32 @@ fn with_fuel(left: u64) -> Outcome {
     }
 }
 
+// The bit of the group that an operation of a kind begins; 0 for a kind that begins none.
+fn group_bit(kind: Kind) -> u32 {
+    match kind {
+        Kind::LwLw => 1,
+        Kind::LwSw => 2,
+        Kind::SwLw => 4,
+        Kind::SwSw => 8,
+        Kind::AddiSw => 16,
+        Kind::LuiAddi => 32,
+        Kind::SwLwSw => 64,
+        Kind::SwLwLw => 128,
+        Kind::LuiAddiSw => 256,
+        Kind::SwSwSw => 512,
+        _ => 0,
+    }
+}
+
+// The bits of the groups in the code of a program.
+fn groups(accepted: &Accepted) -> u32 {
+    let mut found = 0;
+    for op in accepted.ready() {
+        found |= group_bit(op.kind);
+    }
+    found
+}
+
 fn fuel_runs_out(alloc: Global, accepted: &Accepted) -> bool {
     for left in 0..=101 {
         if !leads_to(alloc, accepted, 2, left, with_fuel(left)) {
@@ -127,46 +154,47 @@ fn cut_after(alloc: Global, accepted: &Accepted, left: u64) -> Option<(Segment, 
     }
 }
 
-// The registers at the put, to which one run leads in 87 instructions.
-fn at_put(alloc: Global, accepted: &Accepted) -> Option<Regs> {
+// The registers at the put, to which one run leads in so many instructions.
+fn at_put(alloc: Global, accepted: &Accepted, before: u64) -> Option<Regs> {
     let put = Segment::Asks {
         ask: Ask::Put { value: 1 },
     };
-    match cut_after(alloc, accepted, 88) {
+    match cut_after(alloc, accepted, before.saturating_add(1)) {
         Some((segment, regs, steps)) if segment == put && steps == 0 => Some(regs),
         _ => None,
     }
 }
 
-// Whether going on leads to just these registers where the fuel runs out after so many instructions.
-fn goes_on_alike(alloc: Global, accepted: &Accepted, left: u64, whole: &Regs) -> bool {
+// Whether going on leads to just these registers where the fuel runs out so many instructions before the put.
+fn goes_on_alike(alloc: Global, accepted: &Accepted, left: u64, more: u64, whole: &Regs) -> bool {
     match cut_after(alloc, accepted, left) {
         Some((segment, regs, steps)) => {
-            segment == Segment::OutOfFuel && steps == 87u64.saturating_sub(left) && regs == *whole
+            segment == Segment::OutOfFuel && steps == more && regs == *whole
         }
         None => false,
     }
 }
 
-// Whether going on leads to the registers at the put, the instruction 88, wherever the fuel runs out before.
-fn goes_on(alloc: Global, accepted: &Accepted) -> bool {
-    let Some(whole) = at_put(alloc, accepted) else {
+// Whether going on leads to the registers at the put, which so many instructions come before, wherever the fuel runs out.
+fn goes_on(alloc: Global, accepted: &Accepted, before: u64) -> bool {
+    let Some(whole) = at_put(alloc, accepted, before) else {
         return false;
     };
-    for left in 0..88 {
-        if !goes_on_alike(alloc, accepted, left, &whole) {
+    for more in 0..before {
+        if !goes_on_alike(alloc, accepted, before - more, more, &whole) {
             return false;
         }
     }
-    true
+    goes_on_alike(alloc, accepted, 0, before, &whole)
 }
 
-// What a recursion is tried by: the want of each chunk, the want of fuel at each instruction, and going on after it.
+// What a program is tried by: the want of each chunk, the want of fuel at each instruction, and going on after it at each
+// instruction before its put, in code with these groups of ready operations.
 #[derive(Clone, Copy)]
 enum Trial {
     Chunks,
     Fuel,
-    GoingOn,
+    GoingOn { before: u64, groups: u32 },
 }
 
 fn holds(alloc: Global, source: &[u8], options: Options, trial: Trial) -> bool
@@ -177,7 +205,10 @@ fn holds(alloc: Global, source: &[u8], options: Options, trial: Trial) -> bool
             let is_so = match trial {
                 Trial::Chunks => each_chunk_is_lacked(alloc, &accepted),
                 Trial::Fuel => fuel_runs_out(alloc, &accepted),
-                Trial::GoingOn => goes_on(alloc, &accepted),
+                Trial::GoingOn {
+                    before,
+                    groups: wanted,
+                } => groups(&accepted) == wanted && goes_on(alloc, &accepted, before),
             };
             drop(accepted);
             is_so
@@ -185,6 +216,9 @@ fn holds(alloc: Global, source: &[u8], options: Options, trial: Trial) -> bool
         None => false,
     }
 }
+
+// An array, which is set to zeros by stores in a row, and one of its elements, which is put.
+const ARRAY: &[u8] = b"int main() { int a[4]; a[1] = 1; put(a[1]); return 0; }";
 
 const SMALL: Options = Options {
     chunk: 80,
@@ -196,12 +230,27 @@ const LARGE: Options = Options {
     max_path: 48,
 };
 
-// The recursion of one call links a chunk where chunks have 80 bytes, and none where they have 96.
+const WIDE: Options = Options {
+    chunk: 4096,
+    max_path: 4080,
+};
+
+// The recursion of one call links a chunk where chunks have 80 bytes, and none where they have 96. Its code has all groups of
+// ready operations but three stores in a row, the code of the array all but a store with a load and a store behind it.
 #[test]
 fn stops(rt: HostRuntime) {
     let alloc = rt.alloc();
+    let once = Trial::GoingOn {
+        before: 87,
+        groups: 511,
+    };
+    let array = Trial::GoingOn {
+        before: 33,
+        groups: 959,
+    };
     let right = holds(alloc, DEEP, NARROW, Trial::Chunks)
         && holds(alloc, ONCE, SMALL, Trial::Fuel)
-        && holds(alloc, ONCE, LARGE, Trial::GoingOn);
+        && holds(alloc, ONCE, LARGE, once)
+        && holds(alloc, ARRAY, WIDE, array);
     assert!(rt; right);
 }

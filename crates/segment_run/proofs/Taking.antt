@@ -1,13 +1,11 @@
 -- What a take leaves of the pool and of the areas around it.
-use Rattle.std.proofs.Common.{◌≡◌, ℕ, ◌-◌, ◌*◌, ◌<◌, Option, Some, None, refl, sym, ap, subst, ◌∙◌}
+use Rattle.std.proofs.Common.{◌≡◌, ℕ, Option, Some, None, refl, ap, ◌∙◌}
 use Rattle.chunk_pool.specs.Pool.{Pool, Taken, taken_for, IsTaken, shape_of}
 use Rattle.chunk_pool.proofs.NeedLaws.{taken_for-shape}
-use Rattle.chunk_pool.proofs.ShapeLaws.{count-same, words_of-same, payload_place_of-same, first_bytes-same}
+use Rattle.chunk_pool.proofs.ShapeLaws.{first_bytes-same}
 use Rattle.machine_world.specs.Areas.{Areas}
 use Rattle.accepted_pairs.specs.declared.accepted.Accepted.{Accepted}
 use Rattle.segment_run.specs.Contexts.{AreOf}
-use Rattle.segment_run.specs.Payloads.{IsPayloadOf}
-use Rattle.segment_run.specs.declared.areas.Payload.{Payload}
 
 -- the chunk that was taken for a need
 pub record TakesOne (p : Pool) (need id : ℕ) (new : Pool) : Type 0 where
@@ -43,14 +41,6 @@ shape-take p new need answer is = by (taken_for p need) refl is
     by None e is = ap shape_of is.1
     by (Some taken) e is = ap shape_of is.1 ∙ taken_for-shape p need taken e
 
--- where the shape stays, a payload is where it was, and the areas are those of the same program
-pub IsPayloadOf-same : (p q : Pool) (payload : Payload) → shape_of q ≡ shape_of p → IsPayloadOf p payload → IsPayloadOf q payload
-IsPayloadOf-same p q payload shape is = record {
-  there = subst (λ (n : ℕ). payload.chunk < n) (sym (count-same p q shape)) is.there;
-  low = is.low ∙ sym (payload_place_of-same p q payload.chunk shape);
-  bytes = is.bytes ∙ ap (λ (n : ℕ). 4 * n - 16) (sym (words_of-same p q payload.chunk shape));
-  end = is.end;
-}
-
+-- where the shape stays, the areas are those of the same program
 pub AreOf-same : (accepted : Accepted) (areas : Areas) (pool : Pool) → shape_of pool ≡ shape_of areas.pool → AreOf accepted areas → AreOf accepted (record areas { pool = pool })
 AreOf-same accepted areas pool shape is = record { chunk = first_bytes-same areas.pool pool shape ∙ is.chunk; globals = is.globals; tables = is.tables }

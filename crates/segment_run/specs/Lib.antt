@@ -4,7 +4,6 @@ pub mod Contexts
 pub mod Safe
 pub mod Segments
 pub mod Passing
-pub mod Payloads
 pub mod Starting
 pub mod Turns
 pub mod Lookups

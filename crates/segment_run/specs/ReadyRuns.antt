@@ -6,10 +6,8 @@ use Rattle.flat_code.specs.WellFormed.{IsWellFormed}
 use Rattle.machine_world.specs.Areas.{Areas}
 use Rattle.machine_world.specs.Local.{Local}
 use Rattle.machine_world.specs.Places.{Checked}
-use Rattle.segment_run.specs.Payloads.{IsPayloadOf}
 use Rattle.segment_run.specs.Safe.{StaysSafe}
 use Rattle.segment_run.specs.Turns.{thread_of, IsUnderWay}
-use Rattle.segment_run.specs.declared.areas.Payload.{Payload}
 use Rattle.segment_run.specs.declared.running.Thread.{Thread}
 
 -- what a run is of: a program and its code, the thread and where it started, and its fuel
@@ -21,9 +19,8 @@ pub record Run : Type 0 where
   pub fuel : ℕ
 
 -- a thread that never comes to a fault has come to an index of the code, with these registers and areas
-pub record IsIn (run : Run) (ready : List Ready) (front : Payload) (areas : Areas) (file : List ℕ) (at left : ℕ) : Type 0 where
+pub record IsIn (run : Run) (ready : List Ready) (areas : Areas) (file : List ℕ) (at left : ℕ) : Type 0 where
   pub formed : IsWellFormed run.checked.flat
   pub safe : StaysSafe run.checked run.code run.start
   pub are_ready : AreReady run.code (length run.code) ready
-  pub is_front : IsPayloadOf run.start.areas.pool front
   pub way : IsUnderWay run.checked run.code run.start run.fuel (thread_of areas (record run.thread { regs = record { pc = place_at at; x = file } })) left

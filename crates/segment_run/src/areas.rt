@@ -2,7 +2,6 @@ ghost use Rattle.std.specs.Prelude.{◌≡◌, ℕ, ◌+◌, ◌^◌, ◌≤◌,
 ghost use Rattle.machine_world.specs.Areas.{byte_at, is_writable, is_writable_on, spot_of, with_byte};
 ghost use Rattle.machine_world.specs.WellFormed.{AreWords};
 ghost use Rattle.rv_machine.specs.WordBytes.{word_with};
-ghost use Rattle.segment_run.specs.Payloads.{IsPayloadOf};
 
 use chunk_pool::ChunkPool;
 use rv_machine::Memory;
@@ -29,15 +28,6 @@ pub struct Areas {
     pub(crate) pool: ChunkPool,
     pub(crate) globals: Vec<u32>,
     pub(crate) tables: Vec<u32>,
-}
-
-// The payload of a chunk: its chunk, the address of its first byte, and its bytes. A run looks for an address in one payload
-// first, that of the thread's innermost chunk, where nearly all loads and stores of the thread lie.
-#[derive(Clone, Copy, Drop)]
-pub(crate) struct Payload {
-    chunk: u32,
-    low: u32,
-    bytes: u32,
 }
 
 impl Model for Areas {
@@ -76,33 +66,11 @@ impl Areas {
         &self.pool
     }
 
-    // The payload of the chunk of an address, or of chunk 0 where no chunk has it.
-    pub(crate) fn payload_at(&self, address: u32) -> Payload
-        ensures { IsPayloadOf self.now.pool result }
-    {
-        match self.pool.chunk_at(address) {
-            Some(chunk) => payload_of(&self.pool, chunk),
-            None => payload_of(&self.pool, 0),
-        }
-    }
-
     // What all areas keep.
     pub(crate) fn are_kept(&self)
         ensures { AreKept self.now }
     {
         let _words = self.globals.len();
-    }
-}
-
-// The payload of a chunk.
-fn payload_of(pool: &ChunkPool, chunk: u32) -> Payload
-    requires { chunk < pool.now.count }
-    ensures { IsPayloadOf pool.now result }
-{
-    Payload {
-        chunk,
-        low: pool.place_of(chunk) + HEADER,
-        bytes: pool.bytes_of(chunk) - HEADER,
     }
 }
 
@@ -189,28 +157,9 @@ impl Areas {
         }
     }
 
-    // The spot of an address that is on the map, looked for in a payload first.
+    // The spot of an address that is on the map. Inlined where a word is read or written: that needs no chunk's number, so
+    // the compiler leaves out the search for it.
     #[inline(always)]
-    fn spot_near(&self, front: Payload, address: u32) -> Spot
-        requires front { IsPayloadOf self.now.pool front }
-        requires there { (spot : world.Spot) × (spot_of self.now address ≡ Some spot) }
-        ensures on { IsOn self.now address result }
-        ensures spot { Some (world_spot result) ≡ spot_of self.now address }
-        ensures kept { AreKept self.now }
-    {
-        self.are_kept();
-        let offset = behind(address, front.low);
-        if offset < front.bytes {
-            Spot::InPayload {
-                chunk: front.chunk,
-                offset: offset + HEADER,
-            }
-        } else {
-            self.spot_on(address)
-        }
-    }
-
-    // The spot of an address that is on the map.
     fn spot_on(&self, address: u32) -> Spot
         requires { (spot : world.Spot) × (spot_of self.now address ≡ Some spot) }
         ensures on { IsOn self.now address result }
@@ -235,6 +184,7 @@ impl Areas {
     }
 
     // The chunk of an address from the first chunk on that is on the map.
+    #[inline(always)]
     fn chunk_with(&self, address: u32) -> u32
         requires high { 0x8000_0000 ≤ address }
         requires there { (spot : world.Spot) × (spot_of self.now address ≡ Some spot) }
@@ -280,36 +230,26 @@ impl Areas {
     ghost use Rattle.rv_machine.specs.Bytes.{with_word, word_is_writable};
     ghost use Rattle.rv_machine.specs.Rows.{word_loaded};
 
-    // The word at an address from which one can be loaded, looked for in a payload first.
+    // The word at an address from which one can be loaded.
     #[inline(always)]
-    pub(crate) fn read_word(&self, front: Payload, address: u32) -> u32
-        requires front { IsPayloadOf self.now.pool front }
-        requires loads { (word : ℕ) × (word_loaded (byte_at self.now) address ≡ Ok word) }
+    pub(crate) fn read_word(&self, address: u32) -> u32
+        requires { (word : ℕ) × (word_loaded (byte_at self.now) address ≡ Ok word) }
         ensures { word_loaded (byte_at self.now) address ≡ Ok result }
     {
-        let spot = self.spot_near(front, address);
+        let spot = self.spot_on(address);
         self.word_on(spot, address)
     }
 
-    // Writes a word at an address at which one can be stored, looked for in a payload first.
+    // Writes a word at an address at which one can be stored.
     #[inline(always)]
-    pub(crate) fn put_word(&mut self, front: Payload, address: u32, word: u32)
-        requires front { IsPayloadOf self.old.pool front }
+    pub(crate) fn put_word(&mut self, address: u32, word: u32)
         requires aligned { address % 4 ≡ 0 }
         requires writable { word_is_writable (is_writable self.old) address ≡ true }
         ensures { self.new ≡ with_word with_byte self.old address word }
     {
-        let spot = self.spot_near(front, address);
+        let spot = self.spot_on(address);
         self.write_on(spot, address, word);
     }
-}
-
-// How far an address lies behind another; as a word, so that below it this is more than any payload has.
-#[inline(always)]
-fn behind(address: u32, low: u32) -> u32
-    ensures { (bytes : ℕ) → low + bytes ≤ 2 ^ 32 → result < bytes → low + result ≡ address }
-{
-    address.wrapping_sub(low)
 }
 
 // The word with that byte in the place k of its four bytes.

@@ -8,14 +8,12 @@ ghost use Rattle.rv_machine.specs.Step.{instruction_at};
 ghost use Rattle.segment_laws.specs.Ways.{HasForm};
 ghost use Rattle.segment_run.specs.Contexts.{checked_of, code_of};
 ghost use Rattle.segment_run.specs.ReadyTurns.{machine_at, HasRegisters, IsReadyIn, IsKindAt, GoesOn, WentOn};
-ghost use Rattle.segment_run.specs.Payloads.{IsPayloadOf};
 ghost use Rattle.segment_run.specs.ReadyRuns.{Run, IsIn};
 ghost use Rattle.segment_run.specs.Safe.{StaysSafe};
 ghost use Rattle.segment_run.specs.Turns.{thread_of, IsUnderWay};
 
-use crate::areas::{Areas, Payload};
+use crate::areas::Areas;
 use crate::register_file::RegisterFile;
-use crate::registers::TP;
 use crate::running::Thread;
 use accepted_pairs::Accepted;
 use cap_word::add;
@@ -24,6 +22,9 @@ use rv_machine::Regs;
 
 // The first byte of the code.
 const CODE_START: u32 = 0x1000;
+
+// The most operations that one turn does.
+const MOST: u64 = 3;
 
 // How far a thread came by ready operations: its registers, and the fuel that is left.
 #[derive(Clone, Copy)]
@@ -53,160 +54,223 @@ pub(crate) fn run_ready(
     ensures { IsUnderWay (checked_of accepted.now) (code_of accepted.now) (thread_of areas.old thread) fuel (thread_of areas.new (record thread { regs = result.regs })) result.left }
 {
     let ready = accepted.ready();
-    let front = areas.payload_at(thread.regs.x[TP]);
     let mut file = RegisterFile::new(thread.regs.x);
-    let mut stand = Stand {
+    let start = Stand {
         at: index_at(thread.regs.pc),
         left: fuel,
     };
-    while stand.left > 1 {
-        match turns(ready, stand, front, areas, &mut file) {
+    let near = run_groups(ready, start, areas, &mut file);
+    let last = run_singly(ready, near, areas, &mut file);
+    stopped_at(last, &file)
+}
+
+// Goes on by groups, as long as fuel for the largest is left.
+fn run_groups(ready: &[Ready], start: Stand, areas: &mut Areas, file: &mut RegisterFile) -> Stand
+    requires { (run : Run) × IsIn run ready.now areas.old file.old start.at start.left }
+    ensures { (run : Run) → IsIn run ready.now areas.old file.old start.at start.left → IsIn run ready.now areas.new file.new result.at result.left }
+{
+    let mut stand = start;
+    while stand.left >= MOST {
+        match turns(ready, stand, areas, file) {
             Some(next) => {
                 stand = Stand {
                     at: next.at,
                     left: next.left - 1,
                 }
             }
-            None => return stopped_at(stand, &file),
+            None => return stand,
         }
     }
-    let stand = last_turn(ready, stand, front, areas, &mut file);
-    stopped_at(stand, &file)
+    stand
 }
 
-// Does the operation of an index, if fuel is left, and answers where the thread stands then.
-fn last_turn(
-    ready: &[Ready],
-    stand: Stand,
-    front: Payload,
-    areas: &mut Areas,
-    file: &mut RegisterFile,
-) -> Stand
-    requires { (run : Run) × IsIn run ready.now front areas.old file.old stand.at stand.left }
-    ensures { (run : Run) → IsIn run ready.now front areas.old file.old stand.at stand.left → IsIn run ready.now front areas.new file.new result.at result.left }
+// Goes on by one operation at a time.
+fn run_singly(ready: &[Ready], start: Stand, areas: &mut Areas, file: &mut RegisterFile) -> Stand
+    requires { (run : Run) × IsIn run ready.now areas.old file.old start.at start.left }
+    ensures { (run : Run) → IsIn run ready.now areas.old file.old start.at start.left → IsIn run ready.now areas.new file.new result.at result.left }
 {
-    if stand.left == 0 {
-        return stand;
+    let mut stand = start;
+    while stand.left > 0 {
+        let op = operation_at(ready, stand.at);
+        match turn_in(op.kind, op, ready, stand.at, areas, file) {
+            Some(next) => {
+                stand = Stand {
+                    at: next,
+                    left: stand.left - 1,
+                }
+            }
+            None => return stand,
+        }
     }
-    let kind = operation_at(ready, stand.at).kind;
-    match turn_at(kind, ready, stand.at, front, areas, file) {
-        Some(at) => Stand {
-            at,
-            left: stand.left - 1,
-        },
-        None => stand,
-    }
+    stand
 }
 
-// Does the operation of an index, and where a pair begins there, the one behind it too. It answers where the thread stands
-// then, but with the fuel before the last of them, so that the loop takes that one alike behind each kind; or None where only
-// the machine's step does the first, and then nothing has changed.
+// Does the operation of an index, and where a group begins there, the others of the group too. It answers where the thread
+// stands then, but with the fuel before the last of them, so that the loop takes that one alike behind each kind; or None
+// where only the machine's step does the first, and then nothing has changed. Each kind has an arm of its own: then the
+// compiler makes one jump of it.
 #[inline(always)]
-fn turns(
-    ready: &[Ready],
-    stand: Stand,
-    front: Payload,
-    areas: &mut Areas,
-    file: &mut RegisterFile,
-) -> Option<Stand>
-    requires run { (run : Run) × IsIn run ready.now front areas.old file.old stand.at stand.left }
-    requires fuel { 1 < stand.left }
-    ensures went { (run : Run) → IsIn run ready.now front areas.old file.old stand.at stand.left → IfSome result (λ next. IsIn run ready.now front areas.new file.new next.at (next.left - 1)) }
+fn turns(ready: &[Ready], stand: Stand, areas: &mut Areas, file: &mut RegisterFile) -> Option<Stand>
+    requires run { (run : Run) × IsIn run ready.now areas.old file.old stand.at stand.left }
+    requires fuel { 3 ≤ stand.left }
+    ensures went { (run : Run) → IsIn run ready.now areas.old file.old stand.at stand.left → IfSome result (λ next. IsIn run ready.now areas.new file.new next.at (next.left - 1)) }
     ensures fuel { IfSome result (λ next. (0 < next.left) × (next.left ≤ stand.left)) }
     ensures areas { IsNone result → areas.new ≡ areas.old }
     ensures file { IsNone result → file.new ≡ file.old }
 {
     let op = operation_at(ready, stand.at);
-    let a = file.read(op.rs1);
-    let b = file.read(op.rs2);
-    let left = stand.left;
     match op.kind {
-        Kind::LwLw => pair(Kind::Lw, Kind::Lw, op, a, b, ready, stand.at, left, front, areas, file),
-        Kind::LwSw => pair(Kind::Lw, Kind::Sw, op, a, b, ready, stand.at, left, front, areas, file),
-        Kind::SwLw => pair(Kind::Sw, Kind::Lw, op, a, b, ready, stand.at, left, front, areas, file),
-        Kind::AddiSw => pair(Kind::Addi, Kind::Sw, op, a, b, ready, stand.at, left, front, areas, file),
-        Kind::Lw => one(Kind::Lw, op, a, b, ready, stand.at, left, front, areas, file),
-        Kind::Sw => one(Kind::Sw, op, a, b, ready, stand.at, left, front, areas, file),
-        Kind::Addi => one(Kind::Addi, op, a, b, ready, stand.at, left, front, areas, file),
-        Kind::Lui => one(Kind::Lui, op, a, b, ready, stand.at, left, front, areas, file),
-        Kind::Add => one(Kind::Add, op, a, b, ready, stand.at, left, front, areas, file),
-        Kind::Slli => one(Kind::Slli, op, a, b, ready, stand.at, left, front, areas, file),
-        Kind::Sltu => one(Kind::Sltu, op, a, b, ready, stand.at, left, front, areas, file),
-        Kind::Bne => one(Kind::Bne, op, a, b, ready, stand.at, left, front, areas, file),
-        Kind::Jump => one(Kind::Jump, op, a, b, ready, stand.at, left, front, areas, file),
-        kind => one(kind, op, a, b, ready, stand.at, left, front, areas, file),
+        Kind::Other => None,
+        Kind::LwLw => pair(Kind::Lw, Kind::Lw, op, ready, stand, areas, file),
+        Kind::LwSw => pair(Kind::Lw, Kind::Sw, op, ready, stand, areas, file),
+        Kind::SwLw => pair(Kind::Sw, Kind::Lw, op, ready, stand, areas, file),
+        Kind::SwSw => pair(Kind::Sw, Kind::Sw, op, ready, stand, areas, file),
+        Kind::AddiSw => pair(Kind::Addi, Kind::Sw, op, ready, stand, areas, file),
+        Kind::LuiAddi => pair(Kind::Lui, Kind::Addi, op, ready, stand, areas, file),
+        Kind::SwSwSw => triple(Kind::Sw, Kind::Sw, Kind::Sw, op, ready, stand, areas, file),
+        Kind::SwLwSw => triple(Kind::Sw, Kind::Lw, Kind::Sw, op, ready, stand, areas, file),
+        Kind::SwLwLw => triple(Kind::Sw, Kind::Lw, Kind::Lw, op, ready, stand, areas, file),
+        Kind::LuiAddiSw => triple(
+            Kind::Lui,
+            Kind::Addi,
+            Kind::Sw,
+            op,
+            ready,
+            stand,
+            areas,
+            file,
+        ),
+        Kind::Lui => one(Kind::Lui, op, ready, stand, areas, file),
+        Kind::Addi => one(Kind::Addi, op, ready, stand, areas, file),
+        Kind::Sltiu => one(Kind::Sltiu, op, ready, stand, areas, file),
+        Kind::Xori => one(Kind::Xori, op, ready, stand, areas, file),
+        Kind::Slli => one(Kind::Slli, op, ready, stand, areas, file),
+        Kind::Add => one(Kind::Add, op, ready, stand, areas, file),
+        Kind::Sub => one(Kind::Sub, op, ready, stand, areas, file),
+        Kind::Sll => one(Kind::Sll, op, ready, stand, areas, file),
+        Kind::Slt => one(Kind::Slt, op, ready, stand, areas, file),
+        Kind::Sltu => one(Kind::Sltu, op, ready, stand, areas, file),
+        Kind::Xor => one(Kind::Xor, op, ready, stand, areas, file),
+        Kind::Sra => one(Kind::Sra, op, ready, stand, areas, file),
+        Kind::Or => one(Kind::Or, op, ready, stand, areas, file),
+        Kind::And => one(Kind::And, op, ready, stand, areas, file),
+        Kind::Mul => one(Kind::Mul, op, ready, stand, areas, file),
+        Kind::Div => one(Kind::Div, op, ready, stand, areas, file),
+        Kind::Rem => one(Kind::Rem, op, ready, stand, areas, file),
+        Kind::Lw => one(Kind::Lw, op, ready, stand, areas, file),
+        Kind::Sw => one(Kind::Sw, op, ready, stand, areas, file),
+        Kind::Jump => one(Kind::Jump, op, ready, stand, areas, file),
+        Kind::Call => one(Kind::Call, op, ready, stand, areas, file),
+        Kind::JumpTo => one(Kind::JumpTo, op, ready, stand, areas, file),
+        Kind::CallTo => one(Kind::CallTo, op, ready, stand, areas, file),
+        Kind::Bne => one(Kind::Bne, op, ready, stand, areas, file),
+        Kind::Bltu => one(Kind::Bltu, op, ready, stand, areas, file),
     }
 }
 
-// Does the operation of an index, of a known kind. It answers where the thread stands then, with the fuel before it, or None
-// where only the machine's step does it, and then nothing has changed.
+// Does the operation of an index, of a known kind. It answers as `turns` does.
 #[inline(always)]
 fn one(
     kind: Kind,
     op: &Ready,
-    a: u32,
-    b: u32,
     ready: &[Ready],
-    at: usize,
-    left: u64,
-    front: Payload,
+    stand: Stand,
     areas: &mut Areas,
     file: &mut RegisterFile,
 ) -> Option<Stand>
-    requires run { (run : Run) × IsIn run ready.now front areas.old file.old at left }
-    requires fuel { 0 < left }
-    requires there { slice_get ready.now at ≡ Some op.now }
+    requires run { (run : Run) × IsIn run ready.now areas.old file.old stand.at stand.left }
+    requires fuel { 0 < stand.left }
+    requires there { slice_get ready.now stand.at ≡ Some op.now }
     requires kind { DoesAs kind op.now.kind }
-    requires a { a ≡ read file.old op.now.rs1 }
-    requires b { b ≡ read file.old op.now.rs2 }
-    ensures went { (run : Run) → IsIn run ready.now front areas.old file.old at left → IfSome result (λ next. IsIn run ready.now front areas.new file.new next.at (next.left - 1)) }
-    ensures fuel { IfSome result (λ next. (0 < next.left) × (next.left ≤ left)) }
+    ensures went { (run : Run) → IsIn run ready.now areas.old file.old stand.at stand.left → IfSome result (λ next. IsIn run ready.now areas.new file.new next.at (next.left - 1)) }
+    ensures fuel { IfSome result (λ next. (0 < next.left) × (next.left ≤ stand.left)) }
     ensures areas { IsNone result → areas.new ≡ areas.old }
     ensures file { IsNone result → file.new ≡ file.old }
 {
-    match turn(kind, op, a, b, at, front, areas, file) {
-        Some(next) => Some(Stand { at: next, left }),
+    match turn_in(kind, op, ready, stand.at, areas, file) {
+        Some(at) => Some(Stand {
+            at,
+            left: stand.left,
+        }),
         None => None,
     }
 }
 
-// Does the operation of an index and the one behind it, of known kinds. It answers where the thread stands then, with
-// the fuel before the last of them, or None where only the machine's step does the first, and then nothing has changed.
+// Does the operation of an index and the one behind it, of known kinds. It answers as `turns` does.
 #[inline(always)]
 fn pair(
     first: Kind,
     behind: Kind,
     op: &Ready,
-    a: u32,
-    b: u32,
     ready: &[Ready],
-    at: usize,
-    left: u64,
-    front: Payload,
+    stand: Stand,
     areas: &mut Areas,
     file: &mut RegisterFile,
 ) -> Option<Stand>
-    requires run { (run : Run) × IsIn run ready.now front areas.old file.old at left }
-    requires fuel { 1 < left }
-    requires there { slice_get ready.now at ≡ Some op.now }
+    requires run { (run : Run) × IsIn run ready.now areas.old file.old stand.at stand.left }
+    requires fuel { 1 < stand.left }
+    requires there { slice_get ready.now stand.at ≡ Some op.now }
     requires first { DoesAs first op.now.kind }
-    requires behind { IsKindAt ready.now (at + 1) behind }
+    requires behind { IsKindAt ready.now (stand.at + 1) behind }
     requires on { passes_on first ≡ true }
-    requires a { a ≡ read file.old op.now.rs1 }
-    requires b { b ≡ read file.old op.now.rs2 }
-    ensures went { (run : Run) → IsIn run ready.now front areas.old file.old at left → IfSome result (λ next. IsIn run ready.now front areas.new file.new next.at (next.left - 1)) }
-    ensures fuel { IfSome result (λ next. (0 < next.left) × (next.left ≤ left)) }
+    ensures went { (run : Run) → IsIn run ready.now areas.old file.old stand.at stand.left → IfSome result (λ next. IsIn run ready.now areas.new file.new next.at (next.left - 1)) }
+    ensures fuel { IfSome result (λ next. (0 < next.left) × (next.left ≤ stand.left)) }
     ensures areas { IsNone result → areas.new ≡ areas.old }
     ensures file { IsNone result → file.new ≡ file.old }
 {
-    match turn(first, op, a, b, at, front, areas, file) {
-        Some(next) => match turn_at(behind, ready, next, front, areas, file) {
-            Some(last) => Some(Stand {
-                at: last,
-                left: left - 1,
+    match turn_in(first, op, ready, stand.at, areas, file) {
+        Some(next) => match turn_at(behind, ready, next, areas, file) {
+            Some(at) => Some(Stand {
+                at,
+                left: stand.left - 1,
             }),
-            None => Some(Stand { at: next, left }),
+            None => Some(Stand {
+                at: next,
+                left: stand.left,
+            }),
         },
+        None => None,
+    }
+}
+
+// Does the operation of an index and the two behind it, of known kinds. It answers as `turns` does.
+#[inline(always)]
+fn triple(
+    first: Kind,
+    behind: Kind,
+    last: Kind,
+    op: &Ready,
+    ready: &[Ready],
+    stand: Stand,
+    areas: &mut Areas,
+    file: &mut RegisterFile,
+) -> Option<Stand>
+    requires run { (run : Run) × IsIn run ready.now areas.old file.old stand.at stand.left }
+    requires fuel { 2 < stand.left }
+    requires there { slice_get ready.now stand.at ≡ Some op.now }
+    requires first { DoesAs first op.now.kind }
+    requires behind { IsKindAt ready.now (stand.at + 1) behind }
+    requires last { IsKindAt ready.now (stand.at + 2) last }
+    requires first_on { passes_on first ≡ true }
+    requires behind_on { passes_on behind ≡ true }
+    ensures went { (run : Run) → IsIn run ready.now areas.old file.old stand.at stand.left → IfSome result (λ next. IsIn run ready.now areas.new file.new next.at (next.left - 1)) }
+    ensures fuel { IfSome result (λ next. (0 < next.left) × (next.left ≤ stand.left)) }
+    ensures areas { IsNone result → areas.new ≡ areas.old }
+    ensures file { IsNone result → file.new ≡ file.old }
+{
+    match turn_in(first, op, ready, stand.at, areas, file) {
+        Some(next) => {
+            let left = stand.left - 1;
+            let one_less = Stand { at: next, left };
+            let begun = operation_at(ready, next);
+            match pair(behind, last, begun, ready, one_less, areas, file) {
+                Some(after) => Some(after),
+                None => Some(Stand {
+                    at: next,
+                    left: stand.left,
+                }),
+            }
+        }
         None => None,
     }
 }
@@ -218,20 +282,39 @@ fn turn_at(
     kind: Kind,
     ready: &[Ready],
     at: usize,
-    front: Payload,
     areas: &mut Areas,
     file: &mut RegisterFile,
 ) -> Option<usize>
-    requires run { (run : Run) × (left : ℕ) × (0 < left) × IsIn run ready.now front areas.old file.old at left }
+    requires run { (run : Run) × (left : ℕ) × (0 < left) × IsIn run ready.now areas.old file.old at left }
     requires kind { IsKindAt ready.now at kind }
-    ensures went { (run : Run) (left : ℕ) → 0 < left → IsIn run ready.now front areas.old file.old at left → IfSome result (λ next. IsIn run ready.now front areas.new file.new next (left - 1)) }
+    ensures went { (run : Run) (left : ℕ) → 0 < left → IsIn run ready.now areas.old file.old at left → IfSome result (λ next. IsIn run ready.now areas.new file.new next (left - 1)) }
     ensures areas { IsNone result → areas.new ≡ areas.old }
     ensures file { IsNone result → file.new ≡ file.old }
 {
-    let op = operation_at(ready, at);
+    turn_in(kind, operation_at(ready, at), ready, at, areas, file)
+}
+
+// The same of an operation that is at hand.
+#[inline(always)]
+fn turn_in(
+    kind: Kind,
+    op: &Ready,
+    ready: &[Ready],
+    at: usize,
+    areas: &mut Areas,
+    file: &mut RegisterFile,
+) -> Option<usize>
+    requires run { (run : Run) × (left : ℕ) × (0 < left) × IsIn run ready.now areas.old file.old at left }
+    requires there { slice_get ready.now at ≡ Some op.now }
+    requires kind { DoesAs kind op.now.kind }
+    ensures went { (run : Run) (left : ℕ) → 0 < left → IsIn run ready.now areas.old file.old at left → IfSome result (λ next. IsIn run ready.now areas.new file.new next (left - 1)) }
+    ensures on { passes_on kind ≡ true → IfSome result (λ next. next ≡ at + 1) }
+    ensures areas { IsNone result → areas.new ≡ areas.old }
+    ensures file { IsNone result → file.new ≡ file.old }
+{
     let a = file.read(op.rs1);
     let b = file.read(op.rs2);
-    turn(kind, op, a, b, at, front, areas, file)
+    turn(kind, op, a, b, at, areas, file)
 }
 
 // Where a thread stands at an index of the code.
@@ -277,11 +360,9 @@ fn turn(
     a: u32,
     b: u32,
     at: usize,
-    front: Payload,
     areas: &mut Areas,
     file: &mut RegisterFile,
 ) -> Option<usize>
-    requires front { IsPayloadOf areas.old.pool front }
     requires registers { HasRegisters op.now }
     requires kind { DoesAs kind op.now.kind }
     requires a { a ≡ read file.old op.now.rs1 }
@@ -299,12 +380,12 @@ fn turn(
             Some(at + 1)
         }
         Action::Loads { address } => {
-            let word = areas.read_word(front, address);
+            let word = areas.read_word(address);
             file.write(op.rd, word);
             Some(at + 1)
         }
         Action::Stores { address } => {
-            areas.put_word(front, address, b);
+            areas.put_word(address, b);
             Some(at + 1)
         }
         Action::Jumps { to } => Some(to as usize),

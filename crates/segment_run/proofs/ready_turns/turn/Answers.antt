@@ -3,7 +3,7 @@ use Rattle.machine_world.specs.Areas.{byte_at}
 use Rattle.rv_machine.specs.Bytes.{Nothing}
 use Rattle.rv_machine.specs.Registers.{write}
 use Rattle.rv_machine.specs.Rows.{Goes, next, sets, jumps, loads, word_loaded, word_stored}
-use Rattle.decoded_code.specs.Ready.{done, ready_effect, place_at, even, branches_to}
+use Rattle.decoded_code.specs.Ready.{ready_effect, place_at, even, branches_to}
 use Rattle.segment_run.specs.ReadyTurns.{machine_at, GoesOn}
 use Rattle.segment_run.proofs.ReadyTurns.{by_kind, set_went, load_goes, load_went, store_goes, store_went, jump_went, branch_went}
 use Rattle.segment_run.proofs.ready_turns.turn.Goals as goal
@@ -15,8 +15,8 @@ returns-in-Sets-clause-went c =
     let is : ready_effect op m ≡ Some (sets m op.rd c.in-Sets.value) = by_kind c.args.kind op c.args.a c.args.b m c.requires.kind c.requires.a c.requires.b ∙ c.in-Sets.ensures.does m in
     set_went (ready_effect op m) c.args.areas.now c.args.at op.rd c.in-Sets.value c.args.file.now c.write.new.self c.requires.place c.requires.goes is c.write.ensures
 
-pub read_word-word-requires-clause-loads : goal.read_word-word-requires-clause-loads
-read_word-word-requires-clause-loads c =
+pub read_word-word-requires : goal.read_word-word-requires
+read_word-word-requires c =
     let op = c.args.op.now in
     let m = machine_at c.args.areas.now c.args.at c.args.file.now in
     let is : ready_effect op m ≡ Some (loads m op.rd (word_loaded (byte_at c.args.areas.now) c.in-Loads.address)) = by_kind c.args.kind op c.args.a c.args.b m c.requires.kind c.requires.a c.requires.b ∙ c.in-Loads.ensures.does m in

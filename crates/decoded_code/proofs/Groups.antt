@@ -1,33 +1,23 @@
--- Operations of which those that begin a pair get the kind of the pair.
+-- Operations of which those that begin a group get the kind of the group.
 use Rattle.std.proofs.Common.{◌≡◌, ◌≢◌, ℕ, zero, suc, ◌+◌, ◌<◌, ◌≤◌, List, [], ◌∷◌, length, Option, Some, None, inl, inr, IfSome, refl, sym, ap, subst, ◌∙◌, arith}
 use Rattle.std.specs.Prelude.{slice_get, slice_set}
 use Rattle.std.proofs.Common.{◌⊎◌, ◌-◌, ◌++◌, take, drop}
 use Rattle.std.proofs.Math.Seq.{take-length, drop-length}
-use Rattle.std.proofs.lemmas.Bool.{cases_eq, cases_lt}
+use Rattle.std.proofs.lemmas.Bool.{cases_lt}
 use Rattle.rv_code.specs.Decoding.{decoding}
 use Rattle.rv_code.specs.declared.instructions.Instr.{Instr}
 use Rattle.rv_machine.specs.Registers.{read}
 use Rattle.rv_machine.specs.Rows.{Machine, Outcome}
 use Rattle.rv_machine.specs.Step.{decoded, started}
-use Rattle.decoded_code.specs.Ready.{place_at, done_as, done, ready_effect, second, DoesAs, IsBefore, IsReadyAt, AreEachReady, AreReady}
+use Rattle.decoded_code.specs.Ready.{place_at, done_as, done, ready_effect, DoesAs, IsBefore, IsReadyAt, AreEachReady, AreReady}
 use Rattle.decoded_code.specs.declared.ready.Kind.{Kind}
 use Rattle.decoded_code.specs.declared.ready.Kind.TheVariants as kind
 use Rattle.decoded_code.specs.declared.ready.Ready.{Ready}
 
 -- ---- another kind that does the same
 
-pub does_back : (a b c : Kind) → DoesAs a c → DoesAs b c → DoesAs a b
-does_back a b c ac bc = λ op x y m. ac op x y m ∙ sym (bc op x y m)
-
 pub does_on : (a b c : Kind) → DoesAs a b → DoesAs b c → DoesAs a c
 does_on a b c ab bc = λ op x y m. ab op x y m ∙ bc op x y m
-
-before_found : (found : Option Kind) (old new : Kind) → DoesAs new old → IfSome found (λ other. DoesAs other old) → IfSome found (λ other. DoesAs other new)
-before_found None old new does before = tt
-before_found (Some other) old new does before = does_back other new old before does
-
-pub before_as : (k old new : Kind) → DoesAs new old → IsBefore k old → IsBefore k new
-before_as k old new does before = before_found (second k) old new does before
 
 without_kind : (k other : Kind) (op : Ready) (a b : ℕ) (m : Machine) → done_as k (record op { kind = other }) a b m ≡ done_as k op a b m
 without_kind kind.Other to op a b m = refl
@@ -56,12 +46,12 @@ kin_ready op was place found kin ready = subst (λ (o : Ready). IsReadyAt o plac
   does = λ m pc. subst (λ (f : Option Outcome). IfSome f (λ outcome. started (decoded found) m ≡ outcome)) (sym (effect_as op.kind was m kin.does)) (ready.does m pc);
 })
 
--- ---- the list, as far as its pairs are made
+-- ---- the list, from the operation of an index on
 
-pub record ArePaired (old : List Ready) (behind : ℕ) (new : List Ready) : Type 0 where
+pub record AreGrouped (old : List Ready) (from : ℕ) (new : List Ready) : Type 0 where
   pub count_is : length new ≡ length old
   pub kin : (k : ℕ) (op was : Ready) → slice_get new k ≡ Some op → slice_get old k ≡ Some was → IsKinOf op was
-  pub pairs : (at : ℕ) (op next : Ready) → at + 1 < behind → slice_get new at ≡ Some op → slice_get new (at + 1) ≡ Some next → IsBefore op.kind next.kind
+  pub groups : (at : ℕ) (op next : Ready) → from ≤ at + 1 → slice_get new at ≡ Some op → slice_get new (at + 1) ≡ Some next → IsBefore op.kind next.kind
 
 got : {X : Type 0} (xs : List X) (i k : ℕ) (x y : X) → slice_get (slice_set xs i x) k ≡ Some y → ((k ≡ i) × (x ≡ y)) ⊎ ((k ≢ i) × (slice_get xs k ≡ Some y))
 got [] zero k x y e = absurd (cc)
@@ -74,7 +64,7 @@ got (z ∷ xs) (suc i) (suc k) x y e = elim (got xs i k x y e) [
   | inr h ↦ inr (λ (same : suc k ≡ suc i). h.0 (omega (arith, same)), h.1)
 ]
 
-length_set : {X : Type 0} (xs : List X) (i : ℕ) (x : X) → length (slice_set xs i x) ≡ length xs
+pub length_set : {X : Type 0} (xs : List X) (i : ℕ) (x : X) → length (slice_set xs i x) ≡ length xs
 length_set [] zero x = refl
 length_set [] (suc i) x = refl
 length_set (z ∷ xs) zero x = refl
@@ -84,45 +74,44 @@ same_found : (found : Option Ready) (a b : Ready) → found ≡ Some a → found
 same_found None a b is also = absurd (cc)
 same_found (Some o) a b is also = cc
 
-pub one_paired : (old ops : List Ready) (n : ℕ) (was next op : Ready) → 0 < n → ArePaired old n ops → slice_get ops (n - 1) ≡ Some was → slice_get ops n ≡ Some next → IsKinOf op was → IsBefore op.kind next.kind →
-    ArePaired old (n + 1) (slice_set ops (n - 1) op)
-one_paired old ops n was next op some are there behind kin before = record {
+pub one_grouped : (old ops : List Ready) (n : ℕ) (was next op : Ready) → 0 < n → AreGrouped old (n + 1) ops → slice_get ops (n - 1) ≡ Some was → slice_get ops n ≡ Some next → IsKinOf op was → IsBefore op.kind next.kind →
+    AreGrouped old n (slice_set ops (n - 1) op)
+one_grouped old ops n was next op some are there behind kin before = record {
   count_is = length_set ops (n - 1) op ∙ are.count_is;
   kin = λ k o w found old_found. elim (got ops (n - 1) k op o found) [
     | inl h ↦ subst (λ (r : Ready). IsKinOf r w) h.1 (kin_on op was w kin (are.kin k was w (ap (slice_get ops) h.0 ∙ there) old_found))
     | inr h ↦ are.kin k o w h.1 old_found
   ];
-  pairs = λ at o next' low found found_next. elim (got ops (n - 1) at op o found) [
-    | inl h ↦ first at o next' h.0 h.1 (got ops (n - 1) (at + 1) op next' found_next)
-    | inr h ↦ later at o next' low h.0 h.1 (got ops (n - 1) (at + 1) op next' found_next)
+  groups = λ at o after from found found_after. elim (got ops (n - 1) (at + 1) op after found_after) [
+    | inl h ↦ absurd (let on = h.0 in omega (arith, from, on, some))
+    | inr h ↦ one at o after from h.1 (got ops (n - 1) at op o found)
   ];
 }
   where
-    first : (at : ℕ) (o next' : Ready) → at ≡ n - 1 → op ≡ o → ((at + 1 ≡ n - 1) × (op ≡ next')) ⊎ ((at + 1 ≢ n - 1) × (slice_get ops (at + 1) ≡ Some next')) → IsBefore o.kind next'.kind
-    first at o next' last same (inl h) = let off = h.0 in absurd (omega (arith, last, off))
-    first at o next' last same (inr h) =
-        let here : at + 1 ≡ n = omega (arith, last, some) in
-        let is : next ≡ next' = same_found (slice_get ops n) next next' behind (ap (slice_get ops) (sym here) ∙ h.1) in
-        subst (λ (r : Ready). IsBefore r.kind next'.kind) same (subst (λ (r : Ready). IsBefore op.kind r.kind) is before)
-
-    later : (at : ℕ) (o next' : Ready) → at + 1 < n + 1 → at ≢ n - 1 → slice_get ops at ≡ Some o → ((at + 1 ≡ n - 1) × (op ≡ next')) ⊎ ((at + 1 ≢ n - 1) × (slice_get ops (at + 1) ≡ Some next')) → IsBefore o.kind next'.kind
-    later at o next' low apart found (inl h) =
+    one : (at : ℕ) (o after : Ready) → n ≤ at + 1 → slice_get ops (at + 1) ≡ Some after → ((at ≡ n - 1) × (op ≡ o)) ⊎ ((at ≢ n - 1) × (slice_get ops at ≡ Some o)) → IsBefore o.kind after.kind
+    one at o after from found (inl h) =
         let last = h.0 in
-        subst (λ (r : Ready). IsBefore o.kind r.kind) h.1
-        (before_as o.kind was.kind op.kind kin.does (are.pairs at o was (omega (arith, last, some)) found (ap (slice_get ops) h.0 ∙ there)))
-    later at o next' low apart found (inr h) = elim (cases_lt (at + 1) n) [
-      | inl below ↦ are.pairs at o next' below found h.1
-      | inr high ↦ absurd (apart (omega (arith, low, high, some)))
+        let here : at + 1 ≡ n = omega (arith, last, some) in
+        let is : next ≡ after = same_found (slice_get ops n) next after behind (ap (slice_get ops) (sym here) ∙ found) in
+        subst (λ (r : Ready). IsBefore r.kind after.kind) h.1 (subst (λ (r : Ready). IsBefore op.kind r.kind) is before)
+    one at o after from found (inr h) = elim (cases_lt (at + 1) (n + 1)) [
+      | inl low ↦ absurd (h.0 (omega (arith, low, from)))
+      | inr high ↦ are.groups at o after high h.1 found
     ]
 
 -- ---- the whole list
 
-pub unpaired : (ops : List Ready) → ArePaired ops 1 ops
-unpaired ops = record {
+found_below : (ops : List Ready) (k : ℕ) (op : Ready) → slice_get ops k ≡ Some op → k < length ops
+found_below [] k op e = absurd (cc)
+found_below (o ∷ ops) zero op e = omega arith
+found_below (o ∷ ops) (suc k) op e = let low = found_below ops k op e in omega (arith, low)
+
+pub ungrouped : (ops : List Ready) → AreGrouped ops (length ops) ops
+ungrouped ops = record {
   count_is = refl;
   kin = λ k op was found old. let same = same_found (slice_get ops k) op was found old in
       subst (λ (r : Ready). IsKinOf op r) same (record { is = refl; does = λ o a b m. refl });
-  pairs = λ at op next low found behind. absurd (omega (arith, low));
+  groups = λ at op next from found behind. absurd (let low = found_below ops (at + 1) next behind in omega (arith, from, low));
 }
 
 found_old : (old : List Ready) (k : ℕ) → k < length old → (was : Ready) × (slice_get old k ≡ Some was)
@@ -130,19 +119,14 @@ found_old [] k low = absurd (omega (arith, low))
 found_old (o ∷ old) zero low = (o, refl)
 found_old (o ∷ old) (suc k) low = found_old old k (omega (arith, low))
 
-found_below : (ops : List Ready) (k : ℕ) (op : Ready) → slice_get ops k ≡ Some op → k < length ops
-found_below [] k op e = absurd (cc)
-found_below (o ∷ ops) zero op e = omega arith
-found_below (o ∷ ops) (suc k) op e = let low = found_below ops k op e in omega (arith, low)
-
-pub all_paired : (words : List ℕ) (count n : ℕ) (old new : List Ready) → AreEachReady words count old → ArePaired old n new → length new ≤ n → AreReady words count new
-all_paired words count n old new each are end = record {
+pub all_grouped : (words : List ℕ) (count n : ℕ) (old new : List Ready) → AreEachReady words count old → AreGrouped old n new → n ≤ 1 → AreReady words count new
+all_grouped words count n old new each are start = record {
   count_is = are.count_is ∙ each.count_is;
   each = λ at word op fits there found.
       let low = found_below new at op found in
       let was = found_old old at (omega (arith, low, are.count_is)) in
       kin_ready op was.0 (place_at at) (decoding word) (are.kin at op was.0 found was.1) (each.each at word was.0 fits there was.1);
-  pairs = λ at op next found behind. let low = found_below new (at + 1) next behind in are.pairs at op next (omega (arith, low, end)) found behind;
+  groups = λ at op next found behind. are.groups at op next (omega (arith, start)) found behind;
 }
 
 append_nil : {X : Type 0} (xs : List X) → xs ++ [] ≡ xs
