@@ -25,12 +25,12 @@ use Rattle.command_outcomes.specs.Steps.{EndsAs, IsPrinted, IsShelfStop, IsStatu
 use Rattle.command_files.specs.Loaded.{IsLoaded}
 use Rattle.command_outcomes.proofs.Ending.{kept-are-stored, keeps-itself, printed-ends, stopped-reading}
 use Rattle.command_files.proofs.Follows.{load-before, load-follows, loaded, shelf-stop-follows, source-follows, stop-on-shelf}
-use Rattle.command_options.specs.Options.{AreAuditOptions, as_run, IsNewMonitor}
+use Rattle.command_options.specs.Options.{AreAuditOptions, IsNewMonitor}
 use Rattle.command_audit.specs.Audits.{Audits, AuditsBytes, AuditsProgram, IsJudged, LeadsToAudit, audit_limits, judged_as, judged_outcome, judgement_line, judgement_status, reading_of}
 
 -- ---- what the audit is given
 
-pub may-audit : (options : AuditOptions) (monitor : MonitorState) → AreAuditOptions options → IsNewMonitor (as_run options) monitor → MayAudit (audit_limits options) monitor
+pub may-audit : (options : AuditOptions) (monitor : MonitorState) → AreAuditOptions options → IsNewMonitor options.policy monitor → MayAudit (audit_limits options) monitor
 may-audit options monitor are is =
     let run = are.run in
     let chunks = run.chunks in
@@ -49,16 +49,16 @@ may-audit options monitor are is =
       gate = is.gate;
     }
 
-pub given-is : (program : ProgramTree) (options : AuditOptions) (monitor : MonitorState) → IsNewMonitor (as_run options) monitor → given_of program (audit_limits options) monitor ≡ reading_of program options
+pub given-is : (program : ProgramTree) (options : AuditOptions) (monitor : MonitorState) → IsNewMonitor options.policy monitor → given_of program (audit_limits options) monitor ≡ reading_of program options
 given-is program options monitor is = λ i. record {
   program = program;
   policy = record {
     chunks = (audit_limits options).chunks;
     extra = 0;
     extra_bytes = 0;
-    fuel = options.fuel;
-    backlog = options.backlog;
-    caps = options.caps;
+    fuel = options.policy.fuel;
+    backlog = options.policy.backlog;
+    caps = options.policy.caps;
     curves = is.curves i;
     high = is.high i;
     low = is.low i;

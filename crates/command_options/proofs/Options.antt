@@ -1,8 +1,10 @@
 -- What the options of a word list are, by its command.
 use Rattle.std.proofs.Common.{ℕ, zero, suc, ◌≡◌, ◌+◌, ◌-◌, ◌*◌, ◌≤◌, List, [], ◌∷◌, ◌++◌, map, length, take, replicate, slice_index, Option, Some, None, refl, sym, ap, subst, arith, mul_comm}
-use Rattle.std.specs.Prelude.{◌==◌, codes}
+use Rattle.std.specs.Prelude.{◌==◌}
 use Rattle.call_graph.proofs.ListLemmas.{by_test}
 use Rattle.codegen_link.specs.Plans.{AreInRange}
+use Rattle.command_words.specs.OptionTable.{name_of}
+use Rattle.command_words.specs.declared.option_table.CommandOption.TheVariants as option
 use Rattle.command_words.specs.Values.{IsAudit, IsPlacement, IsPolicy, AreCaps, AreCapsAbove, cap_of, AreTickets, AreTicketsFrom, IsRule}
 use Rattle.command_words.specs.WordList.{IsWordList, Serve, Run, Build, Audit}
 use Rattle.command_words.specs.declared.options.Audit.{Audit as AuditOptions}
@@ -84,7 +86,7 @@ run-policy-of given policy h =
       caps = λ r some lt. caps-in-range _ policy.caps h.caps r;
       high = high.not_more;
       low = (let some = high.not_less in let most = low.not_more in omega arith);
-      rule = rule-in-range (given (codes "--rule")) (given (codes "--tickets")) policy.rule h.rule;
+      rule = rule-in-range (given (name_of option.Rule)) (given (name_of option.Tickets)) policy.rule h.rule;
       knee = h.knee.not_more;
     }
 
@@ -117,31 +119,8 @@ caps-count (Some text) caps h = ap length h.2
 
 audit-options-of : (given : List ℕ → Option (List ℕ)) (options : AuditOptions) → IsAudit given options → AreAuditOptions options
 audit-options-of given options h =
-    let chunks = h.chunks in
-    let fuel = h.fuel in
-    let backlog = h.backlog in
-    let high = h.high in
-    let low = h.low in
-    record {
-      run = record {
-        some_chunks = chunks.not_less;
-        chunks = chunks.not_more;
-        extra = h.extra.not_more;
-        extra_least = omega arith;
-        extra_most = omega arith;
-        extra_whole = refl;
-        fuel = fuel.not_more;
-        some_backlog = backlog.not_less;
-        backlog = backlog.not_more;
-        caps = λ r some lt. caps-in-range _ options.caps h.caps r;
-        high = high.not_more;
-        low = (let some = high.not_less in let most = low.not_more in omega arith);
-        rule = tt;
-        knee = h.knee.not_more;
-      };
-      cap_count = caps-count _ options.caps h.caps;
-      steps = h.steps.not_more;
-    }
+    let policy = h.policy in
+    record { run = run-policy-of given options.policy policy; cap_count = caps-count _ options.policy.caps policy.caps; steps = h.steps.not_more }
 
 pub audit-options : (words : List (List ℕ)) (source log : List ℕ) (options : AuditOptions) → IsWordList words (Audit source log options) → AreAuditOptions options
 audit-options words source log options h = audit-options-of _ options h.2

@@ -1,5 +1,5 @@
 -- The rules that the parser goes by: eighteen arguments, each with one text as its value.
-use Rattle.std.proofs.Common.{◌≡◌, ℕ, refl, sym, subst, inl, inr, codes, true, false, List, [], ◌∷◌, Option, Some, None}
+use Rattle.std.proofs.Common.{◌≡◌, ℕ, refl, sym, subst, inl, inr, codes, true, false, List, [], ◌∷◌, ◌++◌, map, Option, Some, None}
 use Rattle.std.specs.Str.{bytes_eq}
 use Rattle.clap.specs.Walk.{Rule, Text, arg_by_id, arg_by_index, arg_by_long, next_position}
 use Rattle.clap.specs.Simple.{App, Shape, built}
@@ -8,6 +8,7 @@ use Rattle.clap.specs.Lexer.{long_of}
 use Rattle.clap.specs.declared.builder.action.ArgAction.TheVariants.{Set}
 use Rattle.clap.specs.declared.builder.value_parser.ValueParser.TheVariants.{String}
 use Rattle.clap.proofs.OnLiterals.{clap_on_literals}
+use Rattle.command_words.specs.OptionTable.{name_of, long_name_of, placement_table, run_table, shared_table, audit_table}
 use Rattle.command_words.specs.Said.{IsOneOf}
 use Rattle.command_words.specs.Parse.{words_app, all_options}
 
@@ -45,12 +46,7 @@ places = codes "command" ∷ codes "first" ∷ codes "second" ∷ codes "third" 
 
 abbrev pub rules : List Rule
 rules = place_rule (codes "command") 1 ∷ place_rule (codes "first") 2 ∷ place_rule (codes "second") 3 ∷ place_rule (codes "third") 4
-    ∷ option_rule (codes "--chunk") (codes "chunk") ∷ option_rule (codes "--max-path") (codes "max-path")
-    ∷ option_rule (codes "--chunks") (codes "chunks") ∷ option_rule (codes "--extra") (codes "extra") ∷ option_rule (codes "--extra-size") (codes "extra-size")
-    ∷ option_rule (codes "--fuel") (codes "fuel") ∷ option_rule (codes "--backlog") (codes "backlog")
-    ∷ option_rule (codes "--caps") (codes "caps") ∷ option_rule (codes "--high") (codes "high") ∷ option_rule (codes "--low") (codes "low")
-    ∷ option_rule (codes "--rule") (codes "rule") ∷ option_rule (codes "--tickets") (codes "tickets") ∷ option_rule (codes "--knee") (codes "knee")
-    ∷ option_rule (codes "--steps") (codes "steps") ∷ []
+    ∷ map (λ it. option_rule (name_of it) (long_name_of it)) (placement_table ++ (run_table ++ (shared_table ++ audit_table)))
 
 -- the command as it is built
 abbrev pub top : Shape
@@ -101,16 +97,16 @@ pub is_option : (name : Text) → IsOneOf all_options name → IsOption name
 unfolding clap_on_literals
 is_option name (inl e) = subst IsOption (sym e) (option_of (codes "--chunk") (codes "-chunk") (codes "chunk") refl refl refl refl refl)
 is_option name (inr (inl e)) = subst IsOption (sym e) (option_of (codes "--max-path") (codes "-max-path") (codes "max-path") refl refl refl refl refl)
-is_option name (inr (inr (inl e))) = subst IsOption (sym e) (option_of (codes "--chunks") (codes "-chunks") (codes "chunks") refl refl refl refl refl)
-is_option name (inr (inr (inr (inl e)))) = subst IsOption (sym e) (option_of (codes "--extra") (codes "-extra") (codes "extra") refl refl refl refl refl)
-is_option name (inr (inr (inr (inr (inl e))))) = subst IsOption (sym e) (option_of (codes "--extra-size") (codes "-extra-size") (codes "extra-size") refl refl refl refl refl)
-is_option name (inr (inr (inr (inr (inr (inl e)))))) = subst IsOption (sym e) (option_of (codes "--fuel") (codes "-fuel") (codes "fuel") refl refl refl refl refl)
-is_option name (inr (inr (inr (inr (inr (inr (inl e))))))) = subst IsOption (sym e) (option_of (codes "--backlog") (codes "-backlog") (codes "backlog") refl refl refl refl refl)
-is_option name (inr (inr (inr (inr (inr (inr (inr (inl e)))))))) = subst IsOption (sym e) (option_of (codes "--caps") (codes "-caps") (codes "caps") refl refl refl refl refl)
-is_option name (inr (inr (inr (inr (inr (inr (inr (inr (inl e))))))))) = subst IsOption (sym e) (option_of (codes "--high") (codes "-high") (codes "high") refl refl refl refl refl)
-is_option name (inr (inr (inr (inr (inr (inr (inr (inr (inr (inl e)))))))))) = subst IsOption (sym e) (option_of (codes "--low") (codes "-low") (codes "low") refl refl refl refl refl)
-is_option name (inr (inr (inr (inr (inr (inr (inr (inr (inr (inr (inl e))))))))))) = subst IsOption (sym e) (option_of (codes "--rule") (codes "-rule") (codes "rule") refl refl refl refl refl)
-is_option name (inr (inr (inr (inr (inr (inr (inr (inr (inr (inr (inr (inl e)))))))))))) = subst IsOption (sym e) (option_of (codes "--tickets") (codes "-tickets") (codes "tickets") refl refl refl refl refl)
+is_option name (inr (inr (inl e))) = subst IsOption (sym e) (option_of (codes "--extra-size") (codes "-extra-size") (codes "extra-size") refl refl refl refl refl)
+is_option name (inr (inr (inr (inl e)))) = subst IsOption (sym e) (option_of (codes "--rule") (codes "-rule") (codes "rule") refl refl refl refl refl)
+is_option name (inr (inr (inr (inr (inl e))))) = subst IsOption (sym e) (option_of (codes "--tickets") (codes "-tickets") (codes "tickets") refl refl refl refl refl)
+is_option name (inr (inr (inr (inr (inr (inl e)))))) = subst IsOption (sym e) (option_of (codes "--chunks") (codes "-chunks") (codes "chunks") refl refl refl refl refl)
+is_option name (inr (inr (inr (inr (inr (inr (inl e))))))) = subst IsOption (sym e) (option_of (codes "--extra") (codes "-extra") (codes "extra") refl refl refl refl refl)
+is_option name (inr (inr (inr (inr (inr (inr (inr (inl e)))))))) = subst IsOption (sym e) (option_of (codes "--fuel") (codes "-fuel") (codes "fuel") refl refl refl refl refl)
+is_option name (inr (inr (inr (inr (inr (inr (inr (inr (inl e))))))))) = subst IsOption (sym e) (option_of (codes "--backlog") (codes "-backlog") (codes "backlog") refl refl refl refl refl)
+is_option name (inr (inr (inr (inr (inr (inr (inr (inr (inr (inl e)))))))))) = subst IsOption (sym e) (option_of (codes "--caps") (codes "-caps") (codes "caps") refl refl refl refl refl)
+is_option name (inr (inr (inr (inr (inr (inr (inr (inr (inr (inr (inl e))))))))))) = subst IsOption (sym e) (option_of (codes "--high") (codes "-high") (codes "high") refl refl refl refl refl)
+is_option name (inr (inr (inr (inr (inr (inr (inr (inr (inr (inr (inr (inl e)))))))))))) = subst IsOption (sym e) (option_of (codes "--low") (codes "-low") (codes "low") refl refl refl refl refl)
 is_option name (inr (inr (inr (inr (inr (inr (inr (inr (inr (inr (inr (inr (inl e))))))))))))) = subst IsOption (sym e) (option_of (codes "--knee") (codes "-knee") (codes "knee") refl refl refl refl refl)
 is_option name (inr (inr (inr (inr (inr (inr (inr (inr (inr (inr (inr (inr (inr (inl e)))))))))))))) = subst IsOption (sym e) (option_of (codes "--steps") (codes "-steps") (codes "steps") refl refl refl refl refl)
 is_option name (inr (inr (inr (inr (inr (inr (inr (inr (inr (inr (inr (inr (inr (inr none)))))))))))))) = absurd none

@@ -11,6 +11,7 @@
 mod commands;
 mod laws;
 mod numbers;
+mod option_table;
 mod option_values;
 mod options;
 mod parser;

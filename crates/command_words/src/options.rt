@@ -56,22 +56,9 @@ pub struct Policy {
 /// The options of an audit.
 #[derive(Clone, Copy, PartialEq, Eq)]
 pub struct Audit {
-    /// The number of chunks of the certificate's size: from 1 to 65,536.
-    pub chunks: u32,
-    /// The number of chunks that are added: at most 65,536.
-    pub extra: u32,
-    /// The number of instructions after which a run stops: at most 1,000,000,000.
-    pub fuel: u64,
-    /// How many arrivals wait at most: from 1 to 4,096.
-    pub backlog: u32,
-    /// The cap of each resource by number: from 1 to 1,000,000, and 0 where it has none. Resource 0 has none here.
-    pub caps: [u32; 8],
-    /// The pressure from which on arrivals have to wait: from 1 to 1000.
-    pub high: u32,
-    /// The pressure from which on down they need not: below `high`.
-    pub low: u32,
-    /// The part of a cap, in thousandths, from which on the use of a resource is a pressure: from 0 to 999.
-    pub knee: u32,
+    /// The policy of the runs whose logs it judges. It has no options for the size of the added chunks and for the rule, which
+    /// have their defaults.
+    pub policy: Policy,
     /// The number of steps of the source that may be taken: at most 1,000,000,000.
     pub steps: u64,
 }

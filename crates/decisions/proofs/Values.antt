@@ -9,7 +9,9 @@ use Rattle.command_words.specs.declared.options.Policy.{Policy}
 use Rattle.command_words.specs.declared.options.Rule.{Rule}
 use Rattle.command_words.specs.declared.options.Rule.TheVariants.{Graph, Stride}
 use Rattle.command_words.specs.declared.options.Tickets.{Tickets}
-use Rattle.command_words.specs.Values.{IsChosen, IsNumber, default_max_path, IsPlacement, cap_text, AreCapsAbove, caps_of, IsCapsText, AreCaps, ticket_text, AreTicketsFrom, IsTicketsText, tickets_of, AreTickets, rule_name, IsAudit, IsRule, IsPolicy}
+use Rattle.command_words.specs.OptionTable.{name_of, default_of, least_of, most_of}
+use Rattle.command_words.specs.declared.option_table.CommandOption.TheVariants as option
+use Rattle.command_words.specs.Values.{IsChosen, IsNumber, IsNumberOf, default_max_path, IsPlacement, cap_text, AreCapsAbove, caps_of, IsCapsText, AreCaps, ticket_text, AreTicketsFrom, IsTicketsText, tickets_of, AreTickets, rule_name, IsAudit, IsRule, IsPolicy}
 use Rattle.decisions.specs.Decided.{Decided}
 use Rattle.decisions.proofs.Decisions.{Below, decided_by, both_decided, either_decided, then_decided, below_decided, le_decided, lt_decided, number_same, text_same, option_same}
 
@@ -46,13 +48,13 @@ pub placement_decided : (given : Texts) → Decided ((placement : Placement) × 
 placement_decided given =
     decided_by (λ (h : Sizes). (record { chunk = h.0; max_path = h.1.1.1.0 }, record { chunk = h.1.0; whole = h.1.1.0; max_path = h.1.1.1.1 }))
     (λ h. (h.0.chunk, (h.1.chunk, (h.1.whole, (h.0.max_path, h.1.max_path)))))
-    (ranged_decided (given (codes "--chunk")) 4096 64 65536 Rest (λ chunk. both_decided (number_same (chunk % 16) 0) (number_decided (given (codes "--max-path")) (default_max_path chunk) 16 (chunk - 16))))
+    (ranged_decided (given (name_of option.Chunk)) (default_of option.Chunk) (least_of option.Chunk) (most_of option.Chunk) Rest (λ chunk. both_decided (number_same (chunk % 16) 0) (number_decided (given (name_of option.MaxPath)) (default_max_path chunk) (least_of option.MaxPath) (chunk - 16))))
   where
     Rest : ℕ → Type 0
-    Rest chunk = (chunk % 16 ≡ 0) × ((path : ℕ) × IsNumber (given (codes "--max-path")) (default_max_path chunk) 16 (chunk - 16) path)
+    Rest chunk = (chunk % 16 ≡ 0) × ((path : ℕ) × IsNumber (given (name_of option.MaxPath)) (default_max_path chunk) (least_of option.MaxPath) (chunk - 16) path)
 
     Sizes : Type 0
-    Sizes = (chunk : ℕ) × (IsNumber (given (codes "--chunk")) 4096 64 65536 chunk × Rest chunk)
+    Sizes = (chunk : ℕ) × (IsNumberOf given option.Chunk chunk × Rest chunk)
 
 -- ---- the caps
 
@@ -179,26 +181,26 @@ rule_decided given tickets_given =
 
 pub policy_decided : (given : Texts) → Decided ((policy : Policy) × IsPolicy given policy)
 policy_decided given =
-    decided_by to from (both_decided (number_decided (given (codes "--chunks")) 1024 1 65536)
-    (both_decided (number_decided (given (codes "--extra")) 0 0 65536)
-    (both_decided (ranged_decided (given (codes "--extra-size")) 64 32 65536 (λ bytes. bytes % 16 ≡ 0) (λ bytes. number_same (bytes % 16) 0))
-    (both_decided (number_decided (given (codes "--fuel")) 10000000 0 1000000000)
-    (both_decided (number_decided (given (codes "--backlog")) 64 1 4096)
-    (both_decided (caps_decided (given (codes "--caps")))
-    (both_decided (ranged_decided (given (codes "--high")) 900 1 1000 (λ high. (low : ℕ) × IsNumber (given (codes "--low")) 700 0 (high - 1) low) (λ high. number_decided (given (codes "--low")) 700 0 (high - 1)))
-    (both_decided (rule_decided (given (codes "--rule")) (given (codes "--tickets")))
-    (number_decided (given (codes "--knee")) 0 0 999)))))))))
+    decided_by to from (both_decided (number_decided (given (name_of option.Chunks)) (default_of option.Chunks) (least_of option.Chunks) (most_of option.Chunks))
+    (both_decided (number_decided (given (name_of option.Extra)) (default_of option.Extra) (least_of option.Extra) (most_of option.Extra))
+    (both_decided (ranged_decided (given (name_of option.ExtraSize)) (default_of option.ExtraSize) (least_of option.ExtraSize) (most_of option.ExtraSize) (λ bytes. bytes % 16 ≡ 0) (λ bytes. number_same (bytes % 16) 0))
+    (both_decided (number_decided (given (name_of option.Fuel)) (default_of option.Fuel) (least_of option.Fuel) (most_of option.Fuel))
+    (both_decided (number_decided (given (name_of option.Backlog)) (default_of option.Backlog) (least_of option.Backlog) (most_of option.Backlog))
+    (both_decided (caps_decided (given (name_of option.Caps)))
+    (both_decided (ranged_decided (given (name_of option.High)) (default_of option.High) (least_of option.High) (most_of option.High) (λ high. (low : ℕ) × IsNumber (given (name_of option.Low)) (default_of option.Low) (least_of option.Low) (high - 1) low) (λ high. number_decided (given (name_of option.Low)) (default_of option.Low) (least_of option.Low) (high - 1)))
+    (both_decided (rule_decided (given (name_of option.Rule)) (given (name_of option.Tickets)))
+    (number_decided (given (name_of option.Knee)) (default_of option.Knee) (least_of option.Knee) (most_of option.Knee))))))))))
   where
     Parts : Type 0
-    Parts = ((n : ℕ) × IsNumber (given (codes "--chunks")) 1024 1 65536 n)
-        × (((n : ℕ) × IsNumber (given (codes "--extra")) 0 0 65536 n)
-        × (((n : ℕ) × (IsNumber (given (codes "--extra-size")) 64 32 65536 n × (n % 16 ≡ 0)))
-        × (((n : ℕ) × IsNumber (given (codes "--fuel")) 10000000 0 1000000000 n)
-        × (((n : ℕ) × IsNumber (given (codes "--backlog")) 64 1 4096 n)
-        × (((caps : List ℕ) × AreCaps (given (codes "--caps")) caps)
-        × (((n : ℕ) × (IsNumber (given (codes "--high")) 900 1 1000 n × ((low : ℕ) × IsNumber (given (codes "--low")) 700 0 (n - 1) low)))
-        × (((rule : Rule) × IsRule (given (codes "--rule")) (given (codes "--tickets")) rule)
-        × ((n : ℕ) × IsNumber (given (codes "--knee")) 0 0 999 n))))))))
+    Parts = ((n : ℕ) × IsNumberOf given option.Chunks n)
+        × (((n : ℕ) × IsNumberOf given option.Extra n)
+        × (((n : ℕ) × (IsNumberOf given option.ExtraSize n × (n % 16 ≡ 0)))
+        × (((n : ℕ) × IsNumberOf given option.Fuel n)
+        × (((n : ℕ) × IsNumberOf given option.Backlog n)
+        × (((caps : List ℕ) × AreCaps (given (name_of option.Caps)) caps)
+        × (((n : ℕ) × (IsNumberOf given option.High n × ((low : ℕ) × IsNumber (given (name_of option.Low)) (default_of option.Low) (least_of option.Low) (n - 1) low)))
+        × (((rule : Rule) × IsRule (given (name_of option.Rule)) (given (name_of option.Tickets)) rule)
+        × ((n : ℕ) × IsNumberOf given option.Knee n))))))))
 
     to : Parts → (policy : Policy) × IsPolicy given policy
     to p =
@@ -262,73 +264,13 @@ policy_decided given =
 
 pub audit_options_decided : (given : Texts) → Decided ((options : Audit) × IsAudit given options)
 audit_options_decided given =
-    decided_by to from (both_decided (number_decided (given (codes "--chunks")) 1024 1 65536)
-    (both_decided (number_decided (given (codes "--extra")) 0 0 65536)
-    (both_decided (number_decided (given (codes "--fuel")) 10000000 0 1000000000)
-    (both_decided (number_decided (given (codes "--backlog")) 64 1 4096)
-    (both_decided (caps_decided (given (codes "--caps")))
-    (both_decided (ranged_decided (given (codes "--high")) 900 1 1000 (λ high. (low : ℕ) × IsNumber (given (codes "--low")) 700 0 (high - 1) low) (λ high. number_decided (given (codes "--low")) 700 0 (high - 1)))
-    (both_decided (number_decided (given (codes "--knee")) 0 0 999)
-    (number_decided (given (codes "--steps")) 1000000000 0 1000000000))))))))
+    decided_by to from (both_decided (policy_decided given) (number_decided (given (name_of option.Steps)) (default_of option.Steps) (least_of option.Steps) (most_of option.Steps)))
   where
     Parts : Type 0
-    Parts = ((n : ℕ) × IsNumber (given (codes "--chunks")) 1024 1 65536 n)
-        × (((n : ℕ) × IsNumber (given (codes "--extra")) 0 0 65536 n)
-        × (((n : ℕ) × IsNumber (given (codes "--fuel")) 10000000 0 1000000000 n)
-        × (((n : ℕ) × IsNumber (given (codes "--backlog")) 64 1 4096 n)
-        × (((caps : List ℕ) × AreCaps (given (codes "--caps")) caps)
-        × (((n : ℕ) × (IsNumber (given (codes "--high")) 900 1 1000 n × ((low : ℕ) × IsNumber (given (codes "--low")) 700 0 (n - 1) low)))
-        × (((n : ℕ) × IsNumber (given (codes "--knee")) 0 0 999 n)
-        × ((n : ℕ) × IsNumber (given (codes "--steps")) 1000000000 0 1000000000 n)))))))
+    Parts = ((policy : Policy) × IsPolicy given policy) × ((n : ℕ) × IsNumberOf given option.Steps n)
 
     to : Parts → (options : Audit) × IsAudit given options
-    to p =
-        let q = p.1.1.1 in
-        let r = q.1.1 in (
-          record {
-            chunks = p.0.0;
-            extra = p.1.0.0;
-            fuel = p.1.1.0.0;
-            backlog = q.0.0;
-            caps = q.1.0.0;
-            high = r.0.0;
-            low = r.0.1.1.0;
-            knee = r.1.0.0;
-            steps = r.1.1.0;
-          },
-          record {
-            chunks = p.0.1;
-            extra = p.1.0.1;
-            fuel = p.1.1.0.1;
-            backlog = q.0.1;
-            caps = q.1.0.1;
-            high = r.0.1.0;
-            low = r.0.1.1.1;
-            knee = r.1.0.1;
-            steps = r.1.1.1;
-          },
-        )
+    to p = (record { policy = p.0.0; steps = p.1.0 }, record { policy = p.0.1; steps = p.1.1 })
 
     from : (options : Audit) × IsAudit given options → Parts
-    from ((options, is)) = (
-      (options.chunks, is.chunks),
-      (
-        (options.extra, is.extra),
-        (
-          (options.fuel, is.fuel),
-          (
-            (options.backlog, is.backlog),
-            (
-              (options.caps, is.caps),
-              (
-                (options.high, (is.high, (options.low, is.low))),
-                (
-                  (options.knee, is.knee),
-                  (options.steps, is.steps),
-                ),
-              ),
-            ),
-          ),
-        ),
-      ),
-    )
+    from ((options, is)) = ((options.policy, is.policy), (options.steps, is.steps))

@@ -206,14 +206,7 @@ const AUDIT: Command<'static> = Command::Audit {
 };
 
 const AUDIT_OPTIONS: Audit = Audit {
-    chunks: 1024,
-    extra: 0,
-    fuel: 10_000_000,
-    backlog: 64,
-    caps: [0; 8],
-    high: 900,
-    low: 700,
-    knee: 0,
+    policy: POLICY,
     steps: 1_000_000_000,
 };
 
@@ -221,12 +214,14 @@ const AUDIT_OF_FEW_STEPS: Command<'static> = Command::Audit {
     source: "P",
     log: "L",
     options: Audit {
-        extra: 65_536,
-        fuel: 0,
-        caps: [0, 1, 0, 0, 0, 0, 0, 0],
-        knee: 999,
+        policy: Policy {
+            extra: 65_536,
+            fuel: 0,
+            caps: [0, 1, 0, 0, 0, 0, 0, 0],
+            knee: 999,
+            ..POLICY
+        },
         steps: 0,
-        ..AUDIT_OPTIONS
     },
 };
 
