@@ -1,5 +1,5 @@
 -- The options of a word list: those that its command has are kept, and all others lacked.
-use Rattle.std.proofs.Common.{◌≡◌, ◌∙◌, ◌⊎◌, inl, inr, ℕ, ◌-◌, sym, subst, Bool, true, false, true≢false, List, [], ◌∷◌, ◌++◌, ◌&&◌, ◌||◌, refl, Option, Some, None}
+use Rattle.std.proofs.Common.{◌≡◌, ◌∙◌, ◌⊎◌, inl, inr, ℕ, sym, subst, Bool, true, false, true≢false, List, [], ◌∷◌, ◌++◌, ◌&&◌, ◌||◌, refl, Option, Some, None}
 use Rattle.std.specs.Prelude.{not}
 use Rattle.std.specs.Str.{bytes_eq}
 use Rattle.std.specs.List.{AllByRecursion}
@@ -7,10 +7,10 @@ use Rattle.command_words.specs.declared.options.Audit.{Audit}
 use Rattle.command_words.specs.declared.options.Placement.{Placement}
 use Rattle.command_words.specs.declared.options.Policy.{Policy}
 use Rattle.command_words.specs.Said.{Said, Given, Positional, options_of, value_of, IsOneOf}
-use Rattle.command_words.specs.Values.{IsAudit, IsPlacement, IsPolicy, default_max_path, IsNumber, AreCaps, IsRule}
-use Rattle.command_words.specs.OptionTable.{name_of, default_of, least_of, most_of}
+use Rattle.command_words.specs.Values.{IsAudit, IsPlacement, IsPolicy, IsNumber, AreCaps, IsRule}
+use Rattle.command_words.specs.OptionTable.{name_of}
+use Rattle.command_words.specs.declared.option_table.CommandOption.{CommandOption}
 use Rattle.command_words.specs.declared.option_table.CommandOption.TheVariants as option
-use Rattle.command_words.specs.WordList.{placement_options, policy_options, audit_options}
 use Rattle.command_words.specs.Parse.{all_options}
 use Rattle.command_words.specs.Asked.{Texts, LacksAll}
 use Rattle.std.proofs.lemmas.Slice.Eq.{bytes_eq-Decides}
@@ -166,34 +166,38 @@ joined P (x ∷ a) b all more = (all.0, joined P a b all.1 more)
 
 -- ---- the values that texts choose
 
+-- an option of the table has the same text
+text_along : (f g : Texts) → AreSame f g all_options → (it : CommandOption) → is_among all_options (name_of it) ≡ true → f (name_of it) ≡ g (name_of it)
+text_along f g all it among = at_one (λ option. f option ≡ g option) all_options (name_of it) all (one_among all_options (name_of it) among)
+
+-- and the number that is chosen with it
+number_along : (f g : Texts) → AreSame f g all_options → (it : CommandOption) → is_among all_options (name_of it) ≡ true
+    → (default least most n : ℕ) → IsNumber (f (name_of it)) default least most n → IsNumber (g (name_of it)) default least most n
+number_along f g all it among default least most n is = subst (λ (t : Option Text). IsNumber t default least most n) (text_along f g all it among) is
+
 pub placement_along : (f g : Texts) (p : Placement) → AreSame f g all_options → IsPlacement f p → IsPlacement g p
-placement_along f g p all is =
-    let same = of_some (λ option. f option ≡ g option) all_options placement_options refl all in
-    record {
-      chunk = subst (λ (t : Option Text). IsNumber t (default_of option.Chunk) (least_of option.Chunk) (most_of option.Chunk) p.chunk) same.0 is.chunk;
-      whole = is.whole;
-      max_path = subst (λ (t : Option Text). IsNumber t (default_max_path p.chunk) (least_of option.MaxPath) (p.chunk - 16) p.max_path) same.1.0 is.max_path;
-    }
+placement_along f g p all is = record {
+  chunk = number_along f g all option.Chunk refl _ _ _ _ is.chunk;
+  whole = is.whole;
+  max_path = number_along f g all option.MaxPath refl _ _ _ _ is.max_path;
+}
 
 pub policy_along : (f g : Texts) (p : Policy) → AreSame f g all_options → IsPolicy f p → IsPolicy g p
-policy_along f g p all is =
-    let same = of_some (λ option. f option ≡ g option) all_options policy_options refl all in
-    record {
-      chunks = subst (λ (t : Option Text). IsNumber t (default_of option.Chunks) (least_of option.Chunks) (most_of option.Chunks) p.chunks) same.1.1.1.0 is.chunks;
-      extra = subst (λ (t : Option Text). IsNumber t (default_of option.Extra) (least_of option.Extra) (most_of option.Extra) p.extra) same.1.1.1.1.0 is.extra;
-      extra_bytes = subst (λ (t : Option Text). IsNumber t (default_of option.ExtraSize) (least_of option.ExtraSize) (most_of option.ExtraSize) p.extra_bytes) same.0 is.extra_bytes;
-      extra_whole = is.extra_whole;
-      fuel = subst (λ (t : Option Text). IsNumber t (default_of option.Fuel) (least_of option.Fuel) (most_of option.Fuel) p.fuel) same.1.1.1.1.1.0 is.fuel;
-      backlog = subst (λ (t : Option Text). IsNumber t (default_of option.Backlog) (least_of option.Backlog) (most_of option.Backlog) p.backlog) same.1.1.1.1.1.1.0 is.backlog;
-      caps = subst (λ (t : Option Text). AreCaps t p.caps) same.1.1.1.1.1.1.1.0 is.caps;
-      high = subst (λ (t : Option Text). IsNumber t (default_of option.High) (least_of option.High) (most_of option.High) p.high) same.1.1.1.1.1.1.1.1.0 is.high;
-      low = subst (λ (t : Option Text). IsNumber t (default_of option.Low) (least_of option.Low) (p.high - 1) p.low) same.1.1.1.1.1.1.1.1.1.0 is.low;
-      rule = subst (λ (t : Option Text). IsRule t (g (name_of option.Tickets)) p.rule) same.1.0
-          (subst (λ (t : Option Text). IsRule (f (name_of option.Rule)) t p.rule) same.1.1.0 is.rule);
-      knee = subst (λ (t : Option Text). IsNumber t (default_of option.Knee) (least_of option.Knee) (most_of option.Knee) p.knee) same.1.1.1.1.1.1.1.1.1.1.0 is.knee;
-    }
+policy_along f g p all is = record {
+  chunks = number_along f g all option.Chunks refl _ _ _ _ is.chunks;
+  extra = number_along f g all option.Extra refl _ _ _ _ is.extra;
+  extra_bytes = number_along f g all option.ExtraSize refl _ _ _ _ is.extra_bytes;
+  extra_whole = is.extra_whole;
+  fuel = number_along f g all option.Fuel refl _ _ _ _ is.fuel;
+  backlog = number_along f g all option.Backlog refl _ _ _ _ is.backlog;
+  caps = subst (λ (t : Option Text). AreCaps t p.caps) (text_along f g all option.Caps refl) is.caps;
+  high = number_along f g all option.High refl _ _ _ _ is.high;
+  low = number_along f g all option.Low refl _ _ _ _ is.low;
+  rule = subst (λ (t : Option Text). IsRule t (g (name_of option.Tickets)) p.rule) (text_along f g all option.Rule refl)
+      (subst (λ (t : Option Text). IsRule (f (name_of option.Rule)) t p.rule) (text_along f g all option.Tickets refl) is.rule);
+  knee = number_along f g all option.Knee refl _ _ _ _ is.knee;
+}
 
 pub audit_along : (f g : Texts) (a : Audit) → AreSame f g all_options → IsAudit f a → IsAudit g a
 audit_along f g a all is =
-    let same = of_some (λ option. f option ≡ g option) all_options audit_options refl all in
-    record { policy = policy_along f g a.policy all is.policy; steps = subst (λ (t : Option Text). IsNumber t (default_of option.Steps) (least_of option.Steps) (most_of option.Steps) a.steps) same.0 is.steps }
+    record { policy = policy_along f g a.policy all is.policy; steps = number_along f g all option.Steps refl _ _ _ _ is.steps }

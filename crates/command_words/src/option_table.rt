@@ -1,6 +1,6 @@
 // The options of the command line, as one table: the parser, the tests of presence and the readers of values go by it.
 ghost use Rattle.std.specs.Prelude.{◌≡◌};
-ghost use Rattle.command_words.specs.OptionTable.{row_of};
+ghost use Rattle.command_words.specs.OptionTable.{long_name_of, row_of};
 
 /// An option of the command line.
 #[derive(Clone, Copy)]
@@ -80,7 +80,7 @@ impl CommandOption {
     /// Its row.
     pub(crate) fn row<'a>(self) -> Row<'a>
         ensures name { result.name.now ≡ (row_of self).name }
-        ensures long { result.long.now ≡ (row_of self).long }
+        ensures long { result.long.now ≡ long_name_of self }
         ensures default { result.default ≡ (row_of self).default }
         ensures least { result.least ≡ (row_of self).least }
         ensures most { result.most ≡ (row_of self).most }

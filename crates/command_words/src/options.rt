@@ -1,7 +1,7 @@
 // The options of the commands.
 
 /// The sizes by which a program's frames are placed, in bytes.
-#[derive(Clone, Copy, PartialEq, Eq)]
+#[derive(Clone, Copy)]
 pub struct Placement {
     /// The size of a chunk: a multiple of 16 from 64 to 65,536.
     pub chunk: u32,
@@ -10,7 +10,7 @@ pub struct Placement {
 }
 
 /// The tickets that are given to threads, of at most 64 threads.
-#[derive(Clone, Copy, PartialEq, Eq)]
+#[derive(Clone, Copy)]
 pub struct Tickets {
     /// The numbers of the threads, which rise strictly, from 0 to 1,000,000, each with its tickets, from 1 to 1,024. Behind them
     /// stand pairs of zeros.
@@ -20,7 +20,7 @@ pub struct Tickets {
 }
 
 /// How the next thread is chosen.
-#[derive(Clone, Copy, PartialEq, Eq)]
+#[derive(Clone, Copy)]
 pub enum Rule {
     /// By the blocking graph.
     Graph,
@@ -29,7 +29,7 @@ pub enum Rule {
 }
 
 /// The options of a run.
-#[derive(Clone, Copy, PartialEq, Eq)]
+#[derive(Clone, Copy)]
 pub struct Policy {
     /// The number of chunks of the certificate's size: from 1 to 65,536.
     pub chunks: u32,
@@ -54,7 +54,7 @@ pub struct Policy {
 }
 
 /// The options of an audit.
-#[derive(Clone, Copy, PartialEq, Eq)]
+#[derive(Clone, Copy)]
 pub struct Audit {
     /// The policy of the runs whose logs it judges. It has no options for the size of the added chunks and for the rule, which
     /// have their defaults.

@@ -10,6 +10,7 @@ use Rattle.command_words.specs.declared.options.Rule.{Rule}
 use Rattle.command_words.specs.declared.options.Rule.TheVariants.{Graph, Stride}
 use Rattle.command_words.specs.declared.options.Tickets.{Tickets}
 use Rattle.command_words.specs.OptionTable.{name_of, default_of, least_of, most_of}
+use Rattle.command_words.specs.declared.option_table.CommandOption.{CommandOption}
 use Rattle.command_words.specs.declared.option_table.CommandOption.TheVariants as option
 use Rattle.command_words.specs.Values.{IsChosen, IsNumber, IsNumberOf, default_max_path, IsPlacement, cap_text, AreCapsAbove, caps_of, IsCapsText, AreCaps, ticket_text, AreTicketsFrom, IsTicketsText, tickets_of, AreTickets, rule_name, IsAudit, IsRule, IsPolicy}
 use Rattle.decisions.specs.Decided.{Decided}
@@ -42,13 +43,21 @@ number_decided given default least most =
     decided_by (λ (h : (n : ℕ) × (IsNumber given default least most n × Unit {0})). (h.0, h.1.0)) (λ h. (h.0, (h.1, tt)))
     (ranged_decided given default least most (λ n. Unit {0}) (λ n. inl tt))
 
+-- the same of an option by its row of the table
+ranged_option : (given : Texts) (it : CommandOption) (P : ℕ → Type 0) → ((n : ℕ) → Decided (P n)) → Decided ((n : ℕ) × (IsNumberOf given it n × P n))
+ranged_option given it P each = ranged_decided (given (name_of it)) (default_of it) (least_of it) (most_of it) P each
+
+number_option : (given : Texts) (it : CommandOption) → Decided ((n : ℕ) × IsNumberOf given it n)
+number_option given it = number_decided (given (name_of it)) (default_of it) (least_of it) (most_of it)
+
 -- ---- the sizes
 
 pub placement_decided : (given : Texts) → Decided ((placement : Placement) × IsPlacement given placement)
 placement_decided given =
     decided_by (λ (h : Sizes). (record { chunk = h.0; max_path = h.1.1.1.0 }, record { chunk = h.1.0; whole = h.1.1.0; max_path = h.1.1.1.1 }))
     (λ h. (h.0.chunk, (h.1.chunk, (h.1.whole, (h.0.max_path, h.1.max_path)))))
-    (ranged_decided (given (name_of option.Chunk)) (default_of option.Chunk) (least_of option.Chunk) (most_of option.Chunk) Rest (λ chunk. both_decided (number_same (chunk % 16) 0) (number_decided (given (name_of option.MaxPath)) (default_max_path chunk) (least_of option.MaxPath) (chunk - 16))))
+    (ranged_option given option.Chunk Rest (λ chunk. both_decided (number_same (chunk % 16) 0)
+    (number_decided (given (name_of option.MaxPath)) (default_max_path chunk) (least_of option.MaxPath) (chunk - 16))))
   where
     Rest : ℕ → Type 0
     Rest chunk = (chunk % 16 ≡ 0) × ((path : ℕ) × IsNumber (given (name_of option.MaxPath)) (default_max_path chunk) (least_of option.MaxPath) (chunk - 16) path)
@@ -181,16 +190,20 @@ rule_decided given tickets_given =
 
 pub policy_decided : (given : Texts) → Decided ((policy : Policy) × IsPolicy given policy)
 policy_decided given =
-    decided_by to from (both_decided (number_decided (given (name_of option.Chunks)) (default_of option.Chunks) (least_of option.Chunks) (most_of option.Chunks))
-    (both_decided (number_decided (given (name_of option.Extra)) (default_of option.Extra) (least_of option.Extra) (most_of option.Extra))
-    (both_decided (ranged_decided (given (name_of option.ExtraSize)) (default_of option.ExtraSize) (least_of option.ExtraSize) (most_of option.ExtraSize) (λ bytes. bytes % 16 ≡ 0) (λ bytes. number_same (bytes % 16) 0))
-    (both_decided (number_decided (given (name_of option.Fuel)) (default_of option.Fuel) (least_of option.Fuel) (most_of option.Fuel))
-    (both_decided (number_decided (given (name_of option.Backlog)) (default_of option.Backlog) (least_of option.Backlog) (most_of option.Backlog))
+    decided_by to from (both_decided (number_option given option.Chunks)
+    (both_decided (number_option given option.Extra)
+    (both_decided (ranged_option given option.ExtraSize (λ bytes. bytes % 16 ≡ 0) (λ bytes. number_same (bytes % 16) 0))
+    (both_decided (number_option given option.Fuel)
+    (both_decided (number_option given option.Backlog)
     (both_decided (caps_decided (given (name_of option.Caps)))
-    (both_decided (ranged_decided (given (name_of option.High)) (default_of option.High) (least_of option.High) (most_of option.High) (λ high. (low : ℕ) × IsNumber (given (name_of option.Low)) (default_of option.Low) (least_of option.Low) (high - 1) low) (λ high. number_decided (given (name_of option.Low)) (default_of option.Low) (least_of option.Low) (high - 1)))
+    (both_decided (ranged_option given option.High (λ high. (low : ℕ) × IsLow high low)
+    (λ high. number_decided (given (name_of option.Low)) (default_of option.Low) (least_of option.Low) (high - 1)))
     (both_decided (rule_decided (given (name_of option.Rule)) (given (name_of option.Tickets)))
-    (number_decided (given (name_of option.Knee)) (default_of option.Knee) (least_of option.Knee) (most_of option.Knee))))))))))
+    (number_option given option.Knee)))))))))
   where
+    IsLow : ℕ → ℕ → Type 0
+    IsLow high low = IsNumber (given (name_of option.Low)) (default_of option.Low) (least_of option.Low) (high - 1) low
+
     Parts : Type 0
     Parts = ((n : ℕ) × IsNumberOf given option.Chunks n)
         × (((n : ℕ) × IsNumberOf given option.Extra n)
@@ -198,7 +211,7 @@ policy_decided given =
         × (((n : ℕ) × IsNumberOf given option.Fuel n)
         × (((n : ℕ) × IsNumberOf given option.Backlog n)
         × (((caps : List ℕ) × AreCaps (given (name_of option.Caps)) caps)
-        × (((n : ℕ) × (IsNumberOf given option.High n × ((low : ℕ) × IsNumber (given (name_of option.Low)) (default_of option.Low) (least_of option.Low) (n - 1) low)))
+        × (((n : ℕ) × (IsNumberOf given option.High n × ((low : ℕ) × IsLow n low)))
         × (((rule : Rule) × IsRule (given (name_of option.Rule)) (given (name_of option.Tickets)) rule)
         × ((n : ℕ) × IsNumberOf given option.Knee n))))))))
 
@@ -264,7 +277,7 @@ policy_decided given =
 
 pub audit_options_decided : (given : Texts) → Decided ((options : Audit) × IsAudit given options)
 audit_options_decided given =
-    decided_by to from (both_decided (policy_decided given) (number_decided (given (name_of option.Steps)) (default_of option.Steps) (least_of option.Steps) (most_of option.Steps)))
+    decided_by to from (both_decided (policy_decided given) (number_option given option.Steps))
   where
     Parts : Type 0
     Parts = ((policy : Policy) × IsPolicy given policy) × ((n : ℕ) × IsNumberOf given option.Steps n)
