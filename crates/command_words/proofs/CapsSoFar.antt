@@ -7,6 +7,8 @@ use Rattle.std.proofs.lemmas.List.{map-append}
 use Rattle.cap_text.specs.Decimals.{canonical_decimal}
 use Rattle.cap_text.specs.Pieces.{pieces}
 use Rattle.cap_text.proofs.DecimalLaws.{decimal_unique}
+use Rattle.command_words.specs.OptionTable.{least_of, most_of}
+use Rattle.command_words.specs.declared.option_table.CommandOption.TheVariants as option
 use Rattle.command_words.specs.Values.{cap_text, cap_of, caps_of, AreCapsAbove, IsCapsText}
 use Rattle.command_words.proofs.Decimals.{cap_parts, cap_text_is}
 
@@ -89,7 +91,8 @@ one_set caps below (suc (suc (suc (suc (suc (suc (suc (suc n)))))))) most new sm
 
 -- one cap more
 pub one_more : (text field : List ℕ) (left rest : List (List ℕ)) (below resource most : ℕ) (caps now : List ℕ) → AreSoFar text left below caps → left ≡ field ∷ rest
-    → field ≡ cap_text (resource, most) → below < resource → resource ≤ 7 → 1 ≤ most → most ≤ 1000000 → now ≡ slice_set caps resource most → AreSoFar text rest resource now
+    → field ≡ cap_text (resource, most) → below < resource → resource ≤ 7 → least_of option.Caps ≤ most → most ≤ most_of option.Caps
+    → now ≡ slice_set caps resource most → AreSoFar text rest resource now
 one_more text field left rest below resource most caps now so_far parts is new small some few set =
     let read : Caps = so_far.read ++ (resource, most) ∷ [] in
     record {
@@ -112,7 +115,7 @@ one_more text field left rest below resource most caps now so_far parts is new s
 
 -- a next piece that is no cap, or none of a resource above
 pub no_cap : (text field : List ℕ) (left rest : List (List ℕ)) (below : ℕ) (caps : List ℕ) → AreSoFar text left below caps → left ≡ field ∷ rest
-    → ((resource most : ℕ) → below < resource → resource ≤ 7 → 1 ≤ most → most ≤ 1000000 → field ≡ cap_text (resource, most) → ⊥)
+    → ((resource most : ℕ) → below < resource → resource ≤ 7 → least_of option.Caps ≤ most → most ≤ most_of option.Caps → field ≡ cap_text (resource, most) → ⊥)
     → (others : Caps) → IsCapsText text others → ⊥
 no_cap text field left rest below caps so_far parts none others whole = let of = so_far.only others whole in next of.0 (sym parts ∙ of.1) of.2
   where

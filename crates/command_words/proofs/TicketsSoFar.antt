@@ -6,6 +6,8 @@ use Rattle.cap_text.specs.Pieces.{pieces, after_each}
 use Rattle.cap_text.proofs.DecimalLaws.{decimal_unique, decimal_field, FieldEnds}
 use Rattle.cap_text.proofs.PieceLaws.{pieces_joined, text_of_pieces, lacks_decimal}
 use Rattle.command_words.specs.declared.options.Tickets.{Tickets}
+use Rattle.command_words.specs.OptionTable.{least_of, most_of}
+use Rattle.command_words.specs.declared.option_table.CommandOption.TheVariants as option
 use Rattle.command_words.specs.Values.{ticket_text, AreTicketsFrom, IsTicketsText, tickets_of}
 
 abbrev pub Pairs : Type 0
@@ -42,7 +44,7 @@ ticket_of_pieces field thread count e = text_of_pieces 61 field (canonical_decim
 module _ (field : List ℕ) (parts : List (List ℕ)) where
   -- the first is no number
   pub no_thread : parts ≡ pieces 61 field → ((n : ℕ) (rest : List (List ℕ)) → n ≤ 1000000 → parts ≡ canonical_decimal n ∷ rest → ⊥)
-      → (thread count : ℕ) → thread ≤ 1000000 → 1 ≤ count → count ≤ 1024 → field ≡ ticket_text (thread, count) → ⊥
+      → (thread count : ℕ) → thread ≤ 1000000 → least_of option.Tickets ≤ count → count ≤ most_of option.Tickets → field ≡ ticket_text (thread, count) → ⊥
   no_thread is none thread count small some few text = none thread (canonical_decimal count ∷ []) small (is ∙ ap (pieces 61) text ∙ pieces_of_ticket thread count)
 
 module _ (field : List ℕ) (parts left : List (List ℕ)) (first : ℕ) (is : parts ≡ pieces 61 field) (one : parts ≡ canonical_decimal first ∷ left) where
@@ -50,8 +52,8 @@ module _ (field : List ℕ) (parts left : List (List ℕ)) (first : ℕ) (is : p
   all_of thread count text = sym one ∙ is ∙ ap (pieces 61) text ∙ pieces_of_ticket thread count
 
   -- the second is no number
-  pub no_count : ((n : ℕ) (rest : List (List ℕ)) → n ≤ 1024 → left ≡ canonical_decimal n ∷ rest → ⊥)
-      → (thread count : ℕ) → thread ≤ 1000000 → 1 ≤ count → count ≤ 1024 → field ≡ ticket_text (thread, count) → ⊥
+  pub no_count : ((n : ℕ) (rest : List (List ℕ)) → n ≤ most_of option.Tickets → left ≡ canonical_decimal n ∷ rest → ⊥)
+      → (thread count : ℕ) → thread ≤ 1000000 → least_of option.Tickets ≤ count → count ≤ most_of option.Tickets → field ≡ ticket_text (thread, count) → ⊥
   no_count none thread count small some few text = let all = all_of thread count text in none count [] few (cc)
 
 module _ (field : List ℕ) (parts left rest : List (List ℕ)) (first second : ℕ) (is : parts ≡ pieces 61 field) (one : parts ≡ canonical_decimal first ∷ left)
@@ -61,11 +63,11 @@ module _ (field : List ℕ) (parts left rest : List (List ℕ)) (first second : 
   both_of thread count text = ap (λ (l : List (List ℕ)). canonical_decimal first ∷ l) (sym two) ∙ all_of field parts left first is one thread count text
 
   -- a third one
-  pub no_end : (rest ≡ [] → ⊥) → (thread count : ℕ) → thread ≤ 1000000 → 1 ≤ count → count ≤ 1024 → field ≡ ticket_text (thread, count) → ⊥
+  pub no_end : (rest ≡ [] → ⊥) → (thread count : ℕ) → thread ≤ 1000000 → least_of option.Tickets ≤ count → count ≤ most_of option.Tickets → field ≡ ticket_text (thread, count) → ⊥
   no_end more thread count small some few text = let all = both_of thread count text in more (cc)
 
-  -- two numbers, of which the second is 0
-  pub no_tickets : second ≡ 0 → (thread count : ℕ) → thread ≤ 1000000 → 1 ≤ count → count ≤ 1024 → field ≡ ticket_text (thread, count) → ⊥
+  -- two numbers, of which the second is too small
+  pub no_tickets : second < least_of option.Tickets → (thread count : ℕ) → thread ≤ 1000000 → least_of option.Tickets ≤ count → count ≤ most_of option.Tickets → field ≡ ticket_text (thread, count) → ⊥
   no_tickets none thread count small some few text =
       let all = both_of thread count text in
       let same : canonical_decimal second ≡ canonical_decimal count = cc in
@@ -130,7 +132,7 @@ one_set read pair room = by (63 - length read) (omega arith) where
 
 -- one thread more
 pub one_more : (text field : List ℕ) (left rest : List (List ℕ)) (least thread count : ℕ) (tickets now : Tickets) → AreSoFar text left least tickets → left ≡ field ∷ rest
-    → field ≡ ticket_text (thread, count) → least ≤ thread → thread ≤ 1000000 → 1 ≤ count → count ≤ 1024 → tickets.count < 64
+    → field ≡ ticket_text (thread, count) → least ≤ thread → thread ≤ 1000000 → least_of option.Tickets ≤ count → count ≤ most_of option.Tickets → tickets.count < 64
     → now ≡ record { pairs = slice_set tickets.pairs tickets.count (thread, count); count = tickets.count + 1 } → AreSoFar text rest (thread + 1) now
 one_more text field left rest least thread count tickets now so_far parts is above small some few room set =
     let read : Pairs = so_far.read ++ (thread, count) ∷ [] in
@@ -161,7 +163,7 @@ one_more text field left rest least thread count tickets now so_far parts is abo
 
 -- a next piece that is no tickets, or of no thread from `least` on
 pub no_ticket : (text field : List ℕ) (left rest : List (List ℕ)) (least : ℕ) (tickets : Tickets) → AreSoFar text left least tickets → left ≡ field ∷ rest
-    → ((thread count : ℕ) → least ≤ thread → thread ≤ 1000000 → 1 ≤ count → count ≤ 1024 → field ≡ ticket_text (thread, count) → ⊥)
+    → ((thread count : ℕ) → least ≤ thread → thread ≤ 1000000 → least_of option.Tickets ≤ count → count ≤ most_of option.Tickets → field ≡ ticket_text (thread, count) → ⊥)
     → (others : Pairs) → IsTicketsText text others → ⊥
 no_ticket text field left rest least tickets so_far parts none others whole = let of = so_far.only others whole in next of.0 (sym parts ∙ of.1) of.2
   where

@@ -59,4 +59,6 @@ abbrev pub bare_app : App
 bare_app = on_top (λ top. record top { no_binary_name = true; disable_help_flag = true }) (new_app (codes "capriccio"))
 
 abbrev pub words_app : App
-words_app = fold with_option (fold with_option (fold with_option (fold with_option (fold with_place bare_app place_names) placement_table) run_table) shared_table) audit_table
+words_app =
+    let placed = fold with_option (fold with_place bare_app place_names) placement_table in
+    fold with_option (fold with_option (fold with_option placed run_table) shared_table) audit_table

@@ -40,10 +40,11 @@ pub record IsPlacement (given : List ℕ → Option (List ℕ)) (placement : Pla
 abbrev pub cap_text : ℕ × ℕ → List ℕ
 cap_text (resource, most) = canonical_decimal resource ++ 61 ∷ canonical_decimal most
 
--- the resources rise, from above this one to 7, and each cap is from 1 to 1,000,000
+-- the resources rise, from above this one to 7, and each cap is in its range
 abbrev pub AreCapsAbove : ℕ → List (ℕ × ℕ) → Type 0
 AreCapsAbove below [] = ⊤
-AreCapsAbove below ((resource, most) ∷ rest) = (below < resource) × (resource ≤ 7) × (1 ≤ most) × (most ≤ 1000000) × AreCapsAbove resource rest
+AreCapsAbove below ((resource, most) ∷ rest) =
+    (below < resource) × (resource ≤ 7) × (least_of option.Caps ≤ most) × (most ≤ most_of option.Caps) × AreCapsAbove resource rest
 
 -- the cap of a resource, 0 where it has none
 abbrev pub cap_of : List (ℕ × ℕ) → ℕ → ℕ
@@ -70,11 +71,11 @@ AreCaps (Some text) caps = (pairs : List (ℕ × ℕ)) × IsCapsText text pairs 
 abbrev pub ticket_text : ℕ × ℕ → List ℕ
 ticket_text (thread, tickets) = canonical_decimal thread ++ 61 ∷ canonical_decimal tickets
 
--- the threads rise, from this one on to 1,000,000, and each has from 1 to 1,024 tickets
+-- the threads rise, from this one on to 1,000,000, and the tickets of each are in their range
 abbrev pub AreTicketsFrom : ℕ → List (ℕ × ℕ) → Type 0
 AreTicketsFrom least [] = ⊤
 AreTicketsFrom least ((thread, tickets) ∷ rest) =
-    (least ≤ thread) × (thread ≤ 1000000) × (1 ≤ tickets) × (tickets ≤ 1024) × AreTicketsFrom (suc thread) rest
+    (least ≤ thread) × (thread ≤ 1000000) × (least_of option.Tickets ≤ tickets) × (tickets ≤ most_of option.Tickets) × AreTicketsFrom (suc thread) rest
 
 -- the text is the tickets of at most 64 threads, joined by `,` (44)
 pub record IsTicketsText (text : List ℕ) (tickets : List (ℕ × ℕ)) : Type 0 where

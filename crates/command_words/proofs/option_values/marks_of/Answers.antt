@@ -11,7 +11,8 @@ returns-in_err-high-clause-none c = if_none c.from_residual-in_err-high.result (
 pub returns-in_err-low-clause-none : goal.returns-in_err-low-clause-none
 returns-in_err-low-clause-none c =
     if_none c.from_residual-in_err-low.result
-    (no_low (λ name. first_value (found_of c.args.matches.now) name) c.in_ok-high.high c.in_ok-high.ensures.found (rw c.row.ensures.default at c.in_err-low.ensures.none))
+    (no_low (λ name. first_value (found_of c.args.matches.now) name) c.in_ok-high.high c.in_ok-high.ensures.found
+    (rw c.row.ensures.default at c.in_err-low.ensures.none))
 
 pub returns-in_err-knee-clause-none : goal.returns-in_err-knee-clause-none
 returns-in_err-knee-clause-none c = if_none c.from_residual-in_err-knee.result (λ marks is. c.in_err-knee.ensures.none marks.knee is.knee)
