@@ -100,7 +100,8 @@ pub one_policy : (given : Texts) (p q : Policy) → IsPolicy given p → IsPolic
 one_policy given p q is same =
     let chunks = one_chosen (given (name_of option.Chunks)) (default_of option.Chunks) p.chunks q.chunks is.chunks.chosen same.chunks.chosen in
     let extra = one_chosen (given (name_of option.Extra)) (default_of option.Extra) p.extra q.extra is.extra.chosen same.extra.chosen in
-    let extra_bytes = one_chosen (given (name_of option.ExtraSize)) (default_of option.ExtraSize) p.extra_bytes q.extra_bytes is.extra_bytes.chosen same.extra_bytes.chosen in
+    let extra_bytes = one_chosen (given (name_of option.ExtraSize)) (default_of option.ExtraSize) p.extra_bytes q.extra_bytes
+    is.extra_bytes.chosen same.extra_bytes.chosen in
     let fuel = one_chosen (given (name_of option.Fuel)) (default_of option.Fuel) p.fuel q.fuel is.fuel.chosen same.fuel.chosen in
     let backlog = one_chosen (given (name_of option.Backlog)) (default_of option.Backlog) p.backlog q.backlog is.backlog.chosen same.backlog.chosen in
     let caps = one_caps (given (name_of option.Caps)) p.caps q.caps is.caps same.caps in
@@ -108,7 +109,18 @@ one_policy given p q is same =
     let low = one_chosen (given (name_of option.Low)) (default_of option.Low) p.low q.low is.low.chosen same.low.chosen in
     let rule = one_rule (given (name_of option.Rule)) (given (name_of option.Tickets)) p.rule q.rule is.rule same.rule in
     let knee = one_chosen (given (name_of option.Knee)) (default_of option.Knee) p.knee q.knee is.knee.chosen same.knee.chosen in
-    λ i. record { chunks = chunks i; extra = extra i; extra_bytes = extra_bytes i; fuel = fuel i; backlog = backlog i; caps = caps i; high = high i; low = low i; rule = rule i; knee = knee i }
+    λ i. record {
+      chunks = chunks i;
+      extra = extra i;
+      extra_bytes = extra_bytes i;
+      fuel = fuel i;
+      backlog = backlog i;
+      caps = caps i;
+      high = high i;
+      low = low i;
+      rule = rule i;
+      knee = knee i;
+    }
 
 pub one_audit : (given : Texts) (a b : AuditOptions) → IsAudit given a → IsAudit given b → a ≡ b
 one_audit given a b is same =
@@ -124,10 +136,12 @@ no_whole given chunk chosen other p is =
 
 -- a chunk is chosen, and no path in its range
 pub no_path : (given : Texts) (chunk : ℕ) → IsNumberOf given option.Chunk chunk
-    → ((n : ℕ) → IsNumber (given (name_of option.MaxPath)) (default_max_path chunk) (least_of option.MaxPath) (chunk - 16) n → ⊥) → (p : Placement) → IsPlacement given p → ⊥
+    → ((n : ℕ) → IsNumber (given (name_of option.MaxPath)) (default_max_path chunk) (least_of option.MaxPath) (chunk - 16) n → ⊥) → (p : Placement)
+    → IsPlacement given p → ⊥
 no_path given chunk chosen none p is =
     let same = one_chosen (given (name_of option.Chunk)) (default_of option.Chunk) p.chunk chunk is.chunk.chosen chosen.chosen in
-    none p.max_path (subst (λ (c : ℕ). IsNumber (given (name_of option.MaxPath)) (default_max_path c) (least_of option.MaxPath) (c - 16) p.max_path) same is.max_path)
+    none p.max_path
+    (subst (λ (c : ℕ). IsNumber (given (name_of option.MaxPath)) (default_max_path c) (least_of option.MaxPath) (c - 16) p.max_path) same is.max_path)
 
 -- a high mark is chosen, and no low one below it
 pub no_low : (given : Texts) (high : ℕ) → IsNumberOf given option.High high
@@ -154,7 +168,8 @@ other_name given a b is also differ =
     true≢false (sym ((bytes_eq-Decides a b).1 same) ∙ differ)
 
 -- a command of three names, where there aren't three
-pub no_three : (given : Texts) (name : List ℕ) → given (codes "command") ≡ Some name → bytes_eq name (codes "serve") ≡ false → bytes_eq name (codes "graph") ≡ false
+pub no_three : (given : Texts) (name : List ℕ) → given (codes "command") ≡ Some name → bytes_eq name (codes "serve") ≡ false
+    → bytes_eq name (codes "graph") ≡ false
     → bytes_eq name (codes "demo") ≡ false → bytes_eq name (codes "audit") ≡ false → ((n first second third : List ℕ) → HasThree given n first second third → ⊥)
     → (request : Request) → IsAsked given request → ⊥
 no_three given name is serve graph demo audit none (Serve source placement policy) asked = other_name given name (codes "serve") is asked.0.0 serve

@@ -51,7 +51,8 @@ one_among : (options : List Text) (name : Text) → is_among options name ≡ tr
 one_among [] name is = absurd (true≢false (sym is))
 one_among (option ∷ options) name is = go (bytes_eq name option) refl is (one_among options name)
   where
-    go : (b : Bool) → bytes_eq name option ≡ b → (b || is_among options name) ≡ true → (is_among options name ≡ true → IsOneOf options name) → IsOneOf (option ∷ options) name
+    go : (b : Bool) → bytes_eq name option ≡ b → (b || is_among options name) ≡ true → (is_among options name ≡ true → IsOneOf options name)
+        → IsOneOf (option ∷ options) name
     go true e is more = inl ((bytes_eq-Decides name option).0 e)
     go false e is more = inr (more is)
 
@@ -93,7 +94,8 @@ all_differ (option ∷ options) name is =
 
 -- ---- options that are not given
 
-absent : (said : List Said) (options : List Text) (name : Text) → AllByRecursion (IsOneOf options) (options_of said) → AllByRecursion (λ option. bytes_eq option name ≡ false) options
+absent : (said : List Said) (options : List Text) (name : Text) → AllByRecursion (IsOneOf options) (options_of said)
+    → AllByRecursion (λ option. bytes_eq option name ≡ false) options
     → value_of said name ≡ None
 absent [] options name known differ = refl
 absent (Given option value ∷ rest) options name known differ =
@@ -102,7 +104,8 @@ absent (Given option value ∷ rest) options name known differ =
 absent (Positional word ∷ rest) options name known differ = absent rest options name known differ
 
 -- where each option is one of those that are kept, all that are apart from them are lacked
-all_absent : (said : List Said) (kept lacked : List Text) → AllByRecursion (IsOneOf kept) (options_of said) → are_apart kept lacked ≡ true → LacksAll (value_of said) lacked
+all_absent : (said : List Said) (kept lacked : List Text) → AllByRecursion (IsOneOf kept) (options_of said) → are_apart kept lacked ≡ true
+    → LacksAll (value_of said) lacked
 all_absent said kept [] known apart = tt
 all_absent said kept (name ∷ names) known apart =
     let parts = both (is_apart kept name) (are_apart kept names) apart in
@@ -126,10 +129,15 @@ all_left option value rest [] none = tt
 all_left option value rest (name ∷ names) none = (none_left option value rest name none.0, all_left option value rest names none.1)
 
 -- of options that are among two lists, and lack the first, each is of the second
-among_second : (said : List Said) (a b : List Text) → AllByRecursion (IsOneOf (a ++ b)) (options_of said) → LacksAll (value_of said) a → AllByRecursion (IsOneOf b) (options_of said)
+among_second : (said : List Said) (a b : List Text) → AllByRecursion (IsOneOf (a ++ b)) (options_of said) → LacksAll (value_of said) a
+    → AllByRecursion (IsOneOf b) (options_of said)
 among_second [] a b known none = tt
 among_second (Given option value ∷ rest) a b known none = (
-  elim (in_either a b option known.0) [ inl first ↦ absurd (some_given option value rest (at_one (λ o. value_of (Given option value ∷ rest) o ≡ None) a option none first)) | inr second ↦ second ],
+  elim (in_either a b option known.0) [
+    | inl first ↦ absurd
+        (some_given option value rest (at_one (λ o. value_of (Given option value ∷ rest) o ≡ None) a option none first))
+    | inr second ↦ second
+  ],
   among_second rest a b known.1 (all_left option value rest a none),
 )
 among_second (Positional word ∷ rest) a b known none = among_second rest a b known none
@@ -147,15 +155,19 @@ lacks_along : (f g : Texts) (names : List Text) → AreSame f g names → LacksA
 lacks_along f g [] same none = tt
 lacks_along f g (name ∷ names) same none = (sym same.0 ∙ none.0, lacks_along f g names same.1 none.1)
 
-pub lacks : (given : Texts) (said : List Said) (kept lacked : List Text) → AreSame given (value_of said) all_options → AllByRecursion (IsOneOf kept) (options_of said)
+pub lacks : (given : Texts) (said : List Said) (kept lacked : List Text) → AreSame given (value_of said) all_options
+    → AllByRecursion (IsOneOf kept) (options_of said)
     → are_apart kept lacked ≡ true → are_among all_options lacked ≡ true → LacksAll given lacked
 lacks given said kept lacked same known apart among =
-    lacks_along (value_of said) given lacked (turned given (value_of said) lacked (of_some (λ option. given option ≡ value_of said option) all_options lacked among same))
+    lacks_along (value_of said) given lacked (turned given (value_of said) lacked
+    (of_some (λ option. given option ≡ value_of said option) all_options lacked among same))
     (all_absent said kept lacked known apart)
 
 -- all options are kept or lacked
-pub keeps : (given : Texts) (said : List Said) (kept lacked : List Text) → AreSame given (value_of said) all_options → AllByRecursion (IsOneOf all_options) (options_of said)
-    → are_among (lacked ++ kept) all_options ≡ true → are_among all_options lacked ≡ true → LacksAll given lacked → AllByRecursion (IsOneOf kept) (options_of said)
+pub keeps : (given : Texts) (said : List Said) (kept lacked : List Text) → AreSame given (value_of said) all_options
+    → AllByRecursion (IsOneOf all_options) (options_of said)
+    → are_among (lacked ++ kept) all_options ≡ true → are_among all_options lacked ≡ true → LacksAll given lacked
+    → AllByRecursion (IsOneOf kept) (options_of said)
 keeps given said kept lacked same known covered among none =
     among_second said lacked kept (all_in all_options (lacked ++ kept) (options_of said) (within (lacked ++ kept) all_options covered) known)
     (lacks_along given (value_of said) lacked (of_some (λ option. given option ≡ value_of said option) all_options lacked among same) none)

@@ -1,6 +1,6 @@
 -- What of the words reaches the parser, and what it makes of them: one command without subcommands, whose first
 -- positional word is the command's name.
-use Rattle.std.specs.Prelude.{ℕ, ◌≡◌, ◌⊎◌, ◌≤◌, true, List, [], ◌∷◌, ◌++◌, length, codes, fold, slice_get, Option, Some}
+use Rattle.std.specs.Prelude.{ℕ, ◌≡◌, ◌⊎◌, ◌≤◌, true, List, [], ◌∷◌, length, codes, fold, slice_get, Option, Some}
 use Rattle.std.specs.List.{flat_map, AllByRecursion}
 use Rattle.clap.specs.Simple.{App, on_top, new_app, new_rule, with_rule}
 use Rattle.clap.specs.Walk.{Rule}

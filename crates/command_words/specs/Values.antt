@@ -34,7 +34,8 @@ default_max_path chunk = (chunk - 16) / 2 / 16 * 16
 pub record IsPlacement (given : List ℕ → Option (List ℕ)) (placement : Placement) : Type 0 where
   pub chunk : IsNumberOf given option.Chunk placement.chunk
   pub whole : placement.chunk % 16 ≡ 0
-  pub max_path : IsNumber (given (name_of option.MaxPath)) (default_max_path placement.chunk) (least_of option.MaxPath) (placement.chunk - 16) placement.max_path
+  pub max_path : IsNumber (given (name_of option.MaxPath)) (default_max_path placement.chunk) (least_of option.MaxPath)
+      (placement.chunk - 16) placement.max_path
 
 -- a resource and its cap, as `R=N` (61 is `=`)
 abbrev pub cap_text : ℕ × ℕ → List ℕ

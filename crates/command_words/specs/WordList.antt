@@ -64,7 +64,8 @@ IsWordList words (Serve source placement policy) = (said : List Said) × Says wo
     × IsPlacement (value_of said) placement × IsPolicy (value_of said) policy × (placement.chunk * policy.chunks + policy.extra_bytes * policy.extra ≤ 67108864)
 IsWordList words (Run source image certificate policy) = (said : List Said) × Says words (codes "run") (source ∷ image ∷ certificate ∷ []) policy_options said
     × IsPolicy (value_of said) policy
-IsWordList words (Build source image certificate placement) = (said : List Said) × Says words (codes "build") (source ∷ image ∷ certificate ∷ []) placement_options said
+IsWordList words (Build source image certificate placement) = (said : List Said)
+    × Says words (codes "build") (source ∷ image ∷ certificate ∷ []) placement_options said
     × IsPlacement (value_of said) placement
 IsWordList words (Check source image certificate) = (said : List Said) × Says words (codes "check") (source ∷ image ∷ certificate ∷ []) [] said
 IsWordList words (Graph source placement) = (said : List Said) × Says words (codes "graph") (source ∷ []) placement_options said

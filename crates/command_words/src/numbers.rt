@@ -1,5 +1,5 @@
 // Numbers and caps as the values of options.
-ghost use Rattle.std.specs.Prelude.{ℕ, List, ◌≡◌, ◌<◌, ◌≤◌, ◌∷◌, map, option_map, IfSome, IfNone};
+ghost use Rattle.std.specs.Prelude.{ℕ, List, ◌≡◌, ◌<◌, ◌≤◌, option_map, IfSome, IfNone};
 ghost use Rattle.command_words.specs.OptionTable.{least_of, most_of};
 ghost use Rattle.command_words.specs.declared.option_table.CommandOption.TheVariants as option;
 ghost use Rattle.command_words.specs.Values.{IsNumber, AreCaps, IsCapsText, caps_of, cap_text};

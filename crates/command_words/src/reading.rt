@@ -1,5 +1,5 @@
 // A command out of the texts that were parsed.
-ghost use Rattle.std.specs.Prelude.{ℕ, List, ◌≡◌, ◌≤◌, ◌*◌, ◌↔◌, IsTrue, IfSome, IfNone, Some, None, is_none, codes, option_map};
+ghost use Rattle.std.specs.Prelude.{ℕ, List, ◌≡◌, ◌*◌, ◌↔◌, IsTrue, IfSome, IfNone, Some, None, is_none, codes};
 ghost use Rattle.clap.specs.Words.{first_value, found_of};
 ghost use Rattle.command_words.specs.OptionTable.{names_of};
 ghost use Rattle.command_words.specs.WordList.{Request, Serve, Run, Build, Check, Graph, Demo, Budget, request_of, audit_options, placement_options, policy_options, run_options};
@@ -157,7 +157,8 @@ fn audit<'a>(matches: &ArgMatches<'a>) -> Option<Command<'a>>
 
 /// The one positional word behind the command.
 fn one_name<'a>(matches: &ArgMatches<'a>) -> Option<&'a str>
-    ensures found { IfSome result (λ word. (first_value (found_of matches.now) (codes "first") ≡ Some word.now) × (first_value (found_of matches.now) (codes "second") ≡ None)) }
+    ensures found { IfSome result (λ word. (first_value (found_of matches.now) (codes "first") ≡ Some word.now)
+        × (first_value (found_of matches.now) (codes "second") ≡ None)) }
     ensures none { IfNone result ((name word : List ℕ) → HasOne (λ name. first_value (found_of matches.now) name) name word → ⊥) }
 {
     match (matches.get_str("first"), matches.get_str("second")) {

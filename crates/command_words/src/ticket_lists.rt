@@ -17,7 +17,8 @@ const MOST_THREAD: u64 = 1_000_000;
 /// tickets are given beside the rule by the graph, or where their text is no list of tickets.
 pub(crate) fn rule(given: Option<&str>, tickets_given: Option<&str>) -> Option<Rule>
     ensures found { IfSome result (λ rule. IsRule (option_map (λ text. text.now) given.entry) (option_map (λ text. text.now) tickets_given.entry) rule) }
-    ensures none { IfNone result ((rule : Rule) → IsRule (option_map (λ text. text.now) given.entry) (option_map (λ text. text.now) tickets_given.entry) rule → ⊥) }
+    ensures none { IfNone result ((rule : Rule) → IsRule (option_map (λ text. text.now) given.entry)
+        (option_map (λ text. text.now) tickets_given.entry) rule → ⊥) }
 {
     match name_of(given) {
         "graph" => tickets_given.is_none().then_some(Rule::Graph),

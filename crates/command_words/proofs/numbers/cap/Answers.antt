@@ -41,7 +41,8 @@ returns-clause-found c =
     let stripped = strip_prefix_is Decides-eqb c.in_ok-digit.rest.now (61 ∷ []) (Some c.in-Some.number) c.in-Some.ensures.cases in
     let digit : 48 + c.from.result ≡ c.in_ok-digit.digit.now = omega arith in
     let small : c.from.result ≤ 7 = omega arith in
-    let parts : c.in_ok-digit.digit.now ∷ c.in_ok-digit.rest.now ≡ (48 + c.from.result) ∷ 61 ∷ canonical_decimal c.in-Ok.most = cc (stripped, c.in-Ok.ensures.number.0) in (
+    let parts : c.in_ok-digit.digit.now ∷ c.in_ok-digit.rest.now ≡ (48 + c.from.result) ∷ 61 ∷ canonical_decimal c.in-Ok.most = cc
+    (stripped, c.in-Ok.ensures.number.0) in (
       c.in_ok-digit.ensures.cases.0 ∙ parts ∙ sym (cap_text_is c.from.result c.in-Ok.most small),
       omega arith,
       small,

@@ -4,7 +4,8 @@ use Rattle.command_words.proofs.option_values.policy.Goals as goal
 
 pub returns-in_err-chunks-clause-none : goal.returns-in_err-chunks-clause-none
 returns-in_err-chunks-clause-none c =
-    if_none c.from_residual.result (λ policy is. c.in_err-chunks.ensures.none _ (room_of_policy (λ name. first_value (found_of c.args.matches.now) name) policy is))
+    if_none c.from_residual.result (λ policy is. c.in_err-chunks.ensures.none _
+    (room_of_policy (λ name. first_value (found_of c.args.matches.now) name) policy is))
 
 pub returns-in_err-caps-clause-none : goal.returns-in_err-caps-clause-none
 returns-in_err-caps-clause-none c =

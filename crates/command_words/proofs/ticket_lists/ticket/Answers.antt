@@ -18,10 +18,16 @@ returns-in_err-end-clause-none c =
 
 pub returns-then-count-row-clause-none : goal.returns-then-count-row-clause-none
 returns-then-count-row-clause-none c =
-    no_tickets c.args.field.now _ _ _ _ _ c.new-parts.ensures c.in_ok-thread.ensures.found.0 c.in_ok-count.ensures.found.0 (omega (arith, c.row-row.ensures.least))
+    no_tickets c.args.field.now _ _ _ _ _ c.new-parts.ensures c.in_ok-thread.ensures.found.0 c.in_ok-count.ensures.found.0
+    (omega (arith, c.row-row.ensures.least))
 
 pub returns-clause-found : goal.returns-clause-found
 returns-clause-found c =
     let thread = c.in_ok-thread.ensures.found in
-    let count = c.in_ok-count.ensures.found in
-    (ticket_read c.args.field.now _ _ _ _ _ c.new-parts.ensures thread.0 count.0 c.in_ok-end.ensures.found, thread.1, omega (arith, c.row-row.ensures.least), rw c.row-row.ensures.most at count.1)
+    let count = c.in_ok-count.ensures.found in (
+      ticket_read c.args.field.now _ _ _ _ _ c.new-parts.ensures thread.0 count.0 c.in_ok-end.ensures.found,
+      thread.1,
+      omega
+          (arith, c.row-row.ensures.least),
+      rw c.row-row.ensures.most at count.1,
+    )
