@@ -105,4 +105,5 @@ IsJudged g trace log reads reads' (Err (Refused cause)) = ⊥
 -- what is said of this log of this program is what the command does
 abbrev pub LeadsToAudit : Option Files → (source_name log_name log : List ℕ) → ProgramTree → Type 0
 LeadsToAudit files source_name log_name log program =
-    (trace : Option (List ℕ)) (options : AuditOptions) (outcome : Outcome) → AuditsProgram trace options log program outcome → Audits files trace source_name log_name options outcome
+    (trace : Option (List ℕ)) (options : AuditOptions) (outcome : Outcome) → AuditsProgram trace options log program outcome
+    → Audits files trace source_name log_name options outcome

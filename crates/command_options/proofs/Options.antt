@@ -45,7 +45,8 @@ none-most (suc n) (suc r) = none-most n r
 
 caps-in-range : (given : Option (List ℕ)) (caps : List ℕ) → AreCaps given caps → (r : ℕ) → slice_index caps r ≤ 1000000
 caps-in-range None caps h r = subst (λ (xs : List ℕ). slice_index xs r ≤ 1000000) (sym h) (none-most 8 r)
-caps-in-range (Some text) caps h r = let is = h.1 in subst (λ (xs : List ℕ). slice_index xs r ≤ 1000000) (sym h.2) (caps-most h.0 is.in_range (0 ∷ 1 ∷ 2 ∷ 3 ∷ 4 ∷ 5 ∷ 6 ∷ 7 ∷ []) r)
+caps-in-range (Some text) caps h r = let is = h.1 in subst (λ (xs : List ℕ). slice_index xs r ≤ 1000000) (sym h.2)
+    (caps-most h.0 is.in_range (0 ∷ 1 ∷ 2 ∷ 3 ∷ 4 ∷ 5 ∷ 6 ∷ 7 ∷ []) r)
 
 -- the tickets that are handed out are those of the text
 taken-pairs : (pairs : List (ℕ × ℕ)) (n : ℕ) → take (length pairs) (pairs ++ replicate n (0, 0)) ≡ pairs
@@ -91,14 +92,17 @@ run-policy-of given policy h =
     }
 
 -- a list for `build`
-pub build-sizes : (words : List (List ℕ)) (source image certificate : List ℕ) (placement : Placement) → IsWordList words (Build source image certificate placement) → AreInRange (sizes_of placement)
+pub build-sizes : (words : List (List ℕ)) (source image certificate : List ℕ) (placement : Placement)
+    → IsWordList words (Build source image certificate placement) → AreInRange (sizes_of placement)
 build-sizes words source image certificate placement h = in-range _ placement h.2
 
 -- a list for `serve`
-pub serve-sizes : (words : List (List ℕ)) (source : List ℕ) (placement : Placement) (policy : Policy) → IsWordList words (Serve source placement policy) → AreInRange (sizes_of placement)
+pub serve-sizes : (words : List (List ℕ)) (source : List ℕ) (placement : Placement) (policy : Policy) → IsWordList words (Serve source placement policy)
+    → AreInRange (sizes_of placement)
 serve-sizes words source placement policy h = in-range _ placement h.2
 
-pub serve-policy : (words : List (List ℕ)) (source : List ℕ) (placement : Placement) (policy : Policy) → IsWordList words (Serve source placement policy) → IsRunPolicy policy
+pub serve-policy : (words : List (List ℕ)) (source : List ℕ) (placement : Placement) (policy : Policy) → IsWordList words (Serve source placement policy)
+    → IsRunPolicy policy
 serve-policy words source placement policy h = run-policy-of _ policy h.3
 
 pub serve-pool : (words : List (List ℕ)) (source : List ℕ) (placement : Placement) (policy : Policy) → IsWordList words (Serve source placement policy) →
@@ -108,7 +112,8 @@ serve-pool words source placement policy h =
     subst (λ n. n ≤ 67108864) (λ i. mul_comm chunk chunks i + mul_comm bytes extra i) h.4
 
 -- a list for `run`
-pub run-policy : (words : List (List ℕ)) (source image certificate : List ℕ) (policy : Policy) → IsWordList words (Run source image certificate policy) → IsRunPolicy policy
+pub run-policy : (words : List (List ℕ)) (source image certificate : List ℕ) (policy : Policy) → IsWordList words (Run source image certificate policy)
+    → IsRunPolicy policy
 run-policy words source image certificate policy h = run-policy-of _ policy h.2
 
 -- ---- a list for `audit`
@@ -122,5 +127,6 @@ audit-options-of given options h =
     let policy = h.policy in
     record { run = run-policy-of given options.policy policy; cap_count = caps-count _ options.policy.caps policy.caps; steps = h.steps.not_more }
 
-pub audit-options : (words : List (List ℕ)) (source log : List ℕ) (options : AuditOptions) → IsWordList words (Audit source log options) → AreAuditOptions options
+pub audit-options : (words : List (List ℕ)) (source log : List ℕ) (options : AuditOptions) → IsWordList words (Audit source log options)
+    → AreAuditOptions options
 audit-options words source log options h = audit-options-of _ options h.2

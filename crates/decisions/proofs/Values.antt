@@ -1,5 +1,5 @@
 -- The values of the options, or that the texts are none.
-use Rattle.std.proofs.Common.{◌≡◌, ◌∙◌, ℕ, zero, suc, ◌+◌, ◌*◌, ◌-◌, ◌<◌, ◌≤◌, ◌%◌, ◌⊎◌, inl, inr, List, [], ◌∷◌, length, map, replicate, Option, Some, None, refl, sym, ap, subst, arith, codes}
+use Rattle.std.proofs.Common.{◌≡◌, ◌∙◌, ℕ, suc, ◌-◌, ◌<◌, ◌≤◌, ◌%◌, ◌⊎◌, inl, inr, List, [], ◌∷◌, length, map, replicate, Option, Some, None, refl, ap, arith, codes}
 use Rattle.std.proofs.lemmas.List.{length-map}
 use Rattle.cap_text.specs.Decimals.{canonical_decimal}
 use Rattle.cap_text.specs.Pieces.{pieces}
@@ -12,9 +12,9 @@ use Rattle.command_words.specs.declared.options.Tickets.{Tickets}
 use Rattle.command_words.specs.OptionTable.{name_of, default_of, least_of, most_of}
 use Rattle.command_words.specs.declared.option_table.CommandOption.{CommandOption}
 use Rattle.command_words.specs.declared.option_table.CommandOption.TheVariants as option
-use Rattle.command_words.specs.Values.{IsChosen, IsNumber, IsNumberOf, default_max_path, IsPlacement, cap_text, AreCapsAbove, caps_of, IsCapsText, AreCaps, ticket_text, AreTicketsFrom, IsTicketsText, tickets_of, AreTickets, rule_name, IsAudit, IsRule, IsPolicy}
+use Rattle.command_words.specs.Values.{IsChosen, IsNumber, IsNumberOf, default_max_path, IsPlacement, cap_text, AreCapsAbove, caps_of, AreCaps, ticket_text, AreTicketsFrom, tickets_of, AreTickets, rule_name, IsAudit, IsRule, IsPolicy}
 use Rattle.decisions.specs.Decided.{Decided}
-use Rattle.decisions.proofs.Decisions.{Below, decided_by, both_decided, either_decided, then_decided, below_decided, le_decided, lt_decided, number_same, text_same, option_same}
+use Rattle.decisions.proofs.Decisions.{Below, decided_by, both_decided, either_decided, below_decided, le_decided, lt_decided, number_same, text_same, option_same}
 
 abbrev Texts : Type 0
 Texts = List ℕ → Option (List ℕ)
@@ -32,7 +32,8 @@ is_number_decided given default least most n =
     (both_decided (chosen_decided given default n) (both_decided (le_decided least n) (le_decided n most)))
 
 -- some number is in the range and has what is decided of each
-pub ranged_decided : (given : Option (List ℕ)) (default least most : ℕ) (P : ℕ → Type 0) → ((n : ℕ) → Decided (P n)) → Decided ((n : ℕ) × (IsNumber given default least most n × P n))
+pub ranged_decided : (given : Option (List ℕ)) (default least most : ℕ) (P : ℕ → Type 0) → ((n : ℕ) → Decided (P n))
+    → Decided ((n : ℕ) × (IsNumber given default least most n × P n))
 ranged_decided given default least most P each =
     decided_by (λ (b : Below (λ n. IsNumber given default least most n × P n) (suc most)). (b.0, b.1.1))
     (λ h. (h.0, ((let below = h.1.0.not_more in omega (arith, below)), h.1)))
@@ -60,7 +61,8 @@ placement_decided given =
     (number_decided (given (name_of option.MaxPath)) (default_max_path chunk) (least_of option.MaxPath) (chunk - 16))))
   where
     Rest : ℕ → Type 0
-    Rest chunk = (chunk % 16 ≡ 0) × ((path : ℕ) × IsNumber (given (name_of option.MaxPath)) (default_max_path chunk) (least_of option.MaxPath) (chunk - 16) path)
+    Rest chunk = (chunk % 16 ≡ 0) × ((path : ℕ)
+        × IsNumber (given (name_of option.MaxPath)) (default_max_path chunk) (least_of option.MaxPath) (chunk - 16) path)
 
     Sizes : Type 0
     Sizes = (chunk : ℕ) × (IsNumberOf given option.Chunk chunk × Rest chunk)
@@ -82,11 +84,13 @@ caps_from : (fields : List (List ℕ)) (below : ℕ) → Decided (CapsFrom field
 caps_from [] below = inl ([], (refl, tt))
 caps_from (field ∷ fields) below = by 8 1000001 refl refl (λ n. caps_from fields n) where
   first : ((n : ℕ) → Decided (CapsFrom fields n)) → (resource most : ℕ) → Decided (FirstCap field fields below resource most)
-  first again resource most = both_decided (both_decided (text_same field (cap_text (resource, most))) (both_decided (lt_decided below resource) (le_decided 1 most))) (again resource)
+  first again resource most = both_decided (both_decided (text_same field (cap_text (resource, most)))
+      (both_decided (lt_decided below resource) (le_decided 1 most))) (again resource)
 
   search : ((n : ℕ) → Decided (CapsFrom fields n)) → (resources mosts : ℕ) → Decided (SomeCap field fields below resources mosts)
   search again resources mosts =
-      below_decided (λ resource. Below (λ most. FirstCap field fields below resource most) mosts) (λ resource. below_decided (λ most. FirstCap field fields below resource most) (first again resource) mosts) resources
+      below_decided (λ resource. Below (λ most. FirstCap field fields below resource most) mosts)
+      (λ resource. below_decided (λ most. FirstCap field fields below resource most) (first again resource) mosts) resources
 
   to : (resources mosts : ℕ) → resources ≡ 8 → mosts ≡ 1000001 → SomeCap field fields below resources mosts → CapsFrom (field ∷ fields) below
   to resources mosts r m b =
@@ -130,11 +134,13 @@ tickets_from : (fields : List (List ℕ)) (least : ℕ) → Decided (TicketsFrom
 tickets_from [] least = inl ([], (refl, tt))
 tickets_from (field ∷ fields) least = by 1000001 1025 refl refl (λ n. tickets_from fields n) where
   first : ((n : ℕ) → Decided (TicketsFrom fields n)) → (thread count : ℕ) → Decided (FirstTicket field fields least thread count)
-  first again thread count = both_decided (both_decided (text_same field (ticket_text (thread, count))) (both_decided (le_decided least thread) (le_decided 1 count))) (again (suc thread))
+  first again thread count = both_decided (both_decided (text_same field (ticket_text (thread, count)))
+      (both_decided (le_decided least thread) (le_decided 1 count))) (again (suc thread))
 
   search : ((n : ℕ) → Decided (TicketsFrom fields n)) → (threads counts : ℕ) → Decided (SomeTicket field fields least threads counts)
   search again threads counts =
-      below_decided (λ thread. Below (λ count. FirstTicket field fields least thread count) counts) (λ thread. below_decided (λ count. FirstTicket field fields least thread count) (first again thread) counts) threads
+      below_decided (λ thread. Below (λ count. FirstTicket field fields least thread count) counts)
+      (λ thread. below_decided (λ count. FirstTicket field fields least thread count) (first again thread) counts) threads
 
   to : (threads counts : ℕ) → threads ≡ 1000001 → counts ≡ 1025 → SomeTicket field fields least threads counts → TicketsFrom (field ∷ fields) least
   to threads counts r m b =

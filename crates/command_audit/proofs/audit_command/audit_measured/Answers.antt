@@ -18,5 +18,7 @@ returns-in-Ok g c =
     let S = g.S.Source in let a = c.args in let after = c.audit.new.trace in
     let tree = program_tree a.program.now in
     let told = rw c.limits_of.ensures at c.audit.ensures.verdict in
-    let judged_so = subst (λ (x : Given). IsJudged x (S.left a.trace.now) a.log.now c.audit.result) (given-is tree a.options c.in-Ok.monitor c.in-Ok.ensures) told in
-    rw c.judgement_of.ensures (judged (reading_of tree a.options) (S.left a.trace.now) a.log.now (S.faults a.trace.now) (S.faults after) c.audit.result judged_so c.audit.ensures.counts)
+    let judged_so = subst (λ (x : Given). IsJudged x (S.left a.trace.now) a.log.now c.audit.result)
+    (given-is tree a.options c.in-Ok.monitor c.in-Ok.ensures) told in
+    rw c.judgement_of.ensures (judged (reading_of tree a.options) (S.left a.trace.now) a.log.now (S.faults a.trace.now)
+    (S.faults after) c.audit.result judged_so c.audit.ensures.counts)
