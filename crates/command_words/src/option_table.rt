@@ -2,9 +2,9 @@
 ghost use Rattle.std.specs.Prelude.{◌≡◌};
 ghost use Rattle.command_words.specs.OptionTable.{long_name_of, row_of};
 
-/// An option of the command line.
+/// An option of the command line. Its row of the table has its name, its default and its range.
 #[derive(Clone, Copy)]
-pub(crate) enum CommandOption {
+pub enum CommandOption {
     /// The size of a chunk, in bytes: a multiple of 16.
     Chunk,
     /// The longest path between two checkpoints, in bytes. Both numbers depend on the chunk: at most its size
