@@ -44,7 +44,7 @@ use Rattle.capriccio_call.proofs.ToldFiles.{does-asked, loaded, outcome-of, prog
 
 -- ---- what is said of the log
 
-caps-small : (options : AuditOptions) (caps : List ℕ) → AreAuditOptions options → caps ≡ options.caps → AreCapsSmall caps
+caps-small : (options : AuditOptions) (caps : List ℕ) → AreAuditOptions options → caps ≡ options.policy.caps → AreCapsSmall caps
 caps-small options caps ranges same = λ r some lt.
     let small = subst (λ (its : List ℕ). slice_index its r ≤ 1000000) (sym same) (ranges.run.caps r some lt) in omega (arith, small)
 

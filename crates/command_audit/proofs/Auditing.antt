@@ -1,8 +1,7 @@
 -- What is due of a log that is judged, and how the command ends by what is said of it.
-use Rattle.std.proofs.Common.{◌≡◌, ◌≢◌, ◌⊎◌, ℕ, List, Option, Some, None, Result, Ok, Err, refl, sym, subst, ◌∙◌, inl, inr, arith, ⊎_elim}
+use Rattle.std.proofs.Common.{◌≡◌, ◌≢◌, ℕ, List, Option, Some, None, Result, Ok, Err, refl, sym, subst, ◌∙◌, inl, arith}
 use Rattle.std.specs.Prelude.{true}
 use Rattle.std.specs.Io.KnownBytes.{Keeps}
-use Rattle.std.proofs.lemmas.Bool.{cases_order}
 use Rattle.cap_io.specs.Files.{Files, KeepsFiles}
 use Rattle.c_tree.specs.Trees.{ProgramTree}
 use Rattle.choice_rules.specs.Policy.{by_graph}
@@ -25,12 +24,13 @@ use Rattle.command_outcomes.specs.Steps.{EndsAs, IsPrinted, IsShelfStop, IsStatu
 use Rattle.command_files.specs.Loaded.{IsLoaded}
 use Rattle.command_outcomes.proofs.Ending.{kept-are-stored, keeps-itself, printed-ends, stopped-reading}
 use Rattle.command_files.proofs.Follows.{load-before, load-follows, loaded, shelf-stop-follows, source-follows, stop-on-shelf}
-use Rattle.command_options.specs.Options.{AreAuditOptions, as_run, IsNewMonitor}
+use Rattle.command_options.specs.Options.{AreAuditOptions, IsNewMonitor}
 use Rattle.command_audit.specs.Audits.{Audits, AuditsBytes, AuditsProgram, IsJudged, LeadsToAudit, audit_limits, judged_as, judged_outcome, judgement_line, judgement_status, reading_of}
 
 -- ---- what the audit is given
 
-pub may-audit : (options : AuditOptions) (monitor : MonitorState) → AreAuditOptions options → IsNewMonitor (as_run options) monitor → MayAudit (audit_limits options) monitor
+pub may-audit : (options : AuditOptions) (monitor : MonitorState) → AreAuditOptions options → IsNewMonitor options.policy monitor
+    → MayAudit (audit_limits options) monitor
 may-audit options monitor are is =
     let run = are.run in
     let chunks = run.chunks in
@@ -49,16 +49,17 @@ may-audit options monitor are is =
       gate = is.gate;
     }
 
-pub given-is : (program : ProgramTree) (options : AuditOptions) (monitor : MonitorState) → IsNewMonitor (as_run options) monitor → given_of program (audit_limits options) monitor ≡ reading_of program options
+pub given-is : (program : ProgramTree) (options : AuditOptions) (monitor : MonitorState) → IsNewMonitor options.policy monitor
+    → given_of program (audit_limits options) monitor ≡ reading_of program options
 given-is program options monitor is = λ i. record {
   program = program;
   policy = record {
     chunks = (audit_limits options).chunks;
     extra = 0;
     extra_bytes = 0;
-    fuel = options.fuel;
-    backlog = options.backlog;
-    caps = options.caps;
+    fuel = options.policy.fuel;
+    backlog = options.policy.backlog;
+    caps = options.policy.caps;
     curves = is.curves i;
     high = is.high i;
     low = is.low i;
@@ -69,7 +70,8 @@ given-is program options monitor is = λ i. record {
 
 -- ---- what it says
 
-pub judged : (g : Given) (left : Option (List ℕ)) (log : List ℕ) (old new : ℕ) (answer : Result Verdict Failure) → audit.IsJudged g left log answer → CountsReads answer old new → IsJudged g left log old new (judged_as answer)
+pub judged : (g : Given) (left : Option (List ℕ)) (log : List ℕ) (old new : ℕ) (answer : Result Verdict Failure) → audit.IsJudged g left log answer
+    → CountsReads answer old new → IsJudged g left log old new (judged_as answer)
 judged g left log old new (Ok verdict) is counts = (is, counts)
 judged g left log old new (Err Failure.Read) is counts = counts
 judged g left log old new (Err Failure.Memory) is counts = tt
@@ -80,23 +82,29 @@ judged g left log old new (Err Failure.Memory) is counts = tt
 pub reads-no-run : (trace : Option (List ℕ)) (options : AuditOptions) (log : List ℕ) (program : ProgramTree) →
     ((outcome : Outcome) → AuditsProgram trace options log program outcome → outcome.reads_trace ≡ true → outcome.last ≢ None) → ⊥
 reads-no-run None options log program all = all (judged_outcome Verdict.Lawful) (Verdict.Lawful, tt, refl) refl refl
-reads-no-run (Some bytes) options log program all = let said = some_verdict (reading_of program options) bytes log in all (judged_outcome said.0) (said.0, said.1, refl) refl refl
+reads-no-run (Some bytes) options log program all = let said = some_verdict (reading_of program options) bytes log in all (judged_outcome said.0)
+    (said.0, said.1, refl) refl refl
 
-pub unjudged : (before after : Outside) (options : AuditOptions) (log : List ℕ) (program : ProgramTree) (stop : Stop) → KeepsFiles before.files after.files → after.loads ≡ before.loads → after.stores ≡ before.stores →
+pub unjudged : (before after : Outside) (options : AuditOptions) (log : List ℕ) (program : ProgramTree) (stop : Stop) → KeepsFiles before.files after.files
+    → after.loads ≡ before.loads → after.stores ≡ before.stores →
     after.taken ≡ before.taken → after.writes ≡ before.writes → IsJudged (reading_of program options) before.left log before.reads after.reads (Err stop) →
     EndsAs IsStatus (AuditsProgram before.left options log program) before after (Err stop)
 unjudged before after options log program (Failed fault) files loads stores taken writes h =
-    stopped-reading IsStatus (AuditsProgram before.left options log program) before after fault (reads-no-run before.left options log program) files (same before.taken after.taken taken) loads stores writes h
+    stopped-reading IsStatus (AuditsProgram before.left options log program) before after fault (reads-no-run before.left options log program) files
+    (same before.taken after.taken taken) loads stores writes h
   where
     same : (old new : Option (List ℕ)) → new ≡ old → Keeps old new
     same old new e = subst (λ (t : Option (List ℕ)). Keeps old t) (sym e) (keeps-itself old)
 unjudged before after options log program (Refused cause) files loads stores taken writes h = absurd h
 
-pub judgement-told : (before after : Outside) (options : AuditOptions) (log : List ℕ) (program : ProgramTree) (is : Verdict) (answer : Result ℕ Stop) → KeepsFiles before.files after.files → after.loads ≡ before.loads → after.stores ≡ before.stores →
-    IsJudged (reading_of program options) before.left log before.reads after.reads (Ok is) → IsPrinted (judgement_status is) (judgement_line is) before.taken after.taken before.writes after.writes answer →
+pub judgement-told : (before after : Outside) (options : AuditOptions) (log : List ℕ) (program : ProgramTree) (is : Verdict) (answer : Result ℕ Stop)
+    → KeepsFiles before.files after.files → after.loads ≡ before.loads → after.stores ≡ before.stores →
+    IsJudged (reading_of program options) before.left log before.reads after.reads (Ok is)
+    → IsPrinted (judgement_status is) (judgement_line is) before.taken after.taken before.writes after.writes answer →
     EndsAs IsStatus (AuditsProgram before.left options log program) before after answer
 judgement-told before after options log program is answer files loads stores h printed =
-    printed-ends (AuditsProgram before.left options log program) before after (judged_outcome is) answer (is, h.0, refl) refl refl tt (kept-are-stored before.files after.files files) loads stores h.1 printed
+    printed-ends (AuditsProgram before.left options log program) before after (judged_outcome is) answer (is, h.0, refl) refl refl tt
+    (kept-are-stored before.files after.files files) loads stores h.1 printed
 
 -- ---- the loads
 
@@ -105,17 +113,20 @@ pub no-source : (files : Option Files) (trace : Option (List ℕ)) (source_name 
     IsShelfStop (AfterLoad document.Source files source_name NoMore) old new stop → IsShelfStop (Audits files trace source_name log_name options) old new stop
 no-source files trace source_name log_name options old new stop h =
     shelf-stop-follows (AfterLoad document.Source files source_name NoMore) (Audits files trace source_name log_name options) old new stop
-    (λ o. load-follows document.Source files source_name NoMore (λ source. AfterLoad document.Log files log_name (AuditsBytes trace options source)) o (λ bytes x. absurd x)) h
+    (λ o. load-follows document.Source files source_name NoMore (λ source. AfterLoad document.Log files log_name (AuditsBytes trace options source)) o
+    (λ bytes x. absurd x)) h
 
 -- what is due of the bytes of both files
-of-both : (a b : Option Files) (trace : Option (List ℕ)) (source_name log_name source : List ℕ) (options : AuditOptions) (o : Outcome) → IsLoaded document.Source a source_name source → KeepsFiles a b →
+of-both : (a b : Option Files) (trace : Option (List ℕ)) (source_name log_name source : List ℕ) (options : AuditOptions) (o : Outcome)
+    → IsLoaded document.Source a source_name source → KeepsFiles a b →
     AfterLoad document.Log b log_name (AuditsBytes trace options source) o → Audits a trace source_name log_name options o
 of-both a b trace source_name log_name source options o is keeps h =
     loaded document.Source a source_name source (λ s. AfterLoad document.Log a log_name (AuditsBytes trace options s)) o is
     (load-before document.Log a b log_name (AuditsBytes trace options source) o keeps h)
 
 -- a log that isn't loaded
-pub no-log : (a b : Option Files) (trace : Option (List ℕ)) (source_name log_name source : List ℕ) (options : AuditOptions) (l m n : ℕ) (stop : Stop) → IsLoaded document.Source a source_name source → KeepsFiles a b → m ≡ l →
+pub no-log : (a b : Option Files) (trace : Option (List ℕ)) (source_name log_name source : List ℕ) (options : AuditOptions) (l m n : ℕ) (stop : Stop)
+    → IsLoaded document.Source a source_name source → KeepsFiles a b → m ≡ l →
     IsShelfStop (AfterLoad document.Log b log_name NoMore) m n stop → IsShelfStop (Audits a trace source_name log_name options) l n stop
 no-log a b trace source_name log_name source options l m n stop is keeps same h =
     subst (λ (k : ℕ). IsShelfStop (Audits a trace source_name log_name options) k n stop) same
@@ -124,7 +135,8 @@ no-log a b trace source_name log_name source options l m n stop is keeps same h 
     (load-follows document.Log b log_name NoMore (AuditsBytes trace options source) o (λ bytes y. absurd y) x)) h)
 
 -- a source that isn't read
-pub no-program : (a b : Option Files) (trace : Option (List ℕ)) (source_name log_name source log : List ℕ) (options : AuditOptions) (l m n : ℕ) (stop : Stop) → IsLoaded document.Source a source_name source → KeepsFiles a b → m ≡ l →
+pub no-program : (a b : Option Files) (trace : Option (List ℕ)) (source_name log_name source log : List ℕ) (options : AuditOptions) (l m n : ℕ) (stop : Stop)
+    → IsLoaded document.Source a source_name source → KeepsFiles a b → m ≡ l →
     IsLoaded document.Log b log_name log → n ≡ m → IsStop (AfterSource source NoMore) stop → IsShelfStop (Audits a trace source_name log_name options) l n stop
 no-program a b trace source_name log_name source log options l m n stop is keeps same also again h =
     stop-on-shelf (AfterSource source NoMore) (Audits a trace source_name log_name options) l n stop
@@ -133,11 +145,14 @@ no-program a b trace source_name log_name source log options l m n stop is keeps
     (source-follows source NoMore (AuditsProgram trace options log) o (λ program y. absurd y) x))) (again ∙ same) h
 
 -- both are loaded, and the source is read
-pub leads-to-audit : (a b : Option Files) (source_name log_name source log : List ℕ) (program : ProgramTree) → IsLoaded document.Source a source_name source → KeepsFiles a b → IsLoaded document.Log b log_name log →
+pub leads-to-audit : (a b : Option Files) (source_name log_name source log : List ℕ) (program : ProgramTree) → IsLoaded document.Source a source_name source
+    → KeepsFiles a b → IsLoaded document.Log b log_name log →
     IsSourceText source program → LeadsToAudit a source_name log_name log program
 leads-to-audit a b source_name log_name source log program is keeps also text = λ trace options o due.
-    of-both a b trace source_name log_name source options o is keeps (loaded document.Log b log_name log (AuditsBytes trace options source) o also (inl (program, text, due)))
+    of-both a b trace source_name log_name source options o is keeps
+    (loaded document.Log b log_name log (AuditsBytes trace options source) o also (inl (program, text, due)))
 
-pub audit-follows : (files : Option Files) (source_name log_name log : List ℕ) (program : ProgramTree) (trace : Option (List ℕ)) (options : AuditOptions) → LeadsToAudit files source_name log_name log program →
+pub audit-follows : (files : Option Files) (source_name log_name log : List ℕ) (program : ProgramTree) (trace : Option (List ℕ)) (options : AuditOptions)
+    → LeadsToAudit files source_name log_name log program →
     (o : Outcome) → AuditsProgram trace options log program o → Audits files trace source_name log_name options o
 audit-follows files source_name log_name log program trace options leads o due = leads trace options o due

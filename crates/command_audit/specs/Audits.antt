@@ -25,15 +25,15 @@ use Rattle.command_outcomes.specs.Steps.{IsReadStop}
 -- the pressures of all resources have one knee.
 abbrev pub reading_policy : AuditOptions → Policy
 reading_policy options = record {
-  chunks = options.chunks + options.extra;
+  chunks = options.policy.chunks + options.policy.extra;
   extra = 0;
   extra_bytes = 0;
-  fuel = options.fuel;
-  backlog = options.backlog;
-  caps = options.caps;
-  curves = replicate 8 (Knee options.knee);
-  high = options.high;
-  low = options.low;
+  fuel = options.policy.fuel;
+  backlog = options.policy.backlog;
+  caps = options.policy.caps;
+  curves = replicate 8 (Knee options.policy.knee);
+  high = options.policy.high;
+  low = options.policy.low;
   rule = by_graph;
 }
 
@@ -83,10 +83,10 @@ Audits files trace source_name log_name options =
 -- what an audit is given of the options
 abbrev pub audit_limits : AuditOptions → AuditPolicy
 audit_limits options = record {
-  chunks = options.chunks + options.extra;
-  fuel = options.fuel;
-  backlog = options.backlog;
-  caps = options.caps;
+  chunks = options.policy.chunks + options.policy.extra;
+  fuel = options.policy.fuel;
+  backlog = options.policy.backlog;
+  caps = options.policy.caps;
   steps = options.steps;
 }
 
@@ -105,4 +105,5 @@ IsJudged g trace log reads reads' (Err (Refused cause)) = ⊥
 -- what is said of this log of this program is what the command does
 abbrev pub LeadsToAudit : Option Files → (source_name log_name log : List ℕ) → ProgramTree → Type 0
 LeadsToAudit files source_name log_name log program =
-    (trace : Option (List ℕ)) (options : AuditOptions) (outcome : Outcome) → AuditsProgram trace options log program outcome → Audits files trace source_name log_name options outcome
+    (trace : Option (List ℕ)) (options : AuditOptions) (outcome : Outcome) → AuditsProgram trace options log program outcome
+    → Audits files trace source_name log_name options outcome

@@ -7,7 +7,7 @@ ghost use Rattle.command_outcomes.specs.Done.{Outside, outside_by};
 ghost use Rattle.command_outcomes.specs.Steps.{EndsAs, IsPrinted, IsShelfStop, IsStatus, RunEnds};
 ghost use Rattle.resource_monitor.specs.Pressure.{AnswersCurve, IsReading, curve_value};
 ghost use Rattle.resource_monitor.specs.declared.curves.Curve.TheVariants.{Knee};
-ghost use Rattle.command_options.specs.Options.{AreAuditOptions, as_run};
+ghost use Rattle.command_options.specs.Options.{AreAuditOptions};
 ghost use Rattle.command_audit.specs.Audits.{Audits, AuditsProgram, IsJudged, LeadsToAudit, audit_limits, judged_as, judgement_line, judgement_status, reading_of};
 
 use crate::verdicts::{line_of, status_of};
@@ -16,7 +16,7 @@ use cap_io::{Shelf, Sink, Source};
 use command_files::{load, read_source};
 use command_options::monitor_of;
 use command_outcomes::{Document, Fault, Stop, print};
-use command_words::{Audit, Policy, Rule};
+use command_words::Audit;
 use resource_monitor::{Measure, past_knee};
 use schedule_audit::{AuditPolicy, Failure, Verdict, audit};
 use std::alloc::{AllocError, Global};
@@ -123,7 +123,7 @@ fn audit_program<S: Source>(
     ensures { IsJudged (reading_of (program_tree program.now) options) (S.left trace.old) log.now
         (S.faults trace.old) (S.faults trace.new) result }
 {
-    let knee = options.knee;
+    let knee = options.policy.knee;
     let call = move |used: u32, cap: u32| -> u32
         requires { (knee ≤ 999) × IsReading used cap }
         ensures { result ≡ curve_value (Knee knee) used cap }
@@ -140,12 +140,12 @@ fn audit_measured<S: Source, C: Measure + Copy + Drop>(
     options: Audit,
     call: C,
 ) -> Result<Verdict, Stop>
-    requires curve { AnswersCurve (C.can_measure call) (C.measure_gives call) (Knee options.knee) }
+    requires curve { AnswersCurve (C.can_measure call) (C.measure_gives call) (Knee options.policy.knee) }
     requires range { AreAuditOptions options }
     ensures { IsJudged (reading_of (program_tree program.now) options) (S.left trace.old) log.now
         (S.faults trace.old) (S.faults trace.new) result }
 {
-    match monitor_of(alloc, run_options(options), call) {
+    match monitor_of(alloc, options.policy, call) {
         Ok(monitor) => judgement_of(audit(alloc, program, limits_of(options), monitor, trace, log)),
         Err(AllocError) => Err(Stop::Failed(Fault::Memory)),
     }
@@ -167,31 +167,12 @@ fn limits_of(options: Audit) -> AuditPolicy
     requires { AreAuditOptions options }
     ensures { result ≡ audit_limits options }
 {
-    let caps = options.caps;
+    let caps = options.policy.caps;
     AuditPolicy {
-        chunks: options.chunks + options.extra,
-        fuel: options.fuel,
-        backlog: options.backlog,
+        chunks: options.policy.chunks + options.policy.extra,
+        fuel: options.policy.fuel,
+        backlog: options.policy.backlog,
         caps,
         steps: options.steps,
-    }
-}
-
-/// The options of a run that has those of an audit.
-fn run_options(options: Audit) -> Policy
-    ensures { result ≡ as_run options }
-{
-    let caps = options.caps;
-    Policy {
-        chunks: options.chunks,
-        extra: options.extra,
-        extra_bytes: 64,
-        fuel: options.fuel,
-        backlog: options.backlog,
-        caps,
-        high: options.high,
-        low: options.low,
-        rule: Rule::Graph,
-        knee: options.knee,
     }
 }

@@ -1,8 +1,10 @@
 -- What the options of a word list are, by its command.
 use Rattle.std.proofs.Common.{ℕ, zero, suc, ◌≡◌, ◌+◌, ◌-◌, ◌*◌, ◌≤◌, List, [], ◌∷◌, ◌++◌, map, length, take, replicate, slice_index, Option, Some, None, refl, sym, ap, subst, arith, mul_comm}
-use Rattle.std.specs.Prelude.{◌==◌, codes}
+use Rattle.std.specs.Prelude.{◌==◌}
 use Rattle.call_graph.proofs.ListLemmas.{by_test}
 use Rattle.codegen_link.specs.Plans.{AreInRange}
+use Rattle.command_words.specs.OptionTable.{name_of}
+use Rattle.command_words.specs.declared.option_table.CommandOption.TheVariants as option
 use Rattle.command_words.specs.Values.{IsAudit, IsPlacement, IsPolicy, AreCaps, AreCapsAbove, cap_of, AreTickets, AreTicketsFrom, IsRule}
 use Rattle.command_words.specs.WordList.{IsWordList, Serve, Run, Build, Audit}
 use Rattle.command_words.specs.declared.options.Audit.{Audit as AuditOptions}
@@ -43,7 +45,8 @@ none-most (suc n) (suc r) = none-most n r
 
 caps-in-range : (given : Option (List ℕ)) (caps : List ℕ) → AreCaps given caps → (r : ℕ) → slice_index caps r ≤ 1000000
 caps-in-range None caps h r = subst (λ (xs : List ℕ). slice_index xs r ≤ 1000000) (sym h) (none-most 8 r)
-caps-in-range (Some text) caps h r = let is = h.1 in subst (λ (xs : List ℕ). slice_index xs r ≤ 1000000) (sym h.2) (caps-most h.0 is.in_range (0 ∷ 1 ∷ 2 ∷ 3 ∷ 4 ∷ 5 ∷ 6 ∷ 7 ∷ []) r)
+caps-in-range (Some text) caps h r = let is = h.1 in subst (λ (xs : List ℕ). slice_index xs r ≤ 1000000) (sym h.2)
+    (caps-most h.0 is.in_range (0 ∷ 1 ∷ 2 ∷ 3 ∷ 4 ∷ 5 ∷ 6 ∷ 7 ∷ []) r)
 
 -- the tickets that are handed out are those of the text
 taken-pairs : (pairs : List (ℕ × ℕ)) (n : ℕ) → take (length pairs) (pairs ++ replicate n (0, 0)) ≡ pairs
@@ -84,19 +87,22 @@ run-policy-of given policy h =
       caps = λ r some lt. caps-in-range _ policy.caps h.caps r;
       high = high.not_more;
       low = (let some = high.not_less in let most = low.not_more in omega arith);
-      rule = rule-in-range (given (codes "--rule")) (given (codes "--tickets")) policy.rule h.rule;
+      rule = rule-in-range (given (name_of option.Rule)) (given (name_of option.Tickets)) policy.rule h.rule;
       knee = h.knee.not_more;
     }
 
 -- a list for `build`
-pub build-sizes : (words : List (List ℕ)) (source image certificate : List ℕ) (placement : Placement) → IsWordList words (Build source image certificate placement) → AreInRange (sizes_of placement)
+pub build-sizes : (words : List (List ℕ)) (source image certificate : List ℕ) (placement : Placement)
+    → IsWordList words (Build source image certificate placement) → AreInRange (sizes_of placement)
 build-sizes words source image certificate placement h = in-range _ placement h.2
 
 -- a list for `serve`
-pub serve-sizes : (words : List (List ℕ)) (source : List ℕ) (placement : Placement) (policy : Policy) → IsWordList words (Serve source placement policy) → AreInRange (sizes_of placement)
+pub serve-sizes : (words : List (List ℕ)) (source : List ℕ) (placement : Placement) (policy : Policy) → IsWordList words (Serve source placement policy)
+    → AreInRange (sizes_of placement)
 serve-sizes words source placement policy h = in-range _ placement h.2
 
-pub serve-policy : (words : List (List ℕ)) (source : List ℕ) (placement : Placement) (policy : Policy) → IsWordList words (Serve source placement policy) → IsRunPolicy policy
+pub serve-policy : (words : List (List ℕ)) (source : List ℕ) (placement : Placement) (policy : Policy) → IsWordList words (Serve source placement policy)
+    → IsRunPolicy policy
 serve-policy words source placement policy h = run-policy-of _ policy h.3
 
 pub serve-pool : (words : List (List ℕ)) (source : List ℕ) (placement : Placement) (policy : Policy) → IsWordList words (Serve source placement policy) →
@@ -106,7 +112,8 @@ serve-pool words source placement policy h =
     subst (λ n. n ≤ 67108864) (λ i. mul_comm chunk chunks i + mul_comm bytes extra i) h.4
 
 -- a list for `run`
-pub run-policy : (words : List (List ℕ)) (source image certificate : List ℕ) (policy : Policy) → IsWordList words (Run source image certificate policy) → IsRunPolicy policy
+pub run-policy : (words : List (List ℕ)) (source image certificate : List ℕ) (policy : Policy) → IsWordList words (Run source image certificate policy)
+    → IsRunPolicy policy
 run-policy words source image certificate policy h = run-policy-of _ policy h.2
 
 -- ---- a list for `audit`
@@ -117,31 +124,9 @@ caps-count (Some text) caps h = ap length h.2
 
 audit-options-of : (given : List ℕ → Option (List ℕ)) (options : AuditOptions) → IsAudit given options → AreAuditOptions options
 audit-options-of given options h =
-    let chunks = h.chunks in
-    let fuel = h.fuel in
-    let backlog = h.backlog in
-    let high = h.high in
-    let low = h.low in
-    record {
-      run = record {
-        some_chunks = chunks.not_less;
-        chunks = chunks.not_more;
-        extra = h.extra.not_more;
-        extra_least = omega arith;
-        extra_most = omega arith;
-        extra_whole = refl;
-        fuel = fuel.not_more;
-        some_backlog = backlog.not_less;
-        backlog = backlog.not_more;
-        caps = λ r some lt. caps-in-range _ options.caps h.caps r;
-        high = high.not_more;
-        low = (let some = high.not_less in let most = low.not_more in omega arith);
-        rule = tt;
-        knee = h.knee.not_more;
-      };
-      cap_count = caps-count _ options.caps h.caps;
-      steps = h.steps.not_more;
-    }
+    let policy = h.policy in
+    record { run = run-policy-of given options.policy policy; cap_count = caps-count _ options.policy.caps policy.caps; steps = h.steps.not_more }
 
-pub audit-options : (words : List (List ℕ)) (source log : List ℕ) (options : AuditOptions) → IsWordList words (Audit source log options) → AreAuditOptions options
+pub audit-options : (words : List (List ℕ)) (source log : List ℕ) (options : AuditOptions) → IsWordList words (Audit source log options)
+    → AreAuditOptions options
 audit-options words source log options h = audit-options-of _ options h.2

@@ -7,7 +7,6 @@ use Rattle.command_words.specs.declared.options.Placement.{Placement}
 use Rattle.command_words.specs.declared.options.Policy.{Policy as RunOptions}
 use Rattle.command_words.specs.declared.options.Rule.{Rule as RuleOption}
 use Rattle.command_words.specs.declared.options.Rule.TheVariants as option
-use Rattle.command_words.specs.declared.options.Rule.TheVariants.{Graph}
 use Rattle.resource_monitor.specs.Monitor.{MonitorState}
 use Rattle.resource_monitor.specs.declared.curves.Curve.TheVariants.{Knee}
 use Rattle.stride_rule.specs.Tickets.{AreTickets}
@@ -46,23 +45,8 @@ pub record IsNewMonitor (options : RunOptions) (monitor : MonitorState) : Type 0
   pub low : monitor.low ≡ options.low
   pub gate : IsTrue monitor.is_open
 
--- the options of a run that has those of an audit, whose monitor the audit has
-abbrev pub as_run : AuditOptions → RunOptions
-as_run options = record {
-  chunks = options.chunks;
-  extra = options.extra;
-  extra_bytes = 64;
-  fuel = options.fuel;
-  backlog = options.backlog;
-  caps = options.caps;
-  high = options.high;
-  low = options.low;
-  rule = Graph;
-  knee = options.knee;
-}
-
 -- the options of an audit are in their ranges
 pub record AreAuditOptions (options : AuditOptions) : Type 0 where
-  pub run : IsRunPolicy (as_run options)
-  pub cap_count : length options.caps ≡ 8
+  pub run : IsRunPolicy options.policy
+  pub cap_count : length options.policy.caps ≡ 8
   pub steps : options.steps ≤ 1000000000

@@ -35,6 +35,7 @@ pub refused : (parser : Command) (texts words : List Text) (e : Error) → app_o
     → (is_simple_and_free (app_of parser) ≡ true → HasKind (fault_of (app_of parser) texts) e) → (kind_of e ≡ OutOfMemory → ⊥)
     → (said : List Said) → IsSaid words said → ⊥
 refused parser texts words e app_is words_are kinds other said is =
-    let has : HasKind (fault_of words_app words) e = subst (λ ks. HasKind ks e) (λ i. fault_of (app_is i) (words_are i)) (kinds (ap is_simple_and_free app_is ∙ is_simple)) in
+    let has : HasKind (fault_of words_app words) e = subst (λ ks. HasKind ks e) (λ i. fault_of (app_is i) (words_are i))
+    (kinds (ap is_simple_and_free app_is ∙ is_simple)) in
     let has_none : HasKind [] e = subst (λ ks. HasKind ks e) (said_passes words said is) has in
     elim has_none [ inl memory ↦ other memory | inr none ↦ none ]

@@ -7,6 +7,8 @@ use Rattle.std.proofs.lemmas.List.{map-append}
 use Rattle.cap_text.specs.Decimals.{canonical_decimal}
 use Rattle.cap_text.specs.Pieces.{pieces}
 use Rattle.cap_text.proofs.DecimalLaws.{decimal_unique}
+use Rattle.command_words.specs.OptionTable.{least_of, most_of}
+use Rattle.command_words.specs.declared.option_table.CommandOption.TheVariants as option
 use Rattle.command_words.specs.Values.{cap_text, cap_of, caps_of, AreCapsAbove, IsCapsText}
 use Rattle.command_words.proofs.Decimals.{cap_parts, cap_text_is}
 
@@ -25,7 +27,8 @@ pub record AreSoFar (text : List ℕ) (left : List (List ℕ)) (below : ℕ) (ca
   pub up_to : AreUpTo below read
   pub caps_are : caps ≡ caps_of read
 
-pub none_so_far : (text : List ℕ) (left : List (List ℕ)) (caps : List ℕ) → left ≡ pieces 44 text → caps ≡ 0 ∷ 0 ∷ 0 ∷ 0 ∷ 0 ∷ 0 ∷ 0 ∷ 0 ∷ [] → AreSoFar text left 0 caps
+pub none_so_far : (text : List ℕ) (left : List (List ℕ)) (caps : List ℕ) → left ≡ pieces 44 text → caps ≡ 0 ∷ 0 ∷ 0 ∷ 0 ∷ 0 ∷ 0 ∷ 0 ∷ 0 ∷ []
+    → AreSoFar text left 0 caps
 none_so_far text left caps is none = record {
   read = [];
   joined = sym is;
@@ -36,7 +39,8 @@ none_so_far text left caps is none = record {
 }
 
 -- two texts of caps
-pub one_cap : (resource most other more : ℕ) → resource ≤ 7 → other ≤ 7 → cap_text (resource, most) ≡ cap_text (other, more) → (resource ≡ other) × (most ≡ more)
+pub one_cap : (resource most other more : ℕ) → resource ≤ 7 → other ≤ 7 → cap_text (resource, most) ≡ cap_text (other, more) → (resource ≡ other)
+    × (most ≡ more)
 one_cap resource most other more small less same =
     let left = cap_parts (cap_text (resource, most)) (61 ∷ canonical_decimal most) (48 + resource) other more (cap_text_is resource most small) less same in
     let both : 61 ∷ canonical_decimal most ≡ 61 ∷ canonical_decimal more = left.1 in
@@ -71,25 +75,41 @@ eight g a b c d e f h i pa pb pc pd pe pf ph pi = λ j. pa j ∷ pb j ∷ pc j �
 pub one_set : (caps : Caps) (below resource most : ℕ) → below < resource → resource ≤ 7 → AreUpTo below caps
     → slice_set (caps_of caps) resource most ≡ caps_of (caps ++ (resource, most) ∷ [])
 one_set caps below zero most new small all = absurd (omega arith)
-one_set caps below (suc zero) most new small all = eight (cap_of (caps ++ (1, most) ∷ [])) (cap_of caps 0) most (cap_of caps 2) (cap_of caps 3) (cap_of caps 4) (cap_of caps 5) (cap_of caps 6) (cap_of caps 7)
-    (other_cap caps 1 most 0 refl) (here_cap caps below 1 most new all) (other_cap caps 1 most 2 refl) (other_cap caps 1 most 3 refl) (other_cap caps 1 most 4 refl) (other_cap caps 1 most 5 refl) (other_cap caps 1 most 6 refl) (other_cap caps 1 most 7 refl)
-one_set caps below (suc (suc zero)) most new small all = eight (cap_of (caps ++ (2, most) ∷ [])) (cap_of caps 0) (cap_of caps 1) most (cap_of caps 3) (cap_of caps 4) (cap_of caps 5) (cap_of caps 6) (cap_of caps 7)
-    (other_cap caps 2 most 0 refl) (other_cap caps 2 most 1 refl) (here_cap caps below 2 most new all) (other_cap caps 2 most 3 refl) (other_cap caps 2 most 4 refl) (other_cap caps 2 most 5 refl) (other_cap caps 2 most 6 refl) (other_cap caps 2 most 7 refl)
-one_set caps below (suc (suc (suc zero))) most new small all = eight (cap_of (caps ++ (3, most) ∷ [])) (cap_of caps 0) (cap_of caps 1) (cap_of caps 2) most (cap_of caps 4) (cap_of caps 5) (cap_of caps 6) (cap_of caps 7)
-    (other_cap caps 3 most 0 refl) (other_cap caps 3 most 1 refl) (other_cap caps 3 most 2 refl) (here_cap caps below 3 most new all) (other_cap caps 3 most 4 refl) (other_cap caps 3 most 5 refl) (other_cap caps 3 most 6 refl) (other_cap caps 3 most 7 refl)
-one_set caps below (suc (suc (suc (suc zero)))) most new small all = eight (cap_of (caps ++ (4, most) ∷ [])) (cap_of caps 0) (cap_of caps 1) (cap_of caps 2) (cap_of caps 3) most (cap_of caps 5) (cap_of caps 6) (cap_of caps 7)
-    (other_cap caps 4 most 0 refl) (other_cap caps 4 most 1 refl) (other_cap caps 4 most 2 refl) (other_cap caps 4 most 3 refl) (here_cap caps below 4 most new all) (other_cap caps 4 most 5 refl) (other_cap caps 4 most 6 refl) (other_cap caps 4 most 7 refl)
-one_set caps below (suc (suc (suc (suc (suc zero))))) most new small all = eight (cap_of (caps ++ (5, most) ∷ [])) (cap_of caps 0) (cap_of caps 1) (cap_of caps 2) (cap_of caps 3) (cap_of caps 4) most (cap_of caps 6) (cap_of caps 7)
-    (other_cap caps 5 most 0 refl) (other_cap caps 5 most 1 refl) (other_cap caps 5 most 2 refl) (other_cap caps 5 most 3 refl) (other_cap caps 5 most 4 refl) (here_cap caps below 5 most new all) (other_cap caps 5 most 6 refl) (other_cap caps 5 most 7 refl)
-one_set caps below (suc (suc (suc (suc (suc (suc zero)))))) most new small all = eight (cap_of (caps ++ (6, most) ∷ [])) (cap_of caps 0) (cap_of caps 1) (cap_of caps 2) (cap_of caps 3) (cap_of caps 4) (cap_of caps 5) most (cap_of caps 7)
-    (other_cap caps 6 most 0 refl) (other_cap caps 6 most 1 refl) (other_cap caps 6 most 2 refl) (other_cap caps 6 most 3 refl) (other_cap caps 6 most 4 refl) (other_cap caps 6 most 5 refl) (here_cap caps below 6 most new all) (other_cap caps 6 most 7 refl)
-one_set caps below (suc (suc (suc (suc (suc (suc (suc zero))))))) most new small all = eight (cap_of (caps ++ (7, most) ∷ [])) (cap_of caps 0) (cap_of caps 1) (cap_of caps 2) (cap_of caps 3) (cap_of caps 4) (cap_of caps 5) (cap_of caps 6) most
-    (other_cap caps 7 most 0 refl) (other_cap caps 7 most 1 refl) (other_cap caps 7 most 2 refl) (other_cap caps 7 most 3 refl) (other_cap caps 7 most 4 refl) (other_cap caps 7 most 5 refl) (other_cap caps 7 most 6 refl) (here_cap caps below 7 most new all)
+one_set caps below (suc zero) most new small all = eight (cap_of (caps ++ (1, most) ∷ [])) (cap_of caps 0) most (cap_of caps 2) (cap_of caps 3)
+    (cap_of caps 4) (cap_of caps 5) (cap_of caps 6) (cap_of caps 7)
+    (other_cap caps 1 most 0 refl) (here_cap caps below 1 most new all) (other_cap caps 1 most 2 refl) (other_cap caps 1 most 3 refl)
+    (other_cap caps 1 most 4 refl) (other_cap caps 1 most 5 refl) (other_cap caps 1 most 6 refl) (other_cap caps 1 most 7 refl)
+one_set caps below (suc (suc zero)) most new small all = eight (cap_of (caps ++ (2, most) ∷ [])) (cap_of caps 0) (cap_of caps 1) most (cap_of caps 3)
+    (cap_of caps 4) (cap_of caps 5) (cap_of caps 6) (cap_of caps 7)
+    (other_cap caps 2 most 0 refl) (other_cap caps 2 most 1 refl) (here_cap caps below 2 most new all) (other_cap caps 2 most 3 refl)
+    (other_cap caps 2 most 4 refl) (other_cap caps 2 most 5 refl) (other_cap caps 2 most 6 refl) (other_cap caps 2 most 7 refl)
+one_set caps below (suc (suc (suc zero))) most new small all = eight (cap_of (caps ++ (3, most) ∷ [])) (cap_of caps 0) (cap_of caps 1) (cap_of caps 2) most
+    (cap_of caps 4) (cap_of caps 5) (cap_of caps 6) (cap_of caps 7)
+    (other_cap caps 3 most 0 refl) (other_cap caps 3 most 1 refl) (other_cap caps 3 most 2 refl) (here_cap caps below 3 most new all)
+    (other_cap caps 3 most 4 refl) (other_cap caps 3 most 5 refl) (other_cap caps 3 most 6 refl) (other_cap caps 3 most 7 refl)
+one_set caps below (suc (suc (suc (suc zero)))) most new small all = eight (cap_of (caps ++ (4, most) ∷ [])) (cap_of caps 0) (cap_of caps 1) (cap_of caps 2)
+    (cap_of caps 3) most (cap_of caps 5) (cap_of caps 6) (cap_of caps 7)
+    (other_cap caps 4 most 0 refl) (other_cap caps 4 most 1 refl) (other_cap caps 4 most 2 refl) (other_cap caps 4 most 3 refl)
+    (here_cap caps below 4 most new all) (other_cap caps 4 most 5 refl) (other_cap caps 4 most 6 refl) (other_cap caps 4 most 7 refl)
+one_set caps below (suc (suc (suc (suc (suc zero))))) most new small all = eight (cap_of (caps ++ (5, most) ∷ [])) (cap_of caps 0) (cap_of caps 1)
+    (cap_of caps 2) (cap_of caps 3) (cap_of caps 4) most (cap_of caps 6) (cap_of caps 7)
+    (other_cap caps 5 most 0 refl) (other_cap caps 5 most 1 refl) (other_cap caps 5 most 2 refl) (other_cap caps 5 most 3 refl) (other_cap caps 5 most 4 refl)
+    (here_cap caps below 5 most new all) (other_cap caps 5 most 6 refl) (other_cap caps 5 most 7 refl)
+one_set caps below (suc (suc (suc (suc (suc (suc zero)))))) most new small all = eight (cap_of (caps ++ (6, most) ∷ [])) (cap_of caps 0) (cap_of caps 1)
+    (cap_of caps 2) (cap_of caps 3) (cap_of caps 4) (cap_of caps 5) most (cap_of caps 7)
+    (other_cap caps 6 most 0 refl) (other_cap caps 6 most 1 refl) (other_cap caps 6 most 2 refl) (other_cap caps 6 most 3 refl) (other_cap caps 6 most 4 refl)
+    (other_cap caps 6 most 5 refl) (here_cap caps below 6 most new all) (other_cap caps 6 most 7 refl)
+one_set caps below (suc (suc (suc (suc (suc (suc (suc zero))))))) most new small all = eight (cap_of (caps ++ (7, most) ∷ [])) (cap_of caps 0) (cap_of caps 1)
+    (cap_of caps 2) (cap_of caps 3) (cap_of caps 4) (cap_of caps 5) (cap_of caps 6) most
+    (other_cap caps 7 most 0 refl) (other_cap caps 7 most 1 refl) (other_cap caps 7 most 2 refl) (other_cap caps 7 most 3 refl) (other_cap caps 7 most 4 refl)
+    (other_cap caps 7 most 5 refl) (other_cap caps 7 most 6 refl) (here_cap caps below 7 most new all)
 one_set caps below (suc (suc (suc (suc (suc (suc (suc (suc n)))))))) most new small all = absurd (omega arith)
 
 -- one cap more
-pub one_more : (text field : List ℕ) (left rest : List (List ℕ)) (below resource most : ℕ) (caps now : List ℕ) → AreSoFar text left below caps → left ≡ field ∷ rest
-    → field ≡ cap_text (resource, most) → below < resource → resource ≤ 7 → 1 ≤ most → most ≤ 1000000 → now ≡ slice_set caps resource most → AreSoFar text rest resource now
+pub one_more : (text field : List ℕ) (left rest : List (List ℕ)) (below resource most : ℕ) (caps now : List ℕ) → AreSoFar text left below caps
+    → left ≡ field ∷ rest
+    → field ≡ cap_text (resource, most) → below < resource → resource ≤ 7 → least_of option.Caps ≤ most → most ≤ most_of option.Caps
+    → now ≡ slice_set caps resource most → AreSoFar text rest resource now
 one_more text field left rest below resource most caps now so_far parts is new small some few set =
     let read : Caps = so_far.read ++ (resource, most) ∷ [] in
     record {
@@ -97,7 +117,8 @@ one_more text field left rest below resource most caps now so_far parts is new s
       joined = so_far.joined ∙ ap (λ (l : List (List ℕ)). map cap_text so_far.read ++ l) (parts ∙ ap (λ (f : List ℕ). f ∷ rest) is)
           ∙ sym (append_assoc (map cap_text so_far.read) (cap_text (resource, most) ∷ []) rest)
           ∙ ap (λ (l : List (List ℕ)). l ++ rest) (sym (map-append cap_text so_far.read ((resource, most) ∷ [])));
-      rising = λ more above. subst (AreCapsAbove 0) (sym (append_assoc so_far.read ((resource, most) ∷ []) more)) (so_far.rising ((resource, most) ∷ more) (new, small, some, few, above));
+      rising = λ more above. subst (AreCapsAbove 0) (sym (append_assoc so_far.read ((resource, most) ∷ []) more))
+          (so_far.rising ((resource, most) ∷ more) (new, small, some, few, above));
       only = λ others whole. let of = so_far.only others whole in next of.0 (sym parts ∙ of.1) of.2;
       up_to = up_to_end resource resource most so_far.read (omega arith) (up_to_more below resource so_far.read (omega arith) so_far.up_to);
       caps_are = set ∙ ap (λ (c : List ℕ). slice_set c resource most) so_far.caps_are ∙ one_set so_far.read below resource most new small so_far.up_to;
@@ -112,7 +133,7 @@ one_more text field left rest below resource most caps now so_far parts is new s
 
 -- a next piece that is no cap, or none of a resource above
 pub no_cap : (text field : List ℕ) (left rest : List (List ℕ)) (below : ℕ) (caps : List ℕ) → AreSoFar text left below caps → left ≡ field ∷ rest
-    → ((resource most : ℕ) → below < resource → resource ≤ 7 → 1 ≤ most → most ≤ 1000000 → field ≡ cap_text (resource, most) → ⊥)
+    → ((resource most : ℕ) → below < resource → resource ≤ 7 → least_of option.Caps ≤ most → most ≤ most_of option.Caps → field ≡ cap_text (resource, most) → ⊥)
     → (others : Caps) → IsCapsText text others → ⊥
 no_cap text field left rest below caps so_far parts none others whole = let of = so_far.only others whole in next of.0 (sym parts ∙ of.1) of.2
   where

@@ -11,7 +11,9 @@ use Rattle.command_words.specs.declared.options.Rule.{Rule}
 use Rattle.command_words.specs.declared.options.Rule.TheVariants.{Graph, Stride}
 use Rattle.command_words.specs.declared.options.Tickets.{Tickets}
 use Rattle.command_words.specs.Shared.{AreMarks, IsRoom}
-use Rattle.command_words.specs.Values.{IsAudit, IsChosen, IsNumber, IsPlacement, IsPolicy, AreCaps, AreCapsAbove, cap_text, caps_of, default_max_path, AreTickets, IsRule, rule_name, ticket_text, tickets_of}
+use Rattle.command_words.specs.OptionTable.{name_of, default_of, least_of}
+use Rattle.command_words.specs.declared.option_table.CommandOption.TheVariants as option
+use Rattle.command_words.specs.Values.{IsAudit, IsChosen, IsNumber, IsNumberOf, IsPlacement, IsPolicy, AreCaps, AreCapsAbove, cap_text, caps_of, default_max_path, AreTickets, IsRule, rule_name, ticket_text, tickets_of}
 use Rattle.command_words.specs.WordList.{Request, Serve, Run, Build, Check, Graph, Demo, Audit, Budget}
 use Rattle.command_words.specs.Asked.{Texts, IsAsked, HasThree, HasTwo}
 use Rattle.command_words.proofs.CapsSoFar.{Caps, one_cap}
@@ -42,9 +44,9 @@ one_caps (Some text) caps others is same =
 
 pub one_placement : (given : Texts) (p q : Placement) → IsPlacement given p → IsPlacement given q → p ≡ q
 one_placement given p q is same =
-    let chunk = one_chosen (given (codes "--chunk")) 4096 p.chunk q.chunk is.chunk.chosen same.chunk.chosen in
-    let max_path = one_chosen (given (codes "--max-path")) (default_max_path p.chunk) p.max_path q.max_path is.max_path.chosen
-    (subst (λ c. IsChosen (given (codes "--max-path")) (default_max_path c) q.max_path) (sym chunk) same.max_path.chosen) in
+    let chunk = one_chosen (given (name_of option.Chunk)) (default_of option.Chunk) p.chunk q.chunk is.chunk.chosen same.chunk.chosen in
+    let max_path = one_chosen (given (name_of option.MaxPath)) (default_max_path p.chunk) p.max_path q.max_path is.max_path.chosen
+    (subst (λ c. IsChosen (given (name_of option.MaxPath)) (default_max_path c) q.max_path) (sym chunk) same.max_path.chosen) in
     λ i. record { chunk = chunk i; max_path = max_path i }
 
 -- of two texts of tickets the threads and the tickets are the same
@@ -96,52 +98,59 @@ one_rule given tickets (Stride t) (Stride u) is same = ap Stride (one_tickets ti
 
 pub one_policy : (given : Texts) (p q : Policy) → IsPolicy given p → IsPolicy given q → p ≡ q
 one_policy given p q is same =
-    let chunks = one_chosen (given (codes "--chunks")) 1024 p.chunks q.chunks is.chunks.chosen same.chunks.chosen in
-    let extra = one_chosen (given (codes "--extra")) 0 p.extra q.extra is.extra.chosen same.extra.chosen in
-    let extra_bytes = one_chosen (given (codes "--extra-size")) 64 p.extra_bytes q.extra_bytes is.extra_bytes.chosen same.extra_bytes.chosen in
-    let fuel = one_chosen (given (codes "--fuel")) 10000000 p.fuel q.fuel is.fuel.chosen same.fuel.chosen in
-    let backlog = one_chosen (given (codes "--backlog")) 64 p.backlog q.backlog is.backlog.chosen same.backlog.chosen in
-    let caps = one_caps (given (codes "--caps")) p.caps q.caps is.caps same.caps in
-    let high = one_chosen (given (codes "--high")) 900 p.high q.high is.high.chosen same.high.chosen in
-    let low = one_chosen (given (codes "--low")) 700 p.low q.low is.low.chosen same.low.chosen in
-    let rule = one_rule (given (codes "--rule")) (given (codes "--tickets")) p.rule q.rule is.rule same.rule in
-    let knee = one_chosen (given (codes "--knee")) 0 p.knee q.knee is.knee.chosen same.knee.chosen in
-    λ i. record { chunks = chunks i; extra = extra i; extra_bytes = extra_bytes i; fuel = fuel i; backlog = backlog i; caps = caps i; high = high i; low = low i; rule = rule i; knee = knee i }
+    let chunks = one_chosen (given (name_of option.Chunks)) (default_of option.Chunks) p.chunks q.chunks is.chunks.chosen same.chunks.chosen in
+    let extra = one_chosen (given (name_of option.Extra)) (default_of option.Extra) p.extra q.extra is.extra.chosen same.extra.chosen in
+    let extra_bytes = one_chosen (given (name_of option.ExtraSize)) (default_of option.ExtraSize) p.extra_bytes q.extra_bytes
+    is.extra_bytes.chosen same.extra_bytes.chosen in
+    let fuel = one_chosen (given (name_of option.Fuel)) (default_of option.Fuel) p.fuel q.fuel is.fuel.chosen same.fuel.chosen in
+    let backlog = one_chosen (given (name_of option.Backlog)) (default_of option.Backlog) p.backlog q.backlog is.backlog.chosen same.backlog.chosen in
+    let caps = one_caps (given (name_of option.Caps)) p.caps q.caps is.caps same.caps in
+    let high = one_chosen (given (name_of option.High)) (default_of option.High) p.high q.high is.high.chosen same.high.chosen in
+    let low = one_chosen (given (name_of option.Low)) (default_of option.Low) p.low q.low is.low.chosen same.low.chosen in
+    let rule = one_rule (given (name_of option.Rule)) (given (name_of option.Tickets)) p.rule q.rule is.rule same.rule in
+    let knee = one_chosen (given (name_of option.Knee)) (default_of option.Knee) p.knee q.knee is.knee.chosen same.knee.chosen in
+    λ i. record {
+      chunks = chunks i;
+      extra = extra i;
+      extra_bytes = extra_bytes i;
+      fuel = fuel i;
+      backlog = backlog i;
+      caps = caps i;
+      high = high i;
+      low = low i;
+      rule = rule i;
+      knee = knee i;
+    }
 
 pub one_audit : (given : Texts) (a b : AuditOptions) → IsAudit given a → IsAudit given b → a ≡ b
 one_audit given a b is same =
-    let chunks = one_chosen (given (codes "--chunks")) 1024 a.chunks b.chunks is.chunks.chosen same.chunks.chosen in
-    let extra = one_chosen (given (codes "--extra")) 0 a.extra b.extra is.extra.chosen same.extra.chosen in
-    let fuel = one_chosen (given (codes "--fuel")) 10000000 a.fuel b.fuel is.fuel.chosen same.fuel.chosen in
-    let backlog = one_chosen (given (codes "--backlog")) 64 a.backlog b.backlog is.backlog.chosen same.backlog.chosen in
-    let caps = one_caps (given (codes "--caps")) a.caps b.caps is.caps same.caps in
-    let high = one_chosen (given (codes "--high")) 900 a.high b.high is.high.chosen same.high.chosen in
-    let low = one_chosen (given (codes "--low")) 700 a.low b.low is.low.chosen same.low.chosen in
-    let knee = one_chosen (given (codes "--knee")) 0 a.knee b.knee is.knee.chosen same.knee.chosen in
-    let steps = one_chosen (given (codes "--steps")) 1000000000 a.steps b.steps is.steps.chosen same.steps.chosen in
-    λ i. record { chunks = chunks i; extra = extra i; fuel = fuel i; backlog = backlog i; caps = caps i; high = high i; low = low i; knee = knee i; steps = steps i }
+    let policy = one_policy given a.policy b.policy is.policy same.policy in
+    let steps = one_chosen (given (name_of option.Steps)) (default_of option.Steps) a.steps b.steps is.steps.chosen same.steps.chosen in
+    λ i. record { policy = policy i; steps = steps i }
 
 -- a chunk is chosen that is no multiple of 16
-pub no_whole : (given : Texts) (chunk : ℕ) → IsNumber (given (codes "--chunk")) 4096 64 65536 chunk → (chunk % 16 ≡ 0 → ⊥) → (p : Placement) → IsPlacement given p → ⊥
+pub no_whole : (given : Texts) (chunk : ℕ) → IsNumberOf given option.Chunk chunk → (chunk % 16 ≡ 0 → ⊥) → (p : Placement) → IsPlacement given p → ⊥
 no_whole given chunk chosen other p is =
-    let same = one_chosen (given (codes "--chunk")) 4096 p.chunk chunk is.chunk.chosen chosen.chosen in
+    let same = one_chosen (given (name_of option.Chunk)) (default_of option.Chunk) p.chunk chunk is.chunk.chosen chosen.chosen in
     other (subst (λ (c : ℕ). c % 16 ≡ 0) same is.whole)
 
 -- a chunk is chosen, and no path in its range
-pub no_path : (given : Texts) (chunk : ℕ) → IsNumber (given (codes "--chunk")) 4096 64 65536 chunk
-    → ((n : ℕ) → IsNumber (given (codes "--max-path")) (default_max_path chunk) 16 (chunk - 16) n → ⊥) → (p : Placement) → IsPlacement given p → ⊥
+pub no_path : (given : Texts) (chunk : ℕ) → IsNumberOf given option.Chunk chunk
+    → ((n : ℕ) → IsNumber (given (name_of option.MaxPath)) (default_max_path chunk) (least_of option.MaxPath) (chunk - 16) n → ⊥) → (p : Placement)
+    → IsPlacement given p → ⊥
 no_path given chunk chosen none p is =
-    let same = one_chosen (given (codes "--chunk")) 4096 p.chunk chunk is.chunk.chosen chosen.chosen in
-    none p.max_path (subst (λ (c : ℕ). IsNumber (given (codes "--max-path")) (default_max_path c) 16 (c - 16) p.max_path) same is.max_path)
+    let same = one_chosen (given (name_of option.Chunk)) (default_of option.Chunk) p.chunk chunk is.chunk.chosen chosen.chosen in
+    none p.max_path
+    (subst (λ (c : ℕ). IsNumber (given (name_of option.MaxPath)) (default_max_path c) (least_of option.MaxPath) (c - 16) p.max_path) same is.max_path)
 
 -- a high mark is chosen, and no low one below it
-pub no_low : (given : Texts) (high : ℕ) → IsNumber (given (codes "--high")) 900 1 1000 high
-    → ((n : ℕ) → IsNumber (given (codes "--low")) 700 0 (high - 1) n → ⊥) → (m : Marks) → AreMarks given m → ⊥
+pub no_low : (given : Texts) (high : ℕ) → IsNumberOf given option.High high
+    → ((n : ℕ) → IsNumber (given (name_of option.Low)) (default_of option.Low) (least_of option.Low) (high - 1) n → ⊥) → (m : Marks) → AreMarks given m → ⊥
 no_low given high chosen none m is =
-    let same = one_chosen (given (codes "--high")) 900 m.high high is.high.chosen chosen.chosen in
-    none m.low (subst (λ (c : ℕ). IsNumber (given (codes "--low")) 700 0 (c - 1) m.low) same is.low)
+    let same = one_chosen (given (name_of option.High)) (default_of option.High) m.high high is.high.chosen chosen.chosen in
+    none m.low (subst (λ (c : ℕ). IsNumber (given (name_of option.Low)) (default_of option.Low) (least_of option.Low) (c - 1) m.low) same is.low)
 
--- the parts of a run's options, and of an audit's
+-- the parts of a policy
 pub room_of_policy : (given : Texts) (p : Policy) → IsPolicy given p
     → IsRoom given (record { chunks = p.chunks; extra = p.extra; fuel = p.fuel; backlog = p.backlog })
 room_of_policy given p is = record { chunks = is.chunks; extra = is.extra; fuel = is.fuel; backlog = is.backlog }
@@ -149,14 +158,6 @@ room_of_policy given p is = record { chunks = is.chunks; extra = is.extra; fuel 
 pub marks_of_policy : (given : Texts) (p : Policy) → IsPolicy given p
     → AreMarks given (record { caps = p.caps; high = p.high; low = p.low; knee = p.knee })
 marks_of_policy given p is = record { caps = is.caps; high = is.high; low = is.low; knee = is.knee }
-
-pub room_of_audit : (given : Texts) (a : AuditOptions) → IsAudit given a
-    → IsRoom given (record { chunks = a.chunks; extra = a.extra; fuel = a.fuel; backlog = a.backlog })
-room_of_audit given a is = record { chunks = is.chunks; extra = is.extra; fuel = is.fuel; backlog = is.backlog }
-
-pub marks_of_audit : (given : Texts) (a : AuditOptions) → IsAudit given a
-    → AreMarks given (record { caps = a.caps; high = a.high; low = a.low; knee = a.knee })
-marks_of_audit given a is = record { caps = is.caps; high = is.high; low = is.low; knee = is.knee }
 
 -- ---- the command's name
 
@@ -167,7 +168,8 @@ other_name given a b is also differ =
     true≢false (sym ((bytes_eq-Decides a b).1 same) ∙ differ)
 
 -- a command of three names, where there aren't three
-pub no_three : (given : Texts) (name : List ℕ) → given (codes "command") ≡ Some name → bytes_eq name (codes "serve") ≡ false → bytes_eq name (codes "graph") ≡ false
+pub no_three : (given : Texts) (name : List ℕ) → given (codes "command") ≡ Some name → bytes_eq name (codes "serve") ≡ false
+    → bytes_eq name (codes "graph") ≡ false
     → bytes_eq name (codes "demo") ≡ false → bytes_eq name (codes "audit") ≡ false → ((n first second third : List ℕ) → HasThree given n first second third → ⊥)
     → (request : Request) → IsAsked given request → ⊥
 no_three given name is serve graph demo audit none (Serve source placement policy) asked = other_name given name (codes "serve") is asked.0.0 serve
@@ -192,10 +194,10 @@ no_two given is none (Audit source log options) asked = none (codes "audit") sou
 no_two given is none (Budget source image certificate) asked = other_name given (codes "audit") (codes "budget") is asked.0.0 refl
 
 -- a size of the chunks that are added is chosen that is no multiple of 16
-pub no_extra : (given : Texts) (bytes : ℕ) → IsNumber (given (codes "--extra-size")) 64 32 65536 bytes → (bytes % 16 ≡ 0 → ⊥)
-    → (n : ℕ) → IsNumber (given (codes "--extra-size")) 64 32 65536 n → n % 16 ≡ 0 → ⊥
+pub no_extra : (given : Texts) (bytes : ℕ) → IsNumberOf given option.ExtraSize bytes → (bytes % 16 ≡ 0 → ⊥)
+    → (n : ℕ) → IsNumberOf given option.ExtraSize n → n % 16 ≡ 0 → ⊥
 no_extra given bytes chosen other n is whole =
-    let same = one_chosen (given (codes "--extra-size")) 64 n bytes is.chosen chosen.chosen in
+    let same = one_chosen (given (name_of option.ExtraSize)) (default_of option.ExtraSize) n bytes is.chosen chosen.chosen in
     other (subst (λ (b : ℕ). b % 16 ≡ 0) same whole)
 
 -- the command `serve`, where none is asked for

@@ -1,5 +1,5 @@
 -- The options of a word list: those that its command has are kept, and all others lacked.
-use Rattle.std.proofs.Common.{◌≡◌, ◌∙◌, ◌⊎◌, inl, inr, ℕ, ◌-◌, sym, subst, Bool, true, false, true≢false, List, [], ◌∷◌, ◌++◌, ◌&&◌, ◌||◌, refl, Option, Some, None, codes}
+use Rattle.std.proofs.Common.{◌≡◌, ◌∙◌, ◌⊎◌, inl, inr, ℕ, sym, subst, Bool, true, false, true≢false, List, [], ◌∷◌, ◌++◌, ◌&&◌, ◌||◌, refl, Option, Some, None}
 use Rattle.std.specs.Prelude.{not}
 use Rattle.std.specs.Str.{bytes_eq}
 use Rattle.std.specs.List.{AllByRecursion}
@@ -7,8 +7,10 @@ use Rattle.command_words.specs.declared.options.Audit.{Audit}
 use Rattle.command_words.specs.declared.options.Placement.{Placement}
 use Rattle.command_words.specs.declared.options.Policy.{Policy}
 use Rattle.command_words.specs.Said.{Said, Given, Positional, options_of, value_of, IsOneOf}
-use Rattle.command_words.specs.Values.{IsAudit, IsPlacement, IsPolicy, default_max_path, IsNumber, AreCaps, IsRule}
-use Rattle.command_words.specs.WordList.{placement_options, policy_options, audit_policy}
+use Rattle.command_words.specs.Values.{IsAudit, IsPlacement, IsPolicy, IsNumber, AreCaps, IsRule}
+use Rattle.command_words.specs.OptionTable.{name_of}
+use Rattle.command_words.specs.declared.option_table.CommandOption.{CommandOption}
+use Rattle.command_words.specs.declared.option_table.CommandOption.TheVariants as option
 use Rattle.command_words.specs.Parse.{all_options}
 use Rattle.command_words.specs.Asked.{Texts, LacksAll}
 use Rattle.std.proofs.lemmas.Slice.Eq.{bytes_eq-Decides}
@@ -49,7 +51,8 @@ one_among : (options : List Text) (name : Text) → is_among options name ≡ tr
 one_among [] name is = absurd (true≢false (sym is))
 one_among (option ∷ options) name is = go (bytes_eq name option) refl is (one_among options name)
   where
-    go : (b : Bool) → bytes_eq name option ≡ b → (b || is_among options name) ≡ true → (is_among options name ≡ true → IsOneOf options name) → IsOneOf (option ∷ options) name
+    go : (b : Bool) → bytes_eq name option ≡ b → (b || is_among options name) ≡ true → (is_among options name ≡ true → IsOneOf options name)
+        → IsOneOf (option ∷ options) name
     go true e is more = inl ((bytes_eq-Decides name option).0 e)
     go false e is more = inr (more is)
 
@@ -91,7 +94,8 @@ all_differ (option ∷ options) name is =
 
 -- ---- options that are not given
 
-absent : (said : List Said) (options : List Text) (name : Text) → AllByRecursion (IsOneOf options) (options_of said) → AllByRecursion (λ option. bytes_eq option name ≡ false) options
+absent : (said : List Said) (options : List Text) (name : Text) → AllByRecursion (IsOneOf options) (options_of said)
+    → AllByRecursion (λ option. bytes_eq option name ≡ false) options
     → value_of said name ≡ None
 absent [] options name known differ = refl
 absent (Given option value ∷ rest) options name known differ =
@@ -100,7 +104,8 @@ absent (Given option value ∷ rest) options name known differ =
 absent (Positional word ∷ rest) options name known differ = absent rest options name known differ
 
 -- where each option is one of those that are kept, all that are apart from them are lacked
-all_absent : (said : List Said) (kept lacked : List Text) → AllByRecursion (IsOneOf kept) (options_of said) → are_apart kept lacked ≡ true → LacksAll (value_of said) lacked
+all_absent : (said : List Said) (kept lacked : List Text) → AllByRecursion (IsOneOf kept) (options_of said) → are_apart kept lacked ≡ true
+    → LacksAll (value_of said) lacked
 all_absent said kept [] known apart = tt
 all_absent said kept (name ∷ names) known apart =
     let parts = both (is_apart kept name) (are_apart kept names) apart in
@@ -124,10 +129,15 @@ all_left option value rest [] none = tt
 all_left option value rest (name ∷ names) none = (none_left option value rest name none.0, all_left option value rest names none.1)
 
 -- of options that are among two lists, and lack the first, each is of the second
-among_second : (said : List Said) (a b : List Text) → AllByRecursion (IsOneOf (a ++ b)) (options_of said) → LacksAll (value_of said) a → AllByRecursion (IsOneOf b) (options_of said)
+among_second : (said : List Said) (a b : List Text) → AllByRecursion (IsOneOf (a ++ b)) (options_of said) → LacksAll (value_of said) a
+    → AllByRecursion (IsOneOf b) (options_of said)
 among_second [] a b known none = tt
 among_second (Given option value ∷ rest) a b known none = (
-  elim (in_either a b option known.0) [ inl first ↦ absurd (some_given option value rest (at_one (λ o. value_of (Given option value ∷ rest) o ≡ None) a option none first)) | inr second ↦ second ],
+  elim (in_either a b option known.0) [
+    | inl first ↦ absurd
+        (some_given option value rest (at_one (λ o. value_of (Given option value ∷ rest) o ≡ None) a option none first))
+    | inr second ↦ second
+  ],
   among_second rest a b known.1 (all_left option value rest a none),
 )
 among_second (Positional word ∷ rest) a b known none = among_second rest a b known none
@@ -145,15 +155,19 @@ lacks_along : (f g : Texts) (names : List Text) → AreSame f g names → LacksA
 lacks_along f g [] same none = tt
 lacks_along f g (name ∷ names) same none = (sym same.0 ∙ none.0, lacks_along f g names same.1 none.1)
 
-pub lacks : (given : Texts) (said : List Said) (kept lacked : List Text) → AreSame given (value_of said) all_options → AllByRecursion (IsOneOf kept) (options_of said)
+pub lacks : (given : Texts) (said : List Said) (kept lacked : List Text) → AreSame given (value_of said) all_options
+    → AllByRecursion (IsOneOf kept) (options_of said)
     → are_apart kept lacked ≡ true → are_among all_options lacked ≡ true → LacksAll given lacked
 lacks given said kept lacked same known apart among =
-    lacks_along (value_of said) given lacked (turned given (value_of said) lacked (of_some (λ option. given option ≡ value_of said option) all_options lacked among same))
+    lacks_along (value_of said) given lacked (turned given (value_of said) lacked
+    (of_some (λ option. given option ≡ value_of said option) all_options lacked among same))
     (all_absent said kept lacked known apart)
 
 -- all options are kept or lacked
-pub keeps : (given : Texts) (said : List Said) (kept lacked : List Text) → AreSame given (value_of said) all_options → AllByRecursion (IsOneOf all_options) (options_of said)
-    → are_among (lacked ++ kept) all_options ≡ true → are_among all_options lacked ≡ true → LacksAll given lacked → AllByRecursion (IsOneOf kept) (options_of said)
+pub keeps : (given : Texts) (said : List Said) (kept lacked : List Text) → AreSame given (value_of said) all_options
+    → AllByRecursion (IsOneOf all_options) (options_of said)
+    → are_among (lacked ++ kept) all_options ≡ true → are_among all_options lacked ≡ true → LacksAll given lacked
+    → AllByRecursion (IsOneOf kept) (options_of said)
 keeps given said kept lacked same known covered among none =
     among_second said lacked kept (all_in all_options (lacked ++ kept) (options_of said) (within (lacked ++ kept) all_options covered) known)
     (lacks_along given (value_of said) lacked (of_some (λ option. given option ≡ value_of said option) all_options lacked among same) none)
@@ -164,44 +178,38 @@ joined P (x ∷ a) b all more = (all.0, joined P a b all.1 more)
 
 -- ---- the values that texts choose
 
+-- an option of the table has the same text
+text_along : (f g : Texts) → AreSame f g all_options → (it : CommandOption) → is_among all_options (name_of it) ≡ true → f (name_of it) ≡ g (name_of it)
+text_along f g all it among = at_one (λ option. f option ≡ g option) all_options (name_of it) all (one_among all_options (name_of it) among)
+
+-- and the number that is chosen with it
+number_along : (f g : Texts) → AreSame f g all_options → (it : CommandOption) → is_among all_options (name_of it) ≡ true
+    → (default least most n : ℕ) → IsNumber (f (name_of it)) default least most n → IsNumber (g (name_of it)) default least most n
+number_along f g all it among default least most n is = subst (λ (t : Option Text). IsNumber t default least most n) (text_along f g all it among) is
+
 pub placement_along : (f g : Texts) (p : Placement) → AreSame f g all_options → IsPlacement f p → IsPlacement g p
-placement_along f g p all is =
-    let same = of_some (λ option. f option ≡ g option) all_options placement_options refl all in
-    record {
-      chunk = subst (λ (t : Option Text). IsNumber t 4096 64 65536 p.chunk) same.0 is.chunk;
-      whole = is.whole;
-      max_path = subst (λ (t : Option Text). IsNumber t (default_max_path p.chunk) 16 (p.chunk - 16) p.max_path) same.1.0 is.max_path;
-    }
+placement_along f g p all is = record {
+  chunk = number_along f g all option.Chunk refl _ _ _ _ is.chunk;
+  whole = is.whole;
+  max_path = number_along f g all option.MaxPath refl _ _ _ _ is.max_path;
+}
 
 pub policy_along : (f g : Texts) (p : Policy) → AreSame f g all_options → IsPolicy f p → IsPolicy g p
-policy_along f g p all is =
-    let same = of_some (λ option. f option ≡ g option) all_options policy_options refl all in
-    record {
-      chunks = subst (λ (t : Option Text). IsNumber t 1024 1 65536 p.chunks) same.0 is.chunks;
-      extra = subst (λ (t : Option Text). IsNumber t 0 0 65536 p.extra) same.1.0 is.extra;
-      extra_bytes = subst (λ (t : Option Text). IsNumber t 64 32 65536 p.extra_bytes) same.1.1.0 is.extra_bytes;
-      extra_whole = is.extra_whole;
-      fuel = subst (λ (t : Option Text). IsNumber t 10000000 0 1000000000 p.fuel) same.1.1.1.0 is.fuel;
-      backlog = subst (λ (t : Option Text). IsNumber t 64 1 4096 p.backlog) same.1.1.1.1.0 is.backlog;
-      caps = subst (λ (t : Option Text). AreCaps t p.caps) same.1.1.1.1.1.0 is.caps;
-      high = subst (λ (t : Option Text). IsNumber t 900 1 1000 p.high) same.1.1.1.1.1.1.0 is.high;
-      low = subst (λ (t : Option Text). IsNumber t 700 0 (p.high - 1) p.low) same.1.1.1.1.1.1.1.0 is.low;
-      rule = subst (λ (t : Option Text). IsRule t (g (codes "--tickets")) p.rule) same.1.1.1.1.1.1.1.1.0
-          (subst (λ (t : Option Text). IsRule (f (codes "--rule")) t p.rule) same.1.1.1.1.1.1.1.1.1.0 is.rule);
-      knee = subst (λ (t : Option Text). IsNumber t 0 0 999 p.knee) same.1.1.1.1.1.1.1.1.1.1.0 is.knee;
-    }
+policy_along f g p all is = record {
+  chunks = number_along f g all option.Chunks refl _ _ _ _ is.chunks;
+  extra = number_along f g all option.Extra refl _ _ _ _ is.extra;
+  extra_bytes = number_along f g all option.ExtraSize refl _ _ _ _ is.extra_bytes;
+  extra_whole = is.extra_whole;
+  fuel = number_along f g all option.Fuel refl _ _ _ _ is.fuel;
+  backlog = number_along f g all option.Backlog refl _ _ _ _ is.backlog;
+  caps = subst (λ (t : Option Text). AreCaps t p.caps) (text_along f g all option.Caps refl) is.caps;
+  high = number_along f g all option.High refl _ _ _ _ is.high;
+  low = number_along f g all option.Low refl _ _ _ _ is.low;
+  rule = subst (λ (t : Option Text). IsRule t (g (name_of option.Tickets)) p.rule) (text_along f g all option.Rule refl)
+      (subst (λ (t : Option Text). IsRule (f (name_of option.Rule)) t p.rule) (text_along f g all option.Tickets refl) is.rule);
+  knee = number_along f g all option.Knee refl _ _ _ _ is.knee;
+}
 
 pub audit_along : (f g : Texts) (a : Audit) → AreSame f g all_options → IsAudit f a → IsAudit g a
 audit_along f g a all is =
-    let same = of_some (λ option. f option ≡ g option) all_options audit_policy refl all in
-    record {
-      chunks = subst (λ (t : Option Text). IsNumber t 1024 1 65536 a.chunks) same.0 is.chunks;
-      extra = subst (λ (t : Option Text). IsNumber t 0 0 65536 a.extra) same.1.0 is.extra;
-      fuel = subst (λ (t : Option Text). IsNumber t 10000000 0 1000000000 a.fuel) same.1.1.0 is.fuel;
-      backlog = subst (λ (t : Option Text). IsNumber t 64 1 4096 a.backlog) same.1.1.1.0 is.backlog;
-      caps = subst (λ (t : Option Text). AreCaps t a.caps) same.1.1.1.1.0 is.caps;
-      high = subst (λ (t : Option Text). IsNumber t 900 1 1000 a.high) same.1.1.1.1.1.0 is.high;
-      low = subst (λ (t : Option Text). IsNumber t 700 0 (a.high - 1) a.low) same.1.1.1.1.1.1.0 is.low;
-      knee = subst (λ (t : Option Text). IsNumber t 0 0 999 a.knee) same.1.1.1.1.1.1.1.0 is.knee;
-      steps = subst (λ (t : Option Text). IsNumber t 1000000000 0 1000000000 a.steps) same.1.1.1.1.1.1.1.1.0 is.steps;
-    }
+    record { policy = policy_along f g a.policy all is.policy; steps = number_along f g all option.Steps refl _ _ _ _ is.steps }

@@ -1,5 +1,6 @@
 pub mod GivenOptions
 pub mod Lists
+pub mod Named
 pub mod OneRequest
 pub mod Chosen
 pub mod CapsSoFar

@@ -75,7 +75,8 @@ is_budget = inr (inr (inr (inr (inr (inr (inr (inl refl)))))))
 
 -- ---- word lists as the parser has them
 
-readable_rest : (said : List Said) → AllByRecursion IsPlainSaid said → AllByRecursion (IsOneOf all_options) (options_of said) → AllByRecursion IsWord (flat_map words_of said)
+readable_rest : (said : List Said) → AllByRecursion IsPlainSaid said → AllByRecursion (IsOneOf all_options) (options_of said)
+    → AllByRecursion IsWord (flat_map words_of said)
 readable_rest [] plain known = tt
 readable_rest (Given option value ∷ rest) plain known = (inr known.0, (inl plain.0, readable_rest rest plain.1 known.1))
 readable_rest (Positional word ∷ rest) plain known = (inl plain.0, readable_rest rest plain.1 known)
@@ -122,9 +123,12 @@ said_in words (Budget source image certificate) is = is.0
 
 -- a word list is readable, and says what its command says
 pub whole_list : (words : List Text) (request : Request) (is : IsWordList words request) → IsWhole words (name_of request) (said_in words request is)
-whole_list words (Serve source placement policy) is = whole_of words _ _ (placement_options ++ policy_options) is.0 is.1 is_serve (within all_options (placement_options ++ policy_options) refl) (omega arith)
-whole_list words (Run source image certificate policy) is = whole_of words _ _ policy_options is.0 is.1 is_run (within all_options policy_options refl) (omega arith)
-whole_list words (Build source image certificate placement) is = whole_of words _ _ placement_options is.0 is.1 is_build (within all_options placement_options refl) (omega arith)
+whole_list words (Serve source placement policy) is = whole_of words _ _ (placement_options ++ policy_options) is.0 is.1 is_serve
+    (within all_options (placement_options ++ policy_options) refl) (omega arith)
+whole_list words (Run source image certificate policy) is = whole_of words _ _ policy_options is.0 is.1 is_run (within all_options policy_options refl)
+    (omega arith)
+whole_list words (Build source image certificate placement) is = whole_of words _ _ placement_options is.0 is.1 is_build
+    (within all_options placement_options refl) (omega arith)
 whole_list words (Check source image certificate) is = whole_of words _ _ [] is.0 is.1 is_check (within all_options [] refl) (omega arith)
 whole_list words (Graph source placement) is = whole_of words _ _ placement_options is.0 is.1 is_graph (within all_options placement_options refl) (omega arith)
 whole_list words (Demo number) is = whole_of words _ _ [] is.0 is.1 is_demo (within all_options [] refl) (omega arith)
@@ -133,27 +137,41 @@ whole_list words (Budget source image certificate) is = whole_of words _ _ [] is
 
 -- ---- a word list asks for its command
 
-one_word : (given : Texts) (name word : Text) (said : List Said) → Tells given (Positional name ∷ said) → positionals_of said ≡ word ∷ [] → HasOne given name word
+one_word : (given : Texts) (name word : Text) (said : List Said) → Tells given (Positional name ∷ said) → positionals_of said ≡ word ∷ []
+    → HasOne given name word
 one_word given name word said tells is =
     (tells.command, tells.first ∙ ap (λ (ps : List Text). slice_get ps 0) is, tells.second ∙ ap (λ (ps : List Text). slice_get ps 1) is)
 
-two_words : (given : Texts) (name a b : Text) (said : List Said) → Tells given (Positional name ∷ said) → positionals_of said ≡ a ∷ b ∷ [] → HasTwo given name a b
-two_words given name a b said tells is =
-    (tells.command, tells.first ∙ ap (λ (ps : List Text). slice_get ps 0) is, tells.second ∙ ap (λ (ps : List Text). slice_get ps 1) is, tells.third ∙ ap (λ (ps : List Text). slice_get ps 2) is)
+two_words : (given : Texts) (name a b : Text) (said : List Said) → Tells given (Positional name ∷ said) → positionals_of said ≡ a ∷ b ∷ []
+    → HasTwo given name a b
+two_words given name a b said tells is = (
+  tells.command,
+  tells.first ∙ ap (λ (ps : List Text). slice_get ps 0) is,
+  tells.second ∙ ap (λ (ps : List Text). slice_get ps 1) is,
+  tells.third ∙ ap (λ (ps : List Text). slice_get ps 2) is,
+)
 
-three_words : (given : Texts) (name a b c : Text) (said : List Said) → Tells given (Positional name ∷ said) → positionals_of said ≡ a ∷ b ∷ c ∷ [] → HasThree given name a b c
-three_words given name a b c said tells is =
-    (tells.command, tells.first ∙ ap (λ (ps : List Text). slice_get ps 0) is, tells.second ∙ ap (λ (ps : List Text). slice_get ps 1) is, tells.third ∙ ap (λ (ps : List Text). slice_get ps 2) is)
+three_words : (given : Texts) (name a b c : Text) (said : List Said) → Tells given (Positional name ∷ said) → positionals_of said ≡ a ∷ b ∷ c ∷ []
+    → HasThree given name a b c
+three_words given name a b c said tells is = (
+  tells.command,
+  tells.first ∙ ap (λ (ps : List Text). slice_get ps 0) is,
+  tells.second ∙ ap (λ (ps : List Text). slice_get ps 1) is,
+  tells.third ∙ ap (λ (ps : List Text). slice_get ps 2) is,
+)
 
 -- the options that a list lacks aren't told
-none_of : (given : Texts) (name : Text) (said : List Said) (kept lacked : List Text) → Tells given (Positional name ∷ said) → AllByRecursion (IsOneOf kept) (options_of said)
+none_of : (given : Texts) (name : Text) (said : List Said) (kept lacked : List Text) → Tells given (Positional name ∷ said)
+    → AllByRecursion (IsOneOf kept) (options_of said)
     → are_apart kept lacked ≡ true → are_among all_options lacked ≡ true → LacksAll given lacked
 none_of given name said kept lacked tells = lacks given said kept lacked tells.options
 
-abbrev same_told : (given : Texts) (name : Text) (said : List Said) → Tells given (Positional name ∷ said) → AllByRecursion (λ option. value_of said option ≡ given option) all_options
+abbrev same_told : (given : Texts) (name : Text) (said : List Said) → Tells given (Positional name ∷ said)
+    → AllByRecursion (λ option. value_of said option ≡ given option) all_options
 same_told given name said tells = turned given (value_of said) all_options tells.options
 
-asks : (words : List Text) (given : Texts) (request : Request) (is : IsWordList words request) → Tells given (Positional (name_of request) ∷ said_in words request is)
+asks : (words : List Text) (given : Texts) (request : Request) (is : IsWordList words request)
+    → Tells given (Positional (name_of request) ∷ said_in words request is)
     → IsAsked given request
 asks words given (Serve source placement policy) is tells = (
   one_word given (codes "serve") source is.0 tells is.1.positional,
@@ -211,7 +229,8 @@ asks words given (Budget source image certificate) is tells = (
 pub list_asks : (words : List Text) (given : Texts) (request : Request) → IsReadAs words given → IsWordList words request → IsAsked given request
 list_asks words given request read is =
     let whole = whole_list words request is in
-    let same : read.0 ≡ Positional (name_of request) ∷ said_in words request is = one_said words read.0 (Positional (name_of request) ∷ said_in words request is) read.1 whole.whole in
+    let same : read.0 ≡ Positional (name_of request) ∷ said_in words request is = one_said words read.0
+    (Positional (name_of request) ∷ said_in words request is) read.1 whole.whole in
     asks words given request is (subst (Tells given) same read.2)
 
 -- ---- and a command that is asked for is that of a word list
@@ -244,7 +263,8 @@ two_places (p ∷ q ∷ []) a b first second third =
     λ i. is_a i ∷ is_b i ∷ []
 two_places (p ∷ q ∷ r ∷ ps) a b first second third = absurd (cc)
 
-three_places : (ps : List Text) (a b c : Text) → slice_get ps 0 ≡ Some a → slice_get ps 1 ≡ Some b → slice_get ps 2 ≡ Some c → length ps ≤ 3 → ps ≡ a ∷ b ∷ c ∷ []
+three_places : (ps : List Text) (a b c : Text) → slice_get ps 0 ≡ Some a → slice_get ps 1 ≡ Some b → slice_get ps 2 ≡ Some c → length ps ≤ 3
+    → ps ≡ a ∷ b ∷ c ∷ []
 three_places [] a b c first second third few = absurd (cc)
 three_places (p ∷ []) a b c first second third few = absurd (cc)
 three_places (p ∷ q ∷ []) a b c first second third few = absurd (cc)
@@ -272,9 +292,11 @@ place_of_one : (words : List Text) (given : Texts) (b : BeginsWith words given) 
 place_of_one words given b name word has = one_place (positionals_of b.rest) word (sym b.tells.first ∙ has.1) (sym b.tells.second ∙ has.2)
 
 places_of_two : (words : List Text) (given : Texts) (b : BeginsWith words given) (name x y : Text) → HasTwo given name x y → positionals_of b.rest ≡ x ∷ y ∷ []
-places_of_two words given b name x y has = two_places (positionals_of b.rest) x y (sym b.tells.first ∙ has.1) (sym b.tells.second ∙ has.2) (sym b.tells.third ∙ has.3)
+places_of_two words given b name x y has = two_places (positionals_of b.rest) x y (sym b.tells.first ∙ has.1) (sym b.tells.second ∙ has.2)
+    (sym b.tells.third ∙ has.3)
 
-places_of_three : (words : List Text) (given : Texts) (b : BeginsWith words given) (name x y z : Text) → HasThree given name x y z → positionals_of b.rest ≡ x ∷ y ∷ z ∷ []
+places_of_three : (words : List Text) (given : Texts) (b : BeginsWith words given) (name x y z : Text) → HasThree given name x y z
+    → positionals_of b.rest ≡ x ∷ y ∷ z ∷ []
 places_of_three words given b name x y z has =
     three_places (positionals_of b.rest) x y z (sym b.tells.first ∙ has.1) (sym b.tells.second ∙ has.2) (sym b.tells.third ∙ has.3) (omega (arith, b.said.few))
 
@@ -288,54 +310,68 @@ only_placement : (words : List Text) (given : Texts) (b : BeginsWith words given
 only_placement words given b none also =
     only words given b placement_options (policy_options ++ audit_options) refl refl (joined (λ o. given o ≡ None) policy_options audit_options none also)
 
-only_none : (words : List Text) (given : Texts) (b : BeginsWith words given) → LacksAll given placement_options → LacksAll given policy_options → LacksAll given audit_options
+only_none : (words : List Text) (given : Texts) (b : BeginsWith words given) → LacksAll given placement_options → LacksAll given policy_options
+    → LacksAll given audit_options
     → AllByRecursion (IsOneOf []) (options_of b.rest)
 only_none words given b none also more =
     only words given b [] all_options refl refl
-    (joined (λ o. given o ≡ None) placement_options (policy_options ++ audit_options) none (joined (λ o. given o ≡ None) policy_options audit_options also more))
+    (joined (λ o. given o ≡ None) placement_options (policy_options ++ audit_options) none
+    (joined (λ o. given o ≡ None) policy_options audit_options also more))
 
 is_list : (words : List Text) (given : Texts) (b : BeginsWith words given) (request : Request) → IsAsked given request → IsWordList words request
 is_list words given b (Serve source placement policy) asked = (
   b.rest,
-  says_of words given b (codes "serve") (source ∷ []) (placement_options ++ policy_options) asked.0.0 (place_of_one words given b (codes "serve") source asked.0) (only words given b (placement_options ++ policy_options) audit_options refl refl asked.4),
+  says_of words given b (codes "serve") (source ∷ []) (placement_options ++ policy_options) asked.0.0
+      (place_of_one words given b (codes "serve") source asked.0) (only words given b (placement_options ++ policy_options) audit_options refl refl asked.4),
   placement_along given (value_of b.rest) placement b.tells.options asked.1,
   policy_along given (value_of b.rest) policy b.tells.options asked.2,
   asked.3,
 )
 is_list words given b (Run source image certificate policy) asked = (
   b.rest,
-  says_of words given b (codes "run") (source ∷ image ∷ certificate ∷ []) policy_options asked.0.0 (places_of_three words given b (codes "run") source image certificate asked.0) (only words given b policy_options (placement_options ++ audit_options) refl refl (joined (λ o. given o ≡ None) placement_options audit_options asked.1 asked.3)),
+  says_of words given b (codes "run") (source ∷ image ∷ certificate ∷ []) policy_options asked.0.0
+      (places_of_three words given b (codes "run") source image certificate asked.0)
+      (only words given b policy_options (placement_options ++ audit_options) refl refl
+      (joined (λ o. given o ≡ None) placement_options audit_options asked.1 asked.3)),
   policy_along given (value_of b.rest) policy b.tells.options asked.2,
 )
 is_list words given b (Build source image certificate placement) asked = (
   b.rest,
-  says_of words given b (codes "build") (source ∷ image ∷ certificate ∷ []) placement_options asked.0.0 (places_of_three words given b (codes "build") source image certificate asked.0) (only_placement words given b asked.2 asked.3),
+  says_of words given b (codes "build") (source ∷ image ∷ certificate ∷ []) placement_options asked.0.0
+      (places_of_three words given b (codes "build") source image certificate asked.0) (only_placement words given b asked.2 asked.3),
   placement_along given (value_of b.rest) placement b.tells.options asked.1,
 )
 is_list words given b (Check source image certificate) asked = (
   b.rest,
-  says_of words given b (codes "check") (source ∷ image ∷ certificate ∷ []) [] asked.0.0 (places_of_three words given b (codes "check") source image certificate asked.0) (only_none words given b asked.1 asked.2 asked.3),
+  says_of words given b (codes "check") (source ∷ image ∷ certificate ∷ []) [] asked.0.0
+      (places_of_three words given b (codes "check") source image certificate asked.0) (only_none words given b asked.1 asked.2 asked.3),
 )
 is_list words given b (Graph source placement) asked = (
   b.rest,
-  says_of words given b (codes "graph") (source ∷ []) placement_options asked.0.0 (place_of_one words given b (codes "graph") source asked.0) (only_placement words given b asked.2 asked.3),
+  says_of words given b (codes "graph") (source ∷ []) placement_options asked.0.0 (place_of_one words given b (codes "graph") source asked.0)
+      (only_placement words given b asked.2 asked.3),
   placement_along given (value_of b.rest) placement b.tells.options asked.1,
 )
 is_list words given b (Demo number) asked = (
   b.rest,
-  says_of words given b (codes "demo") (canonical_decimal number ∷ []) [] asked.0.0 (place_of_one words given b (codes "demo") (canonical_decimal number) asked.0) (only_none words given b asked.3 asked.4 asked.5),
+  says_of words given b (codes "demo") (canonical_decimal number ∷ []) [] asked.0.0
+      (place_of_one words given b (codes "demo") (canonical_decimal number) asked.0) (only_none words given b asked.3 asked.4 asked.5),
   asked.1,
   asked.2,
 )
 is_list words given b (Audit source log options) asked = (
   b.rest,
-  says_of words given b (codes "audit") (source ∷ log ∷ []) audit_policy asked.0.0 (places_of_two words given b (codes "audit") source log asked.0) (only words given b audit_policy (placement_options ++ run_options) refl refl (joined (λ o. given o ≡ None) placement_options run_options asked.1 asked.2)),
+  says_of words given b (codes "audit") (source ∷ log ∷ []) audit_policy asked.0.0 (places_of_two words given b (codes "audit") source log asked.0)
+      (only words given b audit_policy (placement_options ++ run_options) refl refl
+      (joined (λ o. given o ≡ None) placement_options run_options asked.1 asked.2)),
   audit_along given (value_of b.rest) options b.tells.options asked.3,
 )
 is_list words given b (Budget source image certificate) asked = (
   b.rest,
-  says_of words given b (codes "budget") (source ∷ image ∷ certificate ∷ []) [] asked.0.0 (places_of_three words given b (codes "budget") source image certificate asked.0) (only_none words given b asked.1 asked.2 asked.3),
+  says_of words given b (codes "budget") (source ∷ image ∷ certificate ∷ []) [] asked.0.0
+      (places_of_three words given b (codes "budget") source image certificate asked.0) (only_none words given b asked.1 asked.2 asked.3),
 )
 
-pub asked_list : (words : List Text) (given : Texts) (request : Request) → IsReadable words → IsReadAs words given → IsAsked given request → IsWordList words request
+pub asked_list : (words : List Text) (given : Texts) (request : Request) → IsReadable words → IsReadAs words given → IsAsked given request
+    → IsWordList words request
 asked_list words given request readable read asked = is_list words given (begins words given read.0 readable read.1 read.2) request asked

@@ -17,7 +17,8 @@ use Rattle.command_words.proofs.Chosen.{one_audit, one_placement, one_policy}
 all_said : (words : List (List ℕ)) (a b : Request) (is : IsWordList words a) (also : IsWordList words b)
     → ◌≡◌ {A = List Said} (Positional (name_of a) ∷ said_in words a is) (Positional (name_of b) ∷ said_in words b also)
 all_said words a b is also =
-    one_said words (Positional (name_of a) ∷ said_in words a is) (Positional (name_of b) ∷ said_in words b also) (whole_list words a is).whole (whole_list words b also).whole
+    one_said words (Positional (name_of a) ∷ said_in words a is) (Positional (name_of b) ∷ said_in words b also) (whole_list words a is).whole
+    (whole_list words b also).whole
 
 other_command : (words : List (List ℕ)) (a b : Request) → IsWordList words a → IsWordList words b → bytes_eq (name_of a) (name_of b) ≡ false → ⊥
 other_command words a b is also differ =
@@ -49,17 +50,20 @@ one_request words (Serve source p q) (Serve other r s) is also =
     cc
 one_request words (Run source image certificate p) (Run a b c q) is also =
     let same = same_said words (Run source image certificate p) (Run a b c q) is also in
-    let names : source ∷ image ∷ certificate ∷ [] ≡ a ∷ b ∷ c ∷ [] = same_words is.0 also.0 (source ∷ image ∷ certificate ∷ []) (a ∷ b ∷ c ∷ []) same is.1.positional also.1.positional in
+    let names : source ∷ image ∷ certificate ∷ [] ≡ a ∷ b ∷ c ∷ [] = same_words is.0 also.0 (source ∷ image ∷ certificate ∷ [])
+    (a ∷ b ∷ c ∷ []) same is.1.positional also.1.positional in
     let policy : p ≡ q = same_policy is.0 also.0 p q same is.2 also.2 in
     cc
 one_request words (Build source image certificate p) (Build a b c q) is also =
     let same = same_said words (Build source image certificate p) (Build a b c q) is also in
-    let names : source ∷ image ∷ certificate ∷ [] ≡ a ∷ b ∷ c ∷ [] = same_words is.0 also.0 (source ∷ image ∷ certificate ∷ []) (a ∷ b ∷ c ∷ []) same is.1.positional also.1.positional in
+    let names : source ∷ image ∷ certificate ∷ [] ≡ a ∷ b ∷ c ∷ [] = same_words is.0 also.0 (source ∷ image ∷ certificate ∷ [])
+    (a ∷ b ∷ c ∷ []) same is.1.positional also.1.positional in
     let placement : p ≡ q = same_placement is.0 also.0 p q same is.2 also.2 in
     cc
 one_request words (Check source image certificate) (Check a b c) is also =
     let same = same_said words (Check source image certificate) (Check a b c) is also in
-    let names : source ∷ image ∷ certificate ∷ [] ≡ a ∷ b ∷ c ∷ [] = same_words is.0 also.0 (source ∷ image ∷ certificate ∷ []) (a ∷ b ∷ c ∷ []) same is.1.positional also.1.positional in
+    let names : source ∷ image ∷ certificate ∷ [] ≡ a ∷ b ∷ c ∷ [] = same_words is.0 also.0 (source ∷ image ∷ certificate ∷ [])
+    (a ∷ b ∷ c ∷ []) same is.1.positional also.1.positional in
     cc
 one_request words (Graph source p) (Graph other q) is also =
     let same = same_said words (Graph source p) (Graph other q) is also in
@@ -68,7 +72,8 @@ one_request words (Graph source p) (Graph other q) is also =
     cc
 one_request words (Demo number) (Demo other) is also =
     let same = same_said words (Demo number) (Demo other) is also in
-    let names : canonical_decimal number ∷ [] ≡ canonical_decimal other ∷ [] = same_words is.0 also.0 (canonical_decimal number ∷ []) (canonical_decimal other ∷ []) same is.1.positional also.1.positional in
+    let names : canonical_decimal number ∷ [] ≡ canonical_decimal other ∷ [] = same_words is.0 also.0 (canonical_decimal number ∷ [])
+    (canonical_decimal other ∷ []) same is.1.positional also.1.positional in
     ap Demo (decimal_unique number other (cc))
 one_request words (Audit source log options) (Audit a b others) is also =
     let same = same_said words (Audit source log options) (Audit a b others) is also in
@@ -77,7 +82,8 @@ one_request words (Audit source log options) (Audit a b others) is also =
     cc
 one_request words (Budget source image certificate) (Budget a b c) is also =
     let same = same_said words (Budget source image certificate) (Budget a b c) is also in
-    let names : source ∷ image ∷ certificate ∷ [] ≡ a ∷ b ∷ c ∷ [] = same_words is.0 also.0 (source ∷ image ∷ certificate ∷ []) (a ∷ b ∷ c ∷ []) same is.1.positional also.1.positional in
+    let names : source ∷ image ∷ certificate ∷ [] ≡ a ∷ b ∷ c ∷ [] = same_words is.0 also.0 (source ∷ image ∷ certificate ∷ [])
+    (a ∷ b ∷ c ∷ []) same is.1.positional also.1.positional in
     cc
 one_request words (Serve source p q) b is also = absurd (other_command words (Serve source p q) b is also refl)
 one_request words (Run source image certificate p) b is also = absurd (other_command words (Run source image certificate p) b is also refl)

@@ -1,5 +1,5 @@
 -- What the parser makes of the words as a whole.
-use Rattle.std.proofs.Common.{◌≡◌, ◌≢◌, ◌∙◌, inl, inr, ℕ, refl, ap, sym, subst, Bool, true, false, true≢false, ◌==◌, List, [], ◌∷◌, ◌||◌, ◌≤◌, length, Option, Some, None, codes, cond}
+use Rattle.std.proofs.Common.{◌≡◌, ◌≢◌, ◌∙◌, inl, inr, ℕ, refl, ap, sym, subst, Bool, true, false, true≢false, ◌==◌, List, [], ◌∷◌, ◌||◌, ◌≤◌, length, Option, Some, None, codes, cond, map}
 use Rattle.std.specs.Prelude.{fold, is_some}
 use Rattle.std.specs.List.{flat_map, AllByRecursion}
 use Rattle.clap.specs.Kinds.{Kinds, or_else}
@@ -9,7 +9,9 @@ use Rattle.clap.specs.Walk.{Held, Row, Rule, Text, finished, has_row, first_of, 
 use Rattle.command_words.specs.Said.{Said, words_of, IsPlain, positionals_of, options_of, value_of, IsOneOf, AreOnce}
 use Rattle.command_words.specs.Parse.{words_app, all_options, IsWord, IsReadable, command_names, IsSaid, Tells, IsReadAs}
 use Rattle.command_words.proofs.GivenOptions.{all_among}
-use Rattle.command_words.proofs.Rules.{rules, top, top_is, are_places, places, is_option}
+use Rattle.command_words.specs.OptionTable.{all_table, long_name_of, name_of}
+use Rattle.command_words.specs.declared.option_table.CommandOption.{CommandOption}
+use Rattle.command_words.proofs.Rules.{rules, top, top_is, are_places, places, is_option, option_rule}
 use Rattle.command_words.proofs.Steps.{between}
 use Rattle.command_words.proofs.Rows.{first_none, then_none, both_none}
 use Rattle.command_words.proofs.Walks.{fault_from, rows_at as held_rows, rows_of, passes, find_said}
@@ -22,8 +24,12 @@ app = record { top = top; subs = [] }
 abbrev HaveNoDefaults : List Rule → Type 0
 HaveNoDefaults = AllByRecursion (λ a. a.defaults ≡ [])
 
+none_in_table : (table : List CommandOption) → HaveNoDefaults (map (λ it. option_rule (name_of it) (long_name_of it)) table)
+none_in_table [] = tt
+none_in_table (it ∷ table) = (refl, none_in_table table)
+
 none_in_rules : HaveNoDefaults rules
-none_in_rules = (refl, (refl, (refl, (refl, (refl, (refl, (refl, (refl, (refl, (refl, (refl, (refl, (refl, (refl, (refl, (refl, (refl, (refl, tt))))))))))))))))))
+none_in_rules = (refl, (refl, (refl, (refl, none_in_table all_table))))
 
 no_default : (rows : List Row) (a : Rule) → a.defaults ≡ [] → with_default rows a ≡ rows
 no_default rows a none = go (has_row a.id rows)
@@ -47,7 +53,8 @@ no_defaults_fault : (rows : List Row) (left : List Rule) → HaveNoDefaults left
 unfolding defaults_fault
 no_defaults_fault rows [] none = refl
 no_defaults_fault rows (a ∷ left) none =
-    both_none _ _ (no_default_fault rows a none.0) (ap (λ (r : List Row). defaults_fault r left) (no_default rows a none.0) ∙ no_defaults_fault rows left none.1)
+    both_none _ _ (no_default_fault rows a none.0)
+    (ap (λ (r : List Row). defaults_fault r left) (no_default rows a none.0) ∙ no_defaults_fault rows left none.1)
 
 -- there is no subcommand to enter
 not_entered : (stop : Option (Text × List Text)) → is_some (entered app stop) ≡ false
@@ -85,11 +92,13 @@ no_faults : (words : List Text) → fault_of words_app words ≡ [] → fault_fr
 no_faults words none =
     let level : or_else (of_walk words) (or_else (of_end words) (of_rest words)) ≡ [] = sym (faults_are words) ∙ none in
     let later = then_none (of_walk words) (or_else (of_end words) (of_rest words)) level in
-    both_none (of_walk words) (of_end words) (first_none (of_walk words) (or_else (of_end words) (of_rest words)) level) (first_none (of_end words) (of_rest words) later)
+    both_none (of_walk words) (of_end words) (first_none (of_walk words) (or_else (of_end words) (of_rest words)) level)
+    (first_none (of_end words) (of_rest words) later)
 
 all_pass : (words : List Text) → fault_from (between nothing_held 1) words ≡ [] → fault_of words_app words ≡ []
 all_pass words none =
-    let rest : of_rest words ≡ [] = both_none (defaults_fault (held_rows (end_of words)) rules) [] (no_defaults_fault (held_rows (end_of words)) rules none_in_rules) refl in
+    let rest : of_rest words ≡ [] = both_none (defaults_fault (held_rows (end_of words)) rules) []
+    (no_defaults_fault (held_rows (end_of words)) rules none_in_rules) refl in
     faults_are words ∙ both_none (of_walk words) (or_else (of_end words) (of_rest words)) (first_none (of_walk words) (of_end words) none)
     (both_none (of_end words) (of_rest words) (then_none (of_walk words) (of_end words) none) rest)
 
@@ -134,7 +143,8 @@ told said name = first_of name (rows_of places said)
 tells_options : (said : List Said) → length (positionals_of said) ≤ 4 → (options : List Text) → AllByRecursion (IsOneOf all_options) options
     → AllByRecursion (λ option. told said option ≡ value_of said option) options
 tells_options said few [] known = tt
-tells_options said few (option ∷ options) known = (option_told places said option bare_places (is_option option known.0) few, tells_options said few options known.1)
+tells_options said few (option ∷ options) known =
+    (option_told places said option bare_places (is_option option known.0) few, tells_options said few options known.1)
 
 tells : (said : List Said) → AllByRecursion (IsOneOf all_options) (options_of said) → length (positionals_of said) ≤ 4 → Tells (told said) said
 tells said known few = record {
@@ -151,7 +161,8 @@ pub read_as : (words : List Text) → IsReadable words → fault_of words_app wo
 read_as words readable none given tell =
     let found = find_said words (all_words words readable) nothing_held [] 1 places are_places refl (no_faults words none) in
     let few = few_of_new found.said [] places found.new in
-    let said : IsSaid words found.said = record { in_words = found.in_words; plain = found.plain; known = found.known; once = (once_of_new found.said [] places found.new).0; few = few } in
+    let said : IsSaid words found.said =
+    record { in_words = found.in_words; plain = found.plain; known = found.known; once = (once_of_new found.said [] places found.new).0; few = few } in
     let told_is : told found.said ≡ given = λ i name. (ap (λ (rows : List Row). first_of name rows) (sym (rows_are words ∙ found.rows_are)) ∙ tell name) i in
     (found.said, said, subst (λ f. Tells f found.said) told_is (tells found.said found.known few))
 

@@ -36,7 +36,8 @@ lands id change missing (r ∷ rows) none = go (bytes_eq r.id id) refl none (lan
         let here : has_row id rows ≡ false = rw is at has in
         rw is (ap (λ (rest : List Row). r ∷ rest) (below here))
 
-pub new_row : (name value : Text) (rows : List Row) → has_row name rows ≡ false → with_values name AsWritten CommandLine (value ∷ []) (without name rows) ≡ rows ++ row name value ∷ []
+pub new_row : (name value : Text) (rows : List Row) → has_row name rows ≡ false
+    → with_values name AsWritten CommandLine (value ∷ []) (without name rows) ≡ rows ++ row name value ∷ []
 new_row name value rows none =
     let kept : without name rows ≡ rows = lands name (λ r. []) [] rows none ∙ append-nil rows in
     rw kept (lands name (more_values CommandLine (value ∷ [])) (row name value ∷ []) rows none)
@@ -54,7 +55,8 @@ value_once h name value long index is none = go (has_row name (settled_rows rule
     go false has = has
     go true has = let bad : kind.ArgumentConflict ∷ [] ≡ [] = rw (is, has) at none in absurd (cc)
 
-pub value_row : (h : Held) (rows : List Row) (name value : Text) (long : Option Text) (index : Option ℕ) → arg_by_id rules name ≡ Some (text_rule name long index)
+pub value_row : (h : Held) (rows : List Row) (name value : Text) (long : Option Text) (index : Option ℕ)
+    → arg_by_id rules name ≡ Some (text_rule name long index)
     → settled_rows rules h.pending h.rows ≡ rows → has_row name rows ≡ false
     → settled_rows rules (with_value h name value).pending (with_value h name value).rows ≡ rows ++ row name value ∷ []
 value_row h rows name value long index is are none = rw (is, are) (new_row name value rows none)

@@ -1,5 +1,5 @@
--- The rules that the parser goes by: eighteen arguments, each with one text as its value.
-use Rattle.std.proofs.Common.{◌≡◌, ℕ, refl, sym, subst, inl, inr, codes, true, false, List, [], ◌∷◌, Option, Some, None}
+-- The rules that the parser goes by: of the positional words and of the options, each with one text as its value.
+use Rattle.std.proofs.Common.{◌≡◌, ℕ, refl, sym, subst, inl, inr, codes, true, false, List, [], ◌∷◌, drop, map, Option, Some, None}
 use Rattle.std.specs.Str.{bytes_eq}
 use Rattle.clap.specs.Walk.{Rule, Text, arg_by_id, arg_by_index, arg_by_long, next_position}
 use Rattle.clap.specs.Simple.{App, Shape, built}
@@ -8,6 +8,9 @@ use Rattle.clap.specs.Lexer.{long_of}
 use Rattle.clap.specs.declared.builder.action.ArgAction.TheVariants.{Set}
 use Rattle.clap.specs.declared.builder.value_parser.ValueParser.TheVariants.{String}
 use Rattle.clap.proofs.OnLiterals.{clap_on_literals}
+use Rattle.command_words.specs.OptionTable.{all_table, long_name_of, name_of, names_of}
+use Rattle.command_words.specs.declared.option_table.CommandOption.{CommandOption}
+use Rattle.command_words.specs.declared.option_table.CommandOption.TheVariants as option
 use Rattle.command_words.specs.Said.{IsOneOf}
 use Rattle.command_words.specs.Parse.{words_app, all_options}
 
@@ -45,12 +48,7 @@ places = codes "command" ∷ codes "first" ∷ codes "second" ∷ codes "third" 
 
 abbrev pub rules : List Rule
 rules = place_rule (codes "command") 1 ∷ place_rule (codes "first") 2 ∷ place_rule (codes "second") 3 ∷ place_rule (codes "third") 4
-    ∷ option_rule (codes "--chunk") (codes "chunk") ∷ option_rule (codes "--max-path") (codes "max-path")
-    ∷ option_rule (codes "--chunks") (codes "chunks") ∷ option_rule (codes "--extra") (codes "extra") ∷ option_rule (codes "--extra-size") (codes "extra-size")
-    ∷ option_rule (codes "--fuel") (codes "fuel") ∷ option_rule (codes "--backlog") (codes "backlog")
-    ∷ option_rule (codes "--caps") (codes "caps") ∷ option_rule (codes "--high") (codes "high") ∷ option_rule (codes "--low") (codes "low")
-    ∷ option_rule (codes "--rule") (codes "rule") ∷ option_rule (codes "--tickets") (codes "tickets") ∷ option_rule (codes "--knee") (codes "knee")
-    ∷ option_rule (codes "--steps") (codes "steps") ∷ []
+    ∷ map (λ it. option_rule (name_of it) (long_name_of it)) all_table
 
 -- the command as it is built
 abbrev pub top : Shape
@@ -92,28 +90,36 @@ pub record IsOption (name : Text) : Type 0 where
   pub rest : Text
   pub begins : name ≡ 45 ∷ rest
 
-option_of : (name rest long : Text) → name ≡ 45 ∷ rest → long_of name ≡ Some (long, None) → bytes_eq name (45 ∷ 45 ∷ []) ≡ false
-    → arg_by_long rules long ≡ Some (option_rule name long) → arg_by_id rules name ≡ Some (option_rule name long) → IsOption name
-option_of name rest long begins is_long no_end by_long by_id =
-    record { long = long; is_long = is_long; no_end = no_end; by_long = by_long; by_id = by_id; rest = rest; begins = begins }
+option_at : (it : CommandOption) → long_of (name_of it) ≡ Some (long_name_of it, None) → bytes_eq (name_of it) (45 ∷ 45 ∷ []) ≡ false
+    → arg_by_long rules (long_name_of it) ≡ Some (option_rule (name_of it) (long_name_of it))
+    → arg_by_id rules (name_of it) ≡ Some (option_rule (name_of it) (long_name_of it)) → name_of it ≡ 45 ∷ drop 1 (name_of it) → IsOption (name_of it)
+option_at it is_long no_end by_long by_id begins =
+    record { long = long_name_of it; is_long = is_long; no_end = no_end; by_long = by_long; by_id = by_id; rest = drop 1 (name_of it); begins = begins }
+
+is_of_table : (it : CommandOption) → IsOption (name_of it)
+unfolding clap_on_literals
+is_of_table option.Chunk = option_at option.Chunk refl refl refl refl refl
+is_of_table option.MaxPath = option_at option.MaxPath refl refl refl refl refl
+is_of_table option.ExtraSize = option_at option.ExtraSize refl refl refl refl refl
+is_of_table option.Rule = option_at option.Rule refl refl refl refl refl
+is_of_table option.Tickets = option_at option.Tickets refl refl refl refl refl
+is_of_table option.Chunks = option_at option.Chunks refl refl refl refl refl
+is_of_table option.Extra = option_at option.Extra refl refl refl refl refl
+is_of_table option.Fuel = option_at option.Fuel refl refl refl refl refl
+is_of_table option.Backlog = option_at option.Backlog refl refl refl refl refl
+is_of_table option.Caps = option_at option.Caps refl refl refl refl refl
+is_of_table option.High = option_at option.High refl refl refl refl refl
+is_of_table option.Low = option_at option.Low refl refl refl refl refl
+is_of_table option.Knee = option_at option.Knee refl refl refl refl refl
+is_of_table option.Steps = option_at option.Steps refl refl refl refl refl
+
+one_of_table : (table : List CommandOption) (name : Text) → IsOneOf (names_of table) name → IsOption name
+one_of_table [] name is = absurd is
+one_of_table (it ∷ table) name (inl e) = subst IsOption (sym e) (is_of_table it)
+one_of_table (it ∷ table) name (inr more) = one_of_table table name more
 
 pub is_option : (name : Text) → IsOneOf all_options name → IsOption name
-unfolding clap_on_literals
-is_option name (inl e) = subst IsOption (sym e) (option_of (codes "--chunk") (codes "-chunk") (codes "chunk") refl refl refl refl refl)
-is_option name (inr (inl e)) = subst IsOption (sym e) (option_of (codes "--max-path") (codes "-max-path") (codes "max-path") refl refl refl refl refl)
-is_option name (inr (inr (inl e))) = subst IsOption (sym e) (option_of (codes "--chunks") (codes "-chunks") (codes "chunks") refl refl refl refl refl)
-is_option name (inr (inr (inr (inl e)))) = subst IsOption (sym e) (option_of (codes "--extra") (codes "-extra") (codes "extra") refl refl refl refl refl)
-is_option name (inr (inr (inr (inr (inl e))))) = subst IsOption (sym e) (option_of (codes "--extra-size") (codes "-extra-size") (codes "extra-size") refl refl refl refl refl)
-is_option name (inr (inr (inr (inr (inr (inl e)))))) = subst IsOption (sym e) (option_of (codes "--fuel") (codes "-fuel") (codes "fuel") refl refl refl refl refl)
-is_option name (inr (inr (inr (inr (inr (inr (inl e))))))) = subst IsOption (sym e) (option_of (codes "--backlog") (codes "-backlog") (codes "backlog") refl refl refl refl refl)
-is_option name (inr (inr (inr (inr (inr (inr (inr (inl e)))))))) = subst IsOption (sym e) (option_of (codes "--caps") (codes "-caps") (codes "caps") refl refl refl refl refl)
-is_option name (inr (inr (inr (inr (inr (inr (inr (inr (inl e))))))))) = subst IsOption (sym e) (option_of (codes "--high") (codes "-high") (codes "high") refl refl refl refl refl)
-is_option name (inr (inr (inr (inr (inr (inr (inr (inr (inr (inl e)))))))))) = subst IsOption (sym e) (option_of (codes "--low") (codes "-low") (codes "low") refl refl refl refl refl)
-is_option name (inr (inr (inr (inr (inr (inr (inr (inr (inr (inr (inl e))))))))))) = subst IsOption (sym e) (option_of (codes "--rule") (codes "-rule") (codes "rule") refl refl refl refl refl)
-is_option name (inr (inr (inr (inr (inr (inr (inr (inr (inr (inr (inr (inl e)))))))))))) = subst IsOption (sym e) (option_of (codes "--tickets") (codes "-tickets") (codes "tickets") refl refl refl refl refl)
-is_option name (inr (inr (inr (inr (inr (inr (inr (inr (inr (inr (inr (inr (inl e))))))))))))) = subst IsOption (sym e) (option_of (codes "--knee") (codes "-knee") (codes "knee") refl refl refl refl refl)
-is_option name (inr (inr (inr (inr (inr (inr (inr (inr (inr (inr (inr (inr (inr (inl e)))))))))))))) = subst IsOption (sym e) (option_of (codes "--steps") (codes "-steps") (codes "steps") refl refl refl refl refl)
-is_option name (inr (inr (inr (inr (inr (inr (inr (inr (inr (inr (inr (inr (inr (inr none)))))))))))))) = absurd none
+is_option name is = one_of_table all_table name is
 
 -- what the rules know of the name of a positional word, which stands at this place and before the next
 pub record IsPlace (name : Text) (place next : ℕ) : Type 0 where

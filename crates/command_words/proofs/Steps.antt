@@ -75,10 +75,12 @@ unfolding walked
 place_walked h place next name word is plain =
     rw (plain.no_end, plain.no_long, plain.no_short, is.by_index, and_false (is_pending (place_rule name place) h.pending), is.on) refl
 
-pub place_turn : (h : Held) (place next : ℕ) (name word : Text) → IsPlace name place next → IsNoFlag word → turn_fault top [] (between h place) word ≡ settle_fault rules false h
+pub place_turn : (h : Held) (place next : ℕ) (name word : Text) → IsPlace name place next → IsNoFlag word
+    → turn_fault top [] (between h place) word ≡ settle_fault rules false h
 place_turn h place next name word is plain =
     rw (plain.no_end, plain.no_long, plain.no_short, is.by_index, and_false (is_pending (place_rule name place) h.pending)) refl
 
 -- no positional word is left
-pub stray_turn : (h : Held) (place : ℕ) (word : Text) → arg_by_index rules place ≡ None → IsNoFlag word → turn_fault top [] (between h place) word ≡ kind.UnknownArgument ∷ []
+pub stray_turn : (h : Held) (place : ℕ) (word : Text) → arg_by_index rules place ≡ None → IsNoFlag word
+    → turn_fault top [] (between h place) word ≡ kind.UnknownArgument ∷ []
 stray_turn h place word none plain = rw (plain.no_end, plain.no_long, plain.no_short, none) refl

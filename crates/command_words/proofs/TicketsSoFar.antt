@@ -6,6 +6,8 @@ use Rattle.cap_text.specs.Pieces.{pieces, after_each}
 use Rattle.cap_text.proofs.DecimalLaws.{decimal_unique, decimal_field, FieldEnds}
 use Rattle.cap_text.proofs.PieceLaws.{pieces_joined, text_of_pieces, lacks_decimal}
 use Rattle.command_words.specs.declared.options.Tickets.{Tickets}
+use Rattle.command_words.specs.OptionTable.{least_of, most_of}
+use Rattle.command_words.specs.declared.option_table.CommandOption.TheVariants as option
 use Rattle.command_words.specs.Values.{ticket_text, AreTicketsFrom, IsTicketsText, tickets_of}
 
 abbrev pub Pairs : Type 0
@@ -20,7 +22,8 @@ equals_ends rest (inr within) = absurd (omega (arith, within.0, within.1))
 -- a text is that of one thread and its tickets
 pub ticket_parts : (thread count other more : ℕ) → ticket_text (thread, count) ≡ ticket_text (other, more) → (thread ≡ other) × (count ≡ more)
 ticket_parts thread count other more same =
-    let both = decimal_field thread other (61 ∷ canonical_decimal count) (61 ∷ canonical_decimal more) (equals_ends (canonical_decimal count)) (equals_ends (canonical_decimal more)) same in
+    let both = decimal_field thread other (61 ∷ canonical_decimal count) (61 ∷ canonical_decimal more) (equals_ends (canonical_decimal count))
+    (equals_ends (canonical_decimal more)) same in
     let rest : 61 ∷ canonical_decimal count ≡ 61 ∷ canonical_decimal more = both.1 in
     (both.0, decimal_unique count more (cc))
 
@@ -34,7 +37,8 @@ pieces_of_ticket thread count =
     ∙ pieces_joined 61 (canonical_decimal thread) (canonical_decimal count ∷ []) (lacks_decimal 61 thread (λ c least most e. absurd (omega arith)))
     (lacks_decimal 61 count (λ c least most e. absurd (omega arith)), tt)
 
-pub ticket_of_pieces : (field : List ℕ) (thread count : ℕ) → pieces 61 field ≡ canonical_decimal thread ∷ canonical_decimal count ∷ [] → field ≡ ticket_text (thread, count)
+pub ticket_of_pieces : (field : List ℕ) (thread count : ℕ) → pieces 61 field ≡ canonical_decimal thread ∷ canonical_decimal count ∷ []
+    → field ≡ ticket_text (thread, count)
 ticket_of_pieces field thread count e = text_of_pieces 61 field (canonical_decimal thread) (canonical_decimal count ∷ []) e ∙ joined_two thread count
 
 -- ---- the pieces of a text at `=`, read one after another
@@ -42,16 +46,17 @@ ticket_of_pieces field thread count e = text_of_pieces 61 field (canonical_decim
 module _ (field : List ℕ) (parts : List (List ℕ)) where
   -- the first is no number
   pub no_thread : parts ≡ pieces 61 field → ((n : ℕ) (rest : List (List ℕ)) → n ≤ 1000000 → parts ≡ canonical_decimal n ∷ rest → ⊥)
-      → (thread count : ℕ) → thread ≤ 1000000 → 1 ≤ count → count ≤ 1024 → field ≡ ticket_text (thread, count) → ⊥
-  no_thread is none thread count small some few text = none thread (canonical_decimal count ∷ []) small (is ∙ ap (pieces 61) text ∙ pieces_of_ticket thread count)
+      → (thread count : ℕ) → thread ≤ 1000000 → least_of option.Tickets ≤ count → count ≤ most_of option.Tickets → field ≡ ticket_text (thread, count) → ⊥
+  no_thread is none thread count small some few text = none thread (canonical_decimal count ∷ []) small
+      (is ∙ ap (pieces 61) text ∙ pieces_of_ticket thread count)
 
 module _ (field : List ℕ) (parts left : List (List ℕ)) (first : ℕ) (is : parts ≡ pieces 61 field) (one : parts ≡ canonical_decimal first ∷ left) where
   all_of : (thread count : ℕ) → field ≡ ticket_text (thread, count) → canonical_decimal first ∷ left ≡ canonical_decimal thread ∷ canonical_decimal count ∷ []
   all_of thread count text = sym one ∙ is ∙ ap (pieces 61) text ∙ pieces_of_ticket thread count
 
   -- the second is no number
-  pub no_count : ((n : ℕ) (rest : List (List ℕ)) → n ≤ 1024 → left ≡ canonical_decimal n ∷ rest → ⊥)
-      → (thread count : ℕ) → thread ≤ 1000000 → 1 ≤ count → count ≤ 1024 → field ≡ ticket_text (thread, count) → ⊥
+  pub no_count : ((n : ℕ) (rest : List (List ℕ)) → n ≤ most_of option.Tickets → left ≡ canonical_decimal n ∷ rest → ⊥)
+      → (thread count : ℕ) → thread ≤ 1000000 → least_of option.Tickets ≤ count → count ≤ most_of option.Tickets → field ≡ ticket_text (thread, count) → ⊥
   no_count none thread count small some few text = let all = all_of thread count text in none count [] few (cc)
 
 module _ (field : List ℕ) (parts left rest : List (List ℕ)) (first second : ℕ) (is : parts ≡ pieces 61 field) (one : parts ≡ canonical_decimal first ∷ left)
@@ -61,11 +66,13 @@ module _ (field : List ℕ) (parts left rest : List (List ℕ)) (first second : 
   both_of thread count text = ap (λ (l : List (List ℕ)). canonical_decimal first ∷ l) (sym two) ∙ all_of field parts left first is one thread count text
 
   -- a third one
-  pub no_end : (rest ≡ [] → ⊥) → (thread count : ℕ) → thread ≤ 1000000 → 1 ≤ count → count ≤ 1024 → field ≡ ticket_text (thread, count) → ⊥
+  pub no_end : (rest ≡ [] → ⊥) → (thread count : ℕ) → thread ≤ 1000000 → least_of option.Tickets ≤ count → count ≤ most_of option.Tickets
+      → field ≡ ticket_text (thread, count) → ⊥
   no_end more thread count small some few text = let all = both_of thread count text in more (cc)
 
-  -- two numbers, of which the second is 0
-  pub no_tickets : second ≡ 0 → (thread count : ℕ) → thread ≤ 1000000 → 1 ≤ count → count ≤ 1024 → field ≡ ticket_text (thread, count) → ⊥
+  -- two numbers, of which the second is too small
+  pub no_tickets : second < least_of option.Tickets → (thread count : ℕ) → thread ≤ 1000000 → least_of option.Tickets ≤ count → count ≤ most_of option.Tickets
+      → field ≡ ticket_text (thread, count) → ⊥
   no_tickets none thread count small some few text =
       let all = both_of thread count text in
       let same : canonical_decimal second ≡ canonical_decimal count = cc in
@@ -84,7 +91,8 @@ pub record AreSoFar (text : List ℕ) (left : List (List ℕ)) (least : ℕ) (ti
   pub read : Pairs
   pub joined : pieces 44 text ≡ map ticket_text read ++ left
   pub rising : (rest : Pairs) → AreTicketsFrom least rest → AreTicketsFrom 0 (read ++ rest)
-  pub only : (others : Pairs) → IsTicketsText text others → (rest : Pairs) × (left ≡ map ticket_text rest) × AreTicketsFrom least rest × (length read + length rest ≤ 64)
+  pub only : (others : Pairs) → IsTicketsText text others → (rest : Pairs) × (left ≡ map ticket_text rest) × AreTicketsFrom least rest
+      × (length read + length rest ≤ 64)
   pub few : length read ≤ 64
   pub tickets_are : tickets ≡ tickets_of read
 
@@ -108,7 +116,8 @@ length-end [] pair = refl
 length-end (first ∷ pairs) pair = omega (arith, length-end pairs pair)
 
 -- the array with one thread more
-set_behind : (pairs : Pairs) (pair : ℕ × ℕ) (n : ℕ) → slice_set (pairs ++ replicate (suc n) (0, 0)) (length pairs) pair ≡ (pairs ++ pair ∷ []) ++ replicate n (0, 0)
+set_behind : (pairs : Pairs) (pair : ℕ × ℕ) (n : ℕ)
+    → slice_set (pairs ++ replicate (suc n) (0, 0)) (length pairs) pair ≡ (pairs ++ pair ∷ []) ++ replicate n (0, 0)
 set_behind [] pair n = refl
 set_behind (first ∷ pairs) pair n = ap (λ (ps : Pairs). first ∷ ps) (set_behind pairs pair n)
 
@@ -124,13 +133,17 @@ one_set read pair room = by (63 - length read) (omega arith) where
       let at = room_of (length read) n e in
       let count : length read + 1 ≡ length (read ++ pair ∷ []) = sym (length-end read pair) in
       let left : n ≡ 64 - length (read ++ pair ∷ []) = sym at.1 ∙ ap (λ (k : ℕ). 64 - k) count in
-      let pairs : slice_set (read ++ replicate (64 - length read) (0, 0)) (length read) pair ≡ (read ++ pair ∷ []) ++ replicate (64 - length (read ++ pair ∷ [])) (0, 0) =
-      ap (λ (k : ℕ). slice_set (read ++ replicate k (0, 0)) (length read) pair) at.0 ∙ set_behind read pair n ∙ ap (λ (k : ℕ). (read ++ pair ∷ []) ++ replicate k (0, 0)) left in
+      let pairs : slice_set (read ++ replicate (64 - length read) (0, 0)) (length read) pair ≡ (read ++ pair ∷ []) ++ replicate
+      (64 - length (read ++ pair ∷ [])) (0, 0) =
+      ap (λ (k : ℕ). slice_set (read ++ replicate k (0, 0)) (length read) pair) at.0 ∙ set_behind read pair n
+      ∙ ap (λ (k : ℕ). (read ++ pair ∷ []) ++ replicate k (0, 0)) left in
       λ i. record { pairs = pairs i; count = count i }
 
 -- one thread more
-pub one_more : (text field : List ℕ) (left rest : List (List ℕ)) (least thread count : ℕ) (tickets now : Tickets) → AreSoFar text left least tickets → left ≡ field ∷ rest
-    → field ≡ ticket_text (thread, count) → least ≤ thread → thread ≤ 1000000 → 1 ≤ count → count ≤ 1024 → tickets.count < 64
+pub one_more : (text field : List ℕ) (left rest : List (List ℕ)) (least thread count : ℕ) (tickets now : Tickets) → AreSoFar text left least tickets
+    → left ≡ field ∷ rest
+    → field ≡ ticket_text (thread, count) → least ≤ thread → thread ≤ 1000000 → least_of option.Tickets ≤ count → count ≤ most_of option.Tickets
+    → tickets.count < 64
     → now ≡ record { pairs = slice_set tickets.pairs tickets.count (thread, count); count = tickets.count + 1 } → AreSoFar text rest (thread + 1) now
 one_more text field left rest least thread count tickets now so_far parts is above small some few room set =
     let read : Pairs = so_far.read ++ (thread, count) ∷ [] in
@@ -143,7 +156,8 @@ one_more text field left rest least thread count tickets now so_far parts is abo
           ∙ ap (λ (l : List (List ℕ)). l ++ rest) (sym (map-append ticket_text so_far.read ((thread, count) ∷ [])));
       rising = λ more from.
           let next : AreTicketsFrom (suc thread) more = subst (λ (n : ℕ). AreTicketsFrom n more) (omega arith) from in
-          subst (AreTicketsFrom 0) (sym (append_assoc so_far.read ((thread, count) ∷ []) more)) (so_far.rising ((thread, count) ∷ more) (above, small, some, few, next));
+          subst (AreTicketsFrom 0) (sym (append_assoc so_far.read ((thread, count) ∷ []) more))
+          (so_far.rising ((thread, count) ∷ more) (above, small, some, few, next));
       only = λ others whole. let of = so_far.only others whole in next of.0 (sym parts ∙ of.1) of.2 of.3;
       few = omega (arith, length-end so_far.read (thread, count), fits);
       tickets_are = set ∙ ap (λ (t : Tickets). record { pairs = slice_set t.pairs t.count (thread, count); count = t.count + 1 }) so_far.tickets_are
@@ -161,7 +175,8 @@ one_more text field left rest least thread count tickets now so_far parts is abo
 
 -- a next piece that is no tickets, or of no thread from `least` on
 pub no_ticket : (text field : List ℕ) (left rest : List (List ℕ)) (least : ℕ) (tickets : Tickets) → AreSoFar text left least tickets → left ≡ field ∷ rest
-    → ((thread count : ℕ) → least ≤ thread → thread ≤ 1000000 → 1 ≤ count → count ≤ 1024 → field ≡ ticket_text (thread, count) → ⊥)
+    → ((thread count : ℕ) → least ≤ thread → thread ≤ 1000000 → least_of option.Tickets ≤ count → count ≤ most_of option.Tickets
+    → field ≡ ticket_text (thread, count) → ⊥)
     → (others : Pairs) → IsTicketsText text others → ⊥
 no_ticket text field left rest least tickets so_far parts none others whole = let of = so_far.only others whole in next of.0 (sym parts ∙ of.1) of.2
   where

@@ -37,7 +37,8 @@ place_is_no_option [] option is bare = absurd bare
 place_is_no_option (byte ∷ bytes) option is bare = rw (is.begins, bare.1) refl
 
 -- the first row of an option is its value
-pub option_told : (names : List Text) (said : List Said) (option : Text) → AllByRecursion IsBare names → IsOption option → length (positionals_of said) ≤ length names
+pub option_told : (names : List Text) (said : List Said) (option : Text) → AllByRecursion IsBare names → IsOption option
+    → length (positionals_of said) ≤ length names
     → first_of option (rows_of names said) ≡ value_of said option
 option_told names [] option bare is few = refl
 option_told names (Given other value ∷ rest) option bare is few = go (bytes_eq other option) refl (option_told names rest option bare is few)
@@ -56,7 +57,8 @@ one_of (first ∷ names) zero name at = inl (cc)
 one_of (first ∷ names) (suc place) name at = inr (one_of names place name at)
 
 -- the row of a place is the positional word at it
-pub place_told : (names : List Text) (said : List Said) (place : ℕ) (name : Text) → slice_get names place ≡ Some name → AllByRecursion IsBare names → AreOnce names
+pub place_told : (names : List Text) (said : List Said) (place : ℕ) (name : Text) → slice_get names place ≡ Some name → AllByRecursion IsBare names
+    → AreOnce names
     → IsBare name → AllByRecursion (IsOneOf all_options) (options_of said) → length (positionals_of said) ≤ length names
     → first_of name (rows_of names said) ≡ slice_get (positionals_of said) place
 place_told names [] place name at bare once is known few = refl
@@ -73,16 +75,19 @@ place_told (first ∷ names) (Positional word ∷ rest) (suc place) name at bare
 
 -- ---- new names, and names that come once
 
-absent_more : (rows : List Row) (name value sought : Text) → has_row sought rows ≡ false → bytes_eq name sought ≡ false → has_row sought (rows ++ row name value ∷ []) ≡ false
+absent_more : (rows : List Row) (name value sought : Text) → has_row sought rows ≡ false → bytes_eq name sought ≡ false
+    → has_row sought (rows ++ row name value ∷ []) ≡ false
 absent_more [] name value sought none differ = rw differ refl
 absent_more (r ∷ rows) name value sought none differ = go (bytes_eq r.id sought) refl none (λ below. absent_more rows name value sought below differ)
   where
-    go : (b : Bool) → bytes_eq r.id sought ≡ b → has_row sought (r ∷ rows) ≡ false → (has_row sought rows ≡ false → has_row sought (rows ++ row name value ∷ []) ≡ false)
+    go : (b : Bool) → bytes_eq r.id sought ≡ b → has_row sought (r ∷ rows) ≡ false
+        → (has_row sought rows ≡ false → has_row sought (rows ++ row name value ∷ []) ≡ false)
         → has_row sought (r ∷ (rows ++ row name value ∷ [])) ≡ false
     go true e none below = let bad : true ≡ false = rw e at none in absurd (true≢false bad)
     go false e none below = let left : has_row sought rows ≡ false = rw e at none in rw e (below left)
 
-absent_less : (rows : List Row) (name value sought : Text) → has_row sought (rows ++ row name value ∷ []) ≡ false → (has_row sought rows ≡ false) × (bytes_eq name sought ≡ false)
+absent_less : (rows : List Row) (name value sought : Text) → has_row sought (rows ++ row name value ∷ []) ≡ false → (has_row sought rows ≡ false)
+    × (bytes_eq name sought ≡ false)
 absent_less [] name value sought none = (refl, go (bytes_eq name sought) refl none)
   where
     go : (b : Bool) → bytes_eq name sought ≡ b → has_row sought (row name value ∷ []) ≡ false → bytes_eq name sought ≡ false
@@ -108,16 +113,19 @@ differ_once : (name : Text) (names : List Text) → (IsOneOf names name → ⊥)
 differ_once name [] once = tt
 differ_once name (other ∷ names) once = (apart name other (λ e. once (inl e)), differ_once name names (λ more. once (inr more)))
 
-differ_options : (name : Text) (options : List Text) → IsBare name → AllByRecursion (IsOneOf all_options) options → AllByRecursion (λ other. bytes_eq name other ≡ false) options
+differ_options : (name : Text) (options : List Text) → IsBare name → AllByRecursion (IsOneOf all_options) options
+    → AllByRecursion (λ other. bytes_eq name other ≡ false) options
 differ_options name [] bare known = tt
 differ_options name (option ∷ options) bare known = (place_is_no_option name option (is_option option known.0) bare, differ_options name options bare known.1)
 
-differ_places : (option : Text) (names : List Text) → IsOption option → AllByRecursion IsBare names → AllByRecursion (λ other. bytes_eq option other ≡ false) names
+differ_places : (option : Text) (names : List Text) → IsOption option → AllByRecursion IsBare names
+    → AllByRecursion (λ other. bytes_eq option other ≡ false) names
 differ_places option [] is bare = tt
 differ_places option (name ∷ names) is bare = (option_is_no_place option name is bare.0, differ_places option names is bare.1)
 
 -- options that come once are new where they come
-pub new_of_once : (said : List Said) (rows : List Row) (names : List Text) → AllByRecursion IsBare names → AreOnce names → AllByRecursion (IsOneOf all_options) (options_of said)
+pub new_of_once : (said : List Said) (rows : List Row) (names : List Text) → AllByRecursion IsBare names → AreOnce names
+    → AllByRecursion (IsOneOf all_options) (options_of said)
     → AreOnce (options_of said) → AreAbsent rows (options_of said) → AreAbsent rows names → length (positionals_of said) ≤ length names → AreNew rows names said
 new_of_once [] rows names bare distinct known once absent free few = tt
 new_of_once (Given option value ∷ rest) rows names bare distinct known once absent free few = (
@@ -147,7 +155,8 @@ all_less rows name value (other ∷ names) absent =
     let below = all_less rows name value names absent.1 in
     ((here.0, below.0), (here.1, below.1))
 
-pub once_of_new : (said : List Said) (rows : List Row) (names : List Text) → AreNew rows names said → AreOnce (options_of said) × AreAbsent rows (options_of said)
+pub once_of_new : (said : List Said) (rows : List Row) (names : List Text) → AreNew rows names said → AreOnce (options_of said)
+    × AreAbsent rows (options_of said)
 once_of_new [] rows names new = (tt, tt)
 once_of_new (Given option value ∷ rest) rows names new =
     let below = once_of_new rest (rows ++ row option value ∷ []) names new.1 in

@@ -45,7 +45,8 @@ turn_first : (w next : Walk) (word : Text) (rest : List Text) → walked rules [
     → fault_from w (word ∷ rest) ≡ or_else (turn_fault top [] w word) (fault_from next rest)
 unfolding walk_fault
 turn_first w next word rest is = subst (λ (n : Walk). fault_from w (word ∷ rest) ≡ or_else (turn_fault top [] w word) (fault_from n rest)) is
-    (sym (or_else_then (turn_fault top [] w word) (walk_fault top [] (walked rules [] w word) rest) (settle_fault rules false (after (walked rules [] w word) rest).held)))
+    (sym (or_else_then (turn_fault top [] w word) (walk_fault top [] (walked rules [] w word) rest)
+    (settle_fault rules false (after (walked rules [] w word) rest).held)))
 
 no_words : (w : Walk) → fault_from w [] ≡ settle_fault rules false w.held
 unfolding walk_fault
@@ -64,7 +65,8 @@ pub record IsFound (words : List Text) (h : Held) (rows : List Row) (place : ℕ
 option_after : (h : Held) (place : ℕ) (name value : Text) (rest : List Text) → IsOption name → IsPlain value
     → after (between h place) (name ∷ value ∷ rest) ≡ after (between (with_value h name value) place) rest
 option_after h place name value rest is plain =
-    ap (λ (w : Walk). after (walked rules [] w value) rest) (option_walked h place name is) ∙ ap (λ (w : Walk). after w rest) (value_walked h place name value is (no_flag value plain))
+    ap (λ (w : Walk). after (walked rules [] w value) rest) (option_walked h place name is)
+    ∙ ap (λ (w : Walk). after w rest) (value_walked h place name value is (no_flag value plain))
 
 place_after : (h : Held) (place next : ℕ) (name word : Text) (rest : List Text) → IsPlace name place next → IsPlain word
     → after (between h place) (word ∷ rest) ≡ after (between (with_value h name word) next) rest
@@ -72,14 +74,16 @@ place_after h place next name word rest is plain = ap (λ (w : Walk). after w re
 
 -- and their faults
 option_fault : (h : Held) (place : ℕ) (name value : Text) (rest : List Text) → IsOption name → IsPlain value
-    → fault_from (between h place) (name ∷ value ∷ rest) ≡ or_else (or_else (settle_fault rules false h) []) (fault_from (between (with_value h name value) place) rest)
+    → fault_from (between h place) (name ∷ value ∷ rest) ≡ or_else (or_else (settle_fault rules false h) [])
+    (fault_from (between (with_value h name value) place) rest)
 option_fault h place name value rest is plain =
     turn_first (between h place) (awaiting (opened h name) name place) name (value ∷ rest) (option_walked h place name is)
     ∙ (λ i. or_else (option_turn h place name is i) (value_then i))
   where
     value_then : fault_from (awaiting (opened h name) name place) (value ∷ rest) ≡ fault_from (between (with_value h name value) place) rest
     value_then =
-        turn_first (awaiting (opened h name) name place) (between (with_value h name value) place) value rest (value_walked h place name value is (no_flag value plain))
+        turn_first (awaiting (opened h name) name place) (between (with_value h name value) place) value rest
+        (value_walked h place name value is (no_flag value plain))
         ∙ ap (λ (k : Kinds). or_else k (fault_from (between (with_value h name value) place) rest)) (value_turn h place name value is (no_flag value plain))
 
 place_fault : (h : Held) (place next : ℕ) (name word : Text) (rest : List Text) → IsPlace name place next → IsPlain word
@@ -123,26 +127,31 @@ settled_first (word ∷ rest) (inl plain, all) h place [] places none =
 settled_first (word ∷ rest) (inl plain, all) h place (name ∷ names) places none =
     first_none _ _ (sym (place_fault h place places.0 name word rest places.1 plain) ∙ none)
 
-found_option : (option value : Text) (words : List Text) (h : Held) (rows : List Row) (place : ℕ) (names : List Text) → IsOneOf all_options option → IsPlain value
-    → has_row option rows ≡ false → IsFound words (with_value h option value) (rows ++ row option value ∷ []) place names → IsFound (option ∷ value ∷ words) h rows place names
+found_option : (option value : Text) (words : List Text) (h : Held) (rows : List Row) (place : ℕ) (names : List Text) → IsOneOf all_options option
+    → IsPlain value
+    → has_row option rows ≡ false → IsFound words (with_value h option value) (rows ++ row option value ∷ []) place names
+    → IsFound (option ∷ value ∷ words) h rows place names
 found_option option value words h rows place names known plain absent found = record {
   said = Given option value ∷ found.said;
   in_words = ap (λ (ws : List Text). option ∷ value ∷ ws) found.in_words;
   plain = (plain, found.plain);
   known = (known, found.known);
   new = (absent, found.new);
-  rows_are = ap (λ (w : Walk). rows_at w.held) (option_after h place option value words (is_option option known) plain) ∙ found.rows_are ∙ append_assoc rows (row option value ∷ []) (rows_of names found.said);
+  rows_are = ap (λ (w : Walk). rows_at w.held) (option_after h place option value words (is_option option known) plain) ∙ found.rows_are
+      ∙ append_assoc rows (row option value ∷ []) (rows_of names found.said);
 }
 
 found_place : (name word : Text) (words : List Text) (h : Held) (rows : List Row) (place next : ℕ) (names : List Text) → IsPlace name place next → IsPlain word
-    → has_row name rows ≡ false → IsFound words (with_value h name word) (rows ++ row name word ∷ []) next names → IsFound (word ∷ words) h rows place (name ∷ names)
+    → has_row name rows ≡ false → IsFound words (with_value h name word) (rows ++ row name word ∷ []) next names
+    → IsFound (word ∷ words) h rows place (name ∷ names)
 found_place name word words h rows place next names is plain absent found = record {
   said = Positional word ∷ found.said;
   in_words = ap (λ (ws : List Text). word ∷ ws) found.in_words;
   plain = (plain, found.plain);
   known = found.known;
   new = (absent, found.new);
-  rows_are = ap (λ (w : Walk). rows_at w.held) (place_after h place next name word words is plain) ∙ found.rows_are ∙ append_assoc rows (row name word ∷ []) (rows_of names found.said);
+  rows_are = ap (λ (w : Walk). rows_at w.held) (place_after h place next name word words is plain) ∙ found.rows_are
+      ∙ append_assoc rows (row name word ∷ []) (rows_of names found.said);
 }
 
 -- words without a fault say something
@@ -160,7 +169,8 @@ find_said (word ∷ rest) (inl plain, all) h rows place (name ∷ names) places 
     let absent = value_once h name word None (Some place) places.1.by_id settled in
     let absent_there : has_row name rows ≡ false = rw (← held) absent in
     found_place name word rest h rows place places.0 names places.1 plain absent_there
-    (find_said rest all (with_value h name word) (rows ++ row name word ∷ []) places.0 names places.2 (value_row h rows name word None (Some place) places.1.by_id held absent_there) next)
+    (find_said rest all (with_value h name word) (rows ++ row name word ∷ []) places.0 names places.2
+    (value_row h rows name word None (Some place) places.1.by_id held absent_there) next)
 find_said (word ∷ []) (inr known, all) h rows place names places held none =
     let is = is_option word known in
     let end = then_none _ _ (sym (turn_first (between h place) (awaiting (opened h word) word place) word [] (option_walked h place word is)) ∙ none) in
@@ -168,7 +178,8 @@ find_said (word ∷ []) (inr known, all) h rows place names places held none =
     absurd (cc)
 find_said (word ∷ value ∷ rest) (inr known, (inr again, all)) h rows place names places held none =
     let is = is_option word known in
-    let then = then_none _ _ (sym (turn_first (between h place) (awaiting (opened h word) word place) word (value ∷ rest) (option_walked h place word is)) ∙ none) in
+    let then = then_none _ _ (sym (turn_first (between h place) (awaiting (opened h word) word place) word (value ∷ rest) (option_walked h place word is))
+    ∙ none) in
     let turn = first_none _ _ (sym (turn_first (awaiting (opened h word) word place) _ value rest refl) ∙ then) in
     let bad = sym (option_again h place word value is (is_option value again)) ∙ turn in
     absurd (cc)
@@ -179,4 +190,5 @@ find_said (word ∷ value ∷ rest) (inr known, (inl plain, all)) h rows place n
     let absent = value_once h word value (Some is.long) None is.by_id settled in
     let absent_there : has_row word rows ≡ false = rw (← held) absent in
     found_option word value rest h rows place names known plain absent_there
-    (find_said rest all (with_value h word value) (rows ++ row word value ∷ []) place names places (value_row h rows word value (Some is.long) None is.by_id held absent_there) next)
+    (find_said rest all (with_value h word value) (rows ++ row word value ∷ []) place names places
+    (value_row h rows word value (Some is.long) None is.by_id held absent_there) next)

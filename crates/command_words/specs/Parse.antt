@@ -1,16 +1,18 @@
 -- What of the words reaches the parser, and what it makes of them: one command without subcommands, whose first
 -- positional word is the command's name.
-use Rattle.std.specs.Prelude.{ℕ, ◌≡◌, ◌⊎◌, ◌≤◌, true, List, [], ◌∷◌, ◌++◌, length, codes, slice_get, Option, Some}
+use Rattle.std.specs.Prelude.{ℕ, ◌≡◌, ◌⊎◌, ◌≤◌, true, List, [], ◌∷◌, length, codes, fold, slice_get, Option, Some}
 use Rattle.std.specs.List.{flat_map, AllByRecursion}
 use Rattle.clap.specs.Simple.{App, on_top, new_app, new_rule, with_rule}
+use Rattle.clap.specs.Walk.{Rule}
 use Rattle.command_words.specs.Said.{Said, words_of, IsPlain, IsPlainSaid, positionals_of, options_of, value_of, IsOneOf, AreOnce}
-use Rattle.command_words.specs.WordList.{audit_options, placement_options, policy_options}
+use Rattle.command_words.specs.OptionTable.{all_table, placement_table, run_table, shared_table, audit_table, name_of, long_name_of, names_of}
+use Rattle.command_words.specs.declared.option_table.CommandOption.{CommandOption}
 
 abbrev pub command_names : List (List ℕ)
 command_names = codes "serve" ∷ codes "run" ∷ codes "build" ∷ codes "check" ∷ codes "graph" ∷ codes "demo" ∷ codes "audit" ∷ codes "budget" ∷ []
 
 abbrev pub all_options : List (List ℕ)
-all_options = placement_options ++ (policy_options ++ audit_options)
+all_options = names_of all_table
 
 -- a value, a positional word or an option's name
 abbrev pub IsWord : List ℕ → Type 0
@@ -40,27 +42,23 @@ pub record Tells (given : List ℕ → Option (List ℕ)) (said : List Said) : T
 abbrev pub IsReadAs : List (List ℕ) → (List ℕ → Option (List ℕ)) → Type 0
 IsReadAs words given = (said : List Said) × IsSaid words said × Tells given said
 
--- the command that is given to the parser
-abbrev pub with_positional : List ℕ → App → App
-with_positional name app = with_rule app (new_rule name)
+-- the command that is given to the parser: positional words and options are added in turn
+abbrev pub with_place : App → List ℕ → App
+with_place app name = with_rule app (new_rule name)
 
-abbrev pub with_option : List ℕ → List ℕ → App → App
-with_option name long app = with_rule app (record (new_rule name) { long = Some long })
+abbrev pub option_rule : CommandOption → Rule
+option_rule it = record (new_rule (name_of it)) { long = Some (long_name_of it) }
 
-abbrev pub with_positionals : App → App
-with_positionals app = with_positional (codes "third") (with_positional (codes "second") (with_positional (codes "first") (with_positional (codes "command") app)))
+abbrev pub with_option : App → CommandOption → App
+with_option app it = with_rule app (option_rule it)
 
-abbrev pub with_placement : App → App
-with_placement app = with_option (codes "--max-path") (codes "max-path") (with_option (codes "--chunk") (codes "chunk") app)
+abbrev pub place_names : List (List ℕ)
+place_names = codes "command" ∷ codes "first" ∷ codes "second" ∷ codes "third" ∷ []
 
-abbrev pub with_policy : App → App
-with_policy app = with_option (codes "--knee") (codes "knee") (with_option (codes "--tickets") (codes "tickets") (with_option (codes "--rule") (codes "rule")
-    (with_option (codes "--low") (codes "low") (with_option (codes "--high") (codes "high") (with_option (codes "--caps") (codes "caps")
-    (with_option (codes "--backlog") (codes "backlog") (with_option (codes "--fuel") (codes "fuel")
-    (with_option (codes "--extra-size") (codes "extra-size") (with_option (codes "--extra") (codes "extra") (with_option (codes "--chunks") (codes "chunks") app))))))))))
-
-abbrev pub with_audit : App → App
-with_audit app = with_option (codes "--steps") (codes "steps") app
+abbrev pub bare_app : App
+bare_app = on_top (λ top. record top { no_binary_name = true; disable_help_flag = true }) (new_app (codes "capriccio"))
 
 abbrev pub words_app : App
-words_app = with_audit (with_policy (with_placement (with_positionals (on_top (λ top. record top { no_binary_name = true; disable_help_flag = true }) (new_app (codes "capriccio"))))))
+words_app =
+    let placed = fold with_option (fold with_place bare_app place_names) placement_table in
+    fold with_option (fold with_option (fold with_option placed run_table) shared_table) audit_table

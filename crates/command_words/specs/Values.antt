@@ -2,6 +2,9 @@
 use Rattle.std.specs.Prelude.{ℕ, suc, ◌≡◌, ⊤, length, take, ◌-◌, ◌*◌, ◌/◌, ◌%◌, ◌==◌, ◌<◌, ◌≤◌, List, [], ◌∷◌, ◌++◌, map, replicate, codes, Option, Some, None, if◌then◌else◌}
 use Rattle.cap_text.specs.Decimals.{canonical_decimal}
 use Rattle.cap_text.specs.Pieces.{pieces}
+use Rattle.command_words.specs.OptionTable.{name_of, default_of, least_of, most_of}
+use Rattle.command_words.specs.declared.option_table.CommandOption.{CommandOption}
+use Rattle.command_words.specs.declared.option_table.CommandOption.TheVariants as option
 use Rattle.command_words.specs.declared.options.Audit.{Audit}
 use Rattle.command_words.specs.declared.options.Placement.{Placement}
 use Rattle.command_words.specs.declared.options.Policy.{Policy}
@@ -20,23 +23,29 @@ pub record IsNumber (given : Option (List ℕ)) (default least most number : ℕ
   pub not_less : least ≤ number
   pub not_more : number ≤ most
 
+-- the same of an option by its row of the table
+abbrev pub IsNumberOf : (given : List ℕ → Option (List ℕ)) → CommandOption → ℕ → Type 0
+IsNumberOf given it number = IsNumber (given (name_of it)) (default_of it) (least_of it) (most_of it) number
+
 -- the greatest multiple of 16 that is at most half of the chunk without its header
 abbrev pub default_max_path : ℕ → ℕ
 default_max_path chunk = (chunk - 16) / 2 / 16 * 16
 
 pub record IsPlacement (given : List ℕ → Option (List ℕ)) (placement : Placement) : Type 0 where
-  pub chunk : IsNumber (given (codes "--chunk")) 4096 64 65536 placement.chunk
+  pub chunk : IsNumberOf given option.Chunk placement.chunk
   pub whole : placement.chunk % 16 ≡ 0
-  pub max_path : IsNumber (given (codes "--max-path")) (default_max_path placement.chunk) 16 (placement.chunk - 16) placement.max_path
+  pub max_path : IsNumber (given (name_of option.MaxPath)) (default_max_path placement.chunk) (least_of option.MaxPath)
+      (placement.chunk - 16) placement.max_path
 
 -- a resource and its cap, as `R=N` (61 is `=`)
 abbrev pub cap_text : ℕ × ℕ → List ℕ
 cap_text (resource, most) = canonical_decimal resource ++ 61 ∷ canonical_decimal most
 
--- the resources rise, from above this one to 7, and each cap is from 1 to 1,000,000
+-- the resources rise, from above this one to 7, and each cap is in its range
 abbrev pub AreCapsAbove : ℕ → List (ℕ × ℕ) → Type 0
 AreCapsAbove below [] = ⊤
-AreCapsAbove below ((resource, most) ∷ rest) = (below < resource) × (resource ≤ 7) × (1 ≤ most) × (most ≤ 1000000) × AreCapsAbove resource rest
+AreCapsAbove below ((resource, most) ∷ rest) =
+    (below < resource) × (resource ≤ 7) × (least_of option.Caps ≤ most) × (most ≤ most_of option.Caps) × AreCapsAbove resource rest
 
 -- the cap of a resource, 0 where it has none
 abbrev pub cap_of : List (ℕ × ℕ) → ℕ → ℕ
@@ -63,11 +72,11 @@ AreCaps (Some text) caps = (pairs : List (ℕ × ℕ)) × IsCapsText text pairs 
 abbrev pub ticket_text : ℕ × ℕ → List ℕ
 ticket_text (thread, tickets) = canonical_decimal thread ++ 61 ∷ canonical_decimal tickets
 
--- the threads rise, from this one on to 1,000,000, and each has from 1 to 1,024 tickets
+-- the threads rise, from this one on to 1,000,000, and the tickets of each are in their range
 abbrev pub AreTicketsFrom : ℕ → List (ℕ × ℕ) → Type 0
 AreTicketsFrom least [] = ⊤
 AreTicketsFrom least ((thread, tickets) ∷ rest) =
-    (least ≤ thread) × (thread ≤ 1000000) × (1 ≤ tickets) × (tickets ≤ 1024) × AreTicketsFrom (suc thread) rest
+    (least ≤ thread) × (thread ≤ 1000000) × (least_of option.Tickets ≤ tickets) × (tickets ≤ most_of option.Tickets) × AreTicketsFrom (suc thread) rest
 
 -- the text is the tickets of at most 64 threads, joined by `,` (44)
 pub record IsTicketsText (text : List ℕ) (tickets : List (ℕ × ℕ)) : Type 0 where
@@ -98,25 +107,19 @@ IsRule given tickets_given Graph = (rule_name given ≡ codes "graph") × (ticke
 IsRule given tickets_given (Stride tickets) = (rule_name given ≡ codes "stride") × AreTickets tickets_given tickets
 
 pub record IsPolicy (given : List ℕ → Option (List ℕ)) (policy : Policy) : Type 0 where
-  pub chunks : IsNumber (given (codes "--chunks")) 1024 1 65536 policy.chunks
-  pub extra : IsNumber (given (codes "--extra")) 0 0 65536 policy.extra
-  pub extra_bytes : IsNumber (given (codes "--extra-size")) 64 32 65536 policy.extra_bytes
+  pub chunks : IsNumberOf given option.Chunks policy.chunks
+  pub extra : IsNumberOf given option.Extra policy.extra
+  pub extra_bytes : IsNumberOf given option.ExtraSize policy.extra_bytes
   pub extra_whole : policy.extra_bytes % 16 ≡ 0
-  pub fuel : IsNumber (given (codes "--fuel")) 10000000 0 1000000000 policy.fuel
-  pub backlog : IsNumber (given (codes "--backlog")) 64 1 4096 policy.backlog
-  pub caps : AreCaps (given (codes "--caps")) policy.caps
-  pub high : IsNumber (given (codes "--high")) 900 1 1000 policy.high
-  pub low : IsNumber (given (codes "--low")) 700 0 (policy.high - 1) policy.low
-  pub rule : IsRule (given (codes "--rule")) (given (codes "--tickets")) policy.rule
-  pub knee : IsNumber (given (codes "--knee")) 0 0 999 policy.knee
+  pub fuel : IsNumberOf given option.Fuel policy.fuel
+  pub backlog : IsNumberOf given option.Backlog policy.backlog
+  pub caps : AreCaps (given (name_of option.Caps)) policy.caps
+  pub high : IsNumberOf given option.High policy.high
+  pub low : IsNumber (given (name_of option.Low)) (default_of option.Low) (least_of option.Low) (policy.high - 1) policy.low
+  pub rule : IsRule (given (name_of option.Rule)) (given (name_of option.Tickets)) policy.rule
+  pub knee : IsNumberOf given option.Knee policy.knee
 
+-- an audit has the policy of a run, of which its words give no more than an audit's options
 pub record IsAudit (given : List ℕ → Option (List ℕ)) (options : Audit) : Type 0 where
-  pub chunks : IsNumber (given (codes "--chunks")) 1024 1 65536 options.chunks
-  pub extra : IsNumber (given (codes "--extra")) 0 0 65536 options.extra
-  pub fuel : IsNumber (given (codes "--fuel")) 10000000 0 1000000000 options.fuel
-  pub backlog : IsNumber (given (codes "--backlog")) 64 1 4096 options.backlog
-  pub caps : AreCaps (given (codes "--caps")) options.caps
-  pub high : IsNumber (given (codes "--high")) 900 1 1000 options.high
-  pub low : IsNumber (given (codes "--low")) 700 0 (options.high - 1) options.low
-  pub knee : IsNumber (given (codes "--knee")) 0 0 999 options.knee
-  pub steps : IsNumber (given (codes "--steps")) 1000000000 0 1000000000 options.steps
+  pub policy : IsPolicy given options.policy
+  pub steps : IsNumberOf given option.Steps options.steps

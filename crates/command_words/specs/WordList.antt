@@ -3,6 +3,7 @@ use Rattle.std.specs.Prelude.{ℕ, ◌≡◌, ◌+◌, ◌*◌, ◌≤◌, List,
 use Rattle.std.specs.List.{flat_map, AllByRecursion}
 use Rattle.cap_text.specs.Decimals.{canonical_decimal}
 use Rattle.command_words.specs.Said.{Said, words_of, IsPlainSaid, positionals_of, options_of, value_of, IsOneOf, AreOnce}
+use Rattle.command_words.specs.OptionTable.{placement_table, run_table, shared_table, audit_table, names_of}
 use Rattle.command_words.specs.Values.{IsAudit, IsPlacement, IsPolicy}
 use Rattle.command_words.specs.declared.commands.Command.{Command}
 use Rattle.command_words.specs.declared.commands.Command.TheVariants as command
@@ -32,22 +33,21 @@ request_of (command.Demo number) = Demo number
 request_of (command.Audit source log options) = Audit source.now log.now options
 request_of (command.Budget source image certificate) = Budget source.now image.now certificate.now
 
+-- the options of placement, those of a run that no audit has, all those of a run, those of an audit that no run has, and all those of an audit
 abbrev pub placement_options : List (List ℕ)
-placement_options = codes "--chunk" ∷ codes "--max-path" ∷ []
-
-abbrev pub policy_options : List (List ℕ)
-policy_options = codes "--chunks" ∷ codes "--extra" ∷ codes "--extra-size" ∷ codes "--fuel" ∷ codes "--backlog" ∷ codes "--caps" ∷ codes "--high" ∷ codes "--low"
-    ∷ codes "--rule" ∷ codes "--tickets" ∷ codes "--knee" ∷ []
-
--- the options of an audit that no run has, all that it may have, and those of a run that it hasn't
-abbrev pub audit_options : List (List ℕ)
-audit_options = codes "--steps" ∷ []
-
-abbrev pub audit_policy : List (List ℕ)
-audit_policy = codes "--chunks" ∷ codes "--extra" ∷ codes "--fuel" ∷ codes "--backlog" ∷ codes "--caps" ∷ codes "--high" ∷ codes "--low" ∷ codes "--knee" ∷ audit_options
+placement_options = names_of placement_table
 
 abbrev pub run_options : List (List ℕ)
-run_options = codes "--extra-size" ∷ codes "--rule" ∷ codes "--tickets" ∷ []
+run_options = names_of run_table
+
+abbrev pub policy_options : List (List ℕ)
+policy_options = names_of (run_table ++ shared_table)
+
+abbrev pub audit_options : List (List ℕ)
+audit_options = names_of audit_table
+
+abbrev pub audit_policy : List (List ℕ)
+audit_policy = names_of (shared_table ++ audit_table)
 
 -- the words are the command's name and, in any order, just these positional words and some of these options, each at
 -- most once and with its value behind it
@@ -64,7 +64,8 @@ IsWordList words (Serve source placement policy) = (said : List Said) × Says wo
     × IsPlacement (value_of said) placement × IsPolicy (value_of said) policy × (placement.chunk * policy.chunks + policy.extra_bytes * policy.extra ≤ 67108864)
 IsWordList words (Run source image certificate policy) = (said : List Said) × Says words (codes "run") (source ∷ image ∷ certificate ∷ []) policy_options said
     × IsPolicy (value_of said) policy
-IsWordList words (Build source image certificate placement) = (said : List Said) × Says words (codes "build") (source ∷ image ∷ certificate ∷ []) placement_options said
+IsWordList words (Build source image certificate placement) = (said : List Said)
+    × Says words (codes "build") (source ∷ image ∷ certificate ∷ []) placement_options said
     × IsPlacement (value_of said) placement
 IsWordList words (Check source image certificate) = (said : List Said) × Says words (codes "check") (source ∷ image ∷ certificate ∷ []) [] said
 IsWordList words (Graph source placement) = (said : List Said) × Says words (codes "graph") (source ∷ []) placement_options said

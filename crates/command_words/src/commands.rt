@@ -2,7 +2,7 @@
 use crate::options::{Audit, Placement, Policy};
 
 /// A command with its files by name and its options.
-#[derive(Clone, Copy, PartialEq, Eq)]
+#[derive(Clone, Copy)]
 pub enum Command<'a> {
     /// Builds, checks and runs a source on the trace. A chunk times the number of chunks is at most 67,108,864 bytes.
     Serve {
@@ -54,7 +54,7 @@ pub enum Command<'a> {
 }
 
 /// Why no command is read.
-#[derive(Clone, Copy, PartialEq, Eq)]
+#[derive(Clone, Copy)]
 pub enum WordsError {
     /// The words are no word list.
     NotWords,

@@ -1,7 +1,10 @@
 // Numbers and caps as the values of options.
-ghost use Rattle.std.specs.Prelude.{ℕ, List, ◌≡◌, ◌<◌, ◌≤◌, ◌∷◌, map, option_map, IfSome, IfNone};
+ghost use Rattle.std.specs.Prelude.{ℕ, List, ◌≡◌, ◌<◌, ◌≤◌, option_map, IfSome, IfNone};
+ghost use Rattle.command_words.specs.OptionTable.{least_of, most_of};
+ghost use Rattle.command_words.specs.declared.option_table.CommandOption.TheVariants as option;
 ghost use Rattle.command_words.specs.Values.{IsNumber, AreCaps, IsCapsText, caps_of, cap_text};
 
+use crate::option_table::CommandOption;
 use cap_text::{Fields, read_dec};
 
 /// The number of an option: the given one, or else the default. None where it is no canonical decimal or not in the
@@ -51,8 +54,10 @@ fn caps_in(text: &[u8]) -> Option<[u32; 8]>
 
 /// A resource from 1 to 7 and its cap.
 fn cap(field: &[u8]) -> Option<(u32, u32)>
-    ensures found { IfSome result (λ cap. (field.now ≡ cap_text cap) × (1 ≤ cap.0) × (cap.0 ≤ 7) × (1 ≤ cap.1) × (cap.1 ≤ 1000000)) }
-    ensures none { IfNone result ((resource most : ℕ) → 1 ≤ resource → resource ≤ 7 → 1 ≤ most → most ≤ 1000000 → field.now ≡ cap_text (resource, most) → ⊥) }
+    ensures found { IfSome result (λ cap. (field.now ≡ cap_text cap) × (1 ≤ cap.0) × (cap.0 ≤ 7)
+        × (least_of option.Caps ≤ cap.1) × (cap.1 ≤ most_of option.Caps)) }
+    ensures none { IfNone result ((resource most : ℕ) → 1 ≤ resource → resource ≤ 7 → least_of option.Caps ≤ most → most ≤ most_of option.Caps
+        → field.now ≡ cap_text (resource, most) → ⊥) }
 {
     let (digit, rest) = field.split_first()?;
     let Some(number) = rest.strip_prefix(b"=") else {
@@ -61,10 +66,11 @@ fn cap(field: &[u8]) -> Option<(u32, u32)>
     if *digit < b'1' || b'7' < *digit {
         return None;
     }
-    let Ok(most) = read_dec(number, 1_000_000) else {
+    let row = CommandOption::Caps.row();
+    let Ok(most) = read_dec(number, row.most) else {
         return None;
     };
-    if most == 0 {
+    if most < row.least {
         return None;
     }
     Some((u32::from(*digit - b'0'), most as u32))

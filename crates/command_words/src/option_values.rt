@@ -1,5 +1,5 @@
 // The values of the options out of the texts that were parsed.
-ghost use Rattle.std.specs.Prelude.{ℕ, ◌≡◌, ◌%◌, codes, IfSome, IfNone};
+ghost use Rattle.std.specs.Prelude.{ℕ, ◌≡◌, ◌%◌, option_map, IfSome, IfNone};
 ghost use Rattle.clap.specs.Words.{first_value, found_of};
 ghost use Rattle.command_words.specs.declared.option_values.Marks.{Marks};
 ghost use Rattle.command_words.specs.declared.option_values.Room.{Room};
@@ -7,14 +7,17 @@ ghost use Rattle.command_words.specs.declared.options.Audit.{Audit};
 ghost use Rattle.command_words.specs.declared.options.Placement.{Placement};
 ghost use Rattle.command_words.specs.declared.options.Policy.{Policy};
 ghost use Rattle.command_words.specs.Shared.{AreMarks, IsRoom};
-ghost use Rattle.command_words.specs.Values.{IsAudit, IsNumber, IsPlacement, IsPolicy};
+ghost use Rattle.command_words.specs.Values.{IsAudit, IsNumber, IsNumberOf, IsPlacement, IsPolicy};
+ghost use Rattle.command_words.specs.OptionTable.{name_of, least_of};
+ghost use Rattle.command_words.specs.declared.option_table.CommandOption.TheVariants as option;
 
 use crate::numbers::{caps, number};
+use crate::option_table::CommandOption;
 use crate::options::{Audit, Placement, Policy};
 use crate::ticket_lists::rule;
 use clap::ArgMatches;
 
-/// What a run and an audit have of the same options: the room of a run.
+/// The room of a run.
 #[derive(Clone, Copy)]
 struct Room {
     chunks: u32,
@@ -23,7 +26,7 @@ struct Room {
     backlog: u32,
 }
 
-/// What a run and an audit have of the same options: the caps, and the marks of pressure.
+/// The caps, and the marks of pressure.
 #[derive(Clone, Copy)]
 struct Marks {
     caps: [u32; 8],
@@ -37,12 +40,12 @@ pub(crate) fn placement(matches: &ArgMatches<'_>) -> Option<Placement>
     ensures found { IfSome result (λ placement. IsPlacement (λ name. first_value (found_of matches.now) name) placement) }
     ensures none { IfNone result ((placement : Placement) → IsPlacement (λ name. first_value (found_of matches.now) name) placement → ⊥) }
 {
-    let chunk = number_of(matches, "--chunk", 4096, 64, 65_536)?;
+    let chunk = number_of(matches, CommandOption::Chunk)?;
     if chunk % 16 != 0 {
         return None;
     }
     let half = (chunk - 16) / 2 / 16 * 16;
-    let max_path = number_of(matches, "--max-path", half, 16, chunk - 16)?;
+    let max_path = number_within(matches, CommandOption::MaxPath, half, chunk - 16)?;
     Some(Placement {
         chunk: chunk as u32,
         max_path: max_path as u32,
@@ -67,7 +70,10 @@ pub(crate) fn policy(matches: &ArgMatches<'_>) -> Option<Policy>
         knee,
     } = marks_of(matches)?;
     let extra_bytes = extra_bytes(matches)?;
-    let rule = rule(matches.get_str("--rule"), matches.get_str("--tickets"))?;
+    let rule = rule(
+        text_of(matches, CommandOption::Rule),
+        text_of(matches, CommandOption::Tickets),
+    )?;
     Some(Policy {
         chunks,
         extra,
@@ -82,35 +88,14 @@ pub(crate) fn policy(matches: &ArgMatches<'_>) -> Option<Policy>
     })
 }
 
-/// The options of an audit.
+/// The options of an audit: a policy, and how many steps it may take.
 pub(crate) fn audit_given(matches: &ArgMatches<'_>) -> Option<Audit>
     ensures found { IfSome result (λ options. IsAudit (λ name. first_value (found_of matches.now) name) options) }
     ensures none { IfNone result ((options : Audit) → IsAudit (λ name. first_value (found_of matches.now) name) options → ⊥) }
 {
-    let Room {
-        chunks,
-        extra,
-        fuel,
-        backlog,
-    } = room_of(matches)?;
-    let Marks {
-        caps,
-        high,
-        low,
-        knee,
-    } = marks_of(matches)?;
-    let steps = number_of(matches, "--steps", 1_000_000_000, 0, 1_000_000_000)?;
-    Some(Audit {
-        chunks,
-        extra,
-        fuel,
-        backlog,
-        caps,
-        high,
-        low,
-        knee,
-        steps,
-    })
+    let policy = policy(matches)?;
+    let steps = number_of(matches, CommandOption::Steps)?;
+    Some(Audit { policy, steps })
 }
 
 /// The room of a run.
@@ -118,10 +103,10 @@ fn room_of(matches: &ArgMatches<'_>) -> Option<Room>
     ensures found { IfSome result (λ room. IsRoom (λ name. first_value (found_of matches.now) name) room) }
     ensures none { IfNone result ((room : Room) → IsRoom (λ name. first_value (found_of matches.now) name) room → ⊥) }
 {
-    let chunks = number_of(matches, "--chunks", 1024, 1, 65_536)? as u32;
-    let extra = number_of(matches, "--extra", 0, 0, 65_536)? as u32;
-    let fuel = number_of(matches, "--fuel", 10_000_000, 0, 1_000_000_000)?;
-    let backlog = number_of(matches, "--backlog", 64, 1, 4096)? as u32;
+    let chunks = number_of(matches, CommandOption::Chunks)? as u32;
+    let extra = number_of(matches, CommandOption::Extra)? as u32;
+    let fuel = number_of(matches, CommandOption::Fuel)?;
+    let backlog = number_of(matches, CommandOption::Backlog)? as u32;
     Some(Room {
         chunks,
         extra,
@@ -135,10 +120,11 @@ fn marks_of(matches: &ArgMatches<'_>) -> Option<Marks>
     ensures found { IfSome result (λ marks. AreMarks (λ name. first_value (found_of matches.now) name) marks) }
     ensures none { IfNone result ((marks : Marks) → AreMarks (λ name. first_value (found_of matches.now) name) marks → ⊥) }
 {
-    let caps = caps(matches.get_str("--caps"))?;
-    let high = number_of(matches, "--high", 900, 1, 1000)?;
-    let low = number_of(matches, "--low", 700, 0, high - 1)? as u32;
-    let knee = number_of(matches, "--knee", 0, 0, 999)? as u32;
+    let caps = caps(text_of(matches, CommandOption::Caps))?;
+    let high = number_of(matches, CommandOption::High)?;
+    let low = CommandOption::Low;
+    let low = number_within(matches, low, low.row().default, high - 1)? as u32;
+    let knee = number_of(matches, CommandOption::Knee)? as u32;
     Some(Marks {
         caps,
         high: high as u32,
@@ -149,29 +135,44 @@ fn marks_of(matches: &ArgMatches<'_>) -> Option<Marks>
 
 /// The bytes of each chunk that is added.
 fn extra_bytes(matches: &ArgMatches<'_>) -> Option<u32>
-    ensures found { IfSome result (λ bytes. IsNumber (first_value (found_of matches.now) (codes "--extra-size")) 64 32 65536 bytes
+    ensures found { IfSome result (λ bytes. IsNumberOf (λ name. first_value (found_of matches.now) name) option.ExtraSize bytes
         × (bytes % 16 ≡ 0)) }
-    ensures none { IfNone result ((bytes : ℕ) → IsNumber (first_value (found_of matches.now) (codes "--extra-size")) 64 32 65536 bytes
+    ensures none { IfNone result ((bytes : ℕ) → IsNumberOf (λ name. first_value (found_of matches.now) name) option.ExtraSize bytes
         → bytes % 16 ≡ 0 → ⊥) }
 {
-    let bytes = number_of(matches, "--extra-size", 64, 32, 65_536)? as u32;
+    let bytes = number_of(matches, CommandOption::ExtraSize)? as u32;
     if bytes % 16 != 0 {
         return None;
     }
     Some(bytes)
 }
 
-/// The number of an option: the given one, or else the default. None where it is no canonical decimal or not in the
-/// range.
-pub(crate) fn number_of(
+/// The number of an option: the given one, or else its default. None where it is no canonical decimal or not in its range.
+fn number_of(matches: &ArgMatches<'_>, option: CommandOption) -> Option<u64>
+    ensures found { IfSome result (λ n. IsNumberOf (λ name. first_value (found_of matches.now) name) option n) }
+    ensures none { IfNone result ((n : ℕ) → IsNumberOf (λ name. first_value (found_of matches.now) name) option n → ⊥) }
+{
+    let row = option.row();
+    number_within(matches, option, row.default, row.most)
+}
+
+/// The number of an option whose default or greatest number depends on another option.
+fn number_within(
     matches: &ArgMatches<'_>,
-    option: &str,
+    option: CommandOption,
     default: u64,
-    least: u64,
     most: u64,
 ) -> Option<u64>
-    ensures found { IfSome result (λ n. IsNumber (first_value (found_of matches.now) option.now) default least most n) }
-    ensures none { IfNone result ((n : ℕ) → IsNumber (first_value (found_of matches.now) option.now) default least most n → ⊥) }
+    ensures found { IfSome result (λ n. IsNumber (first_value (found_of matches.now) (name_of option)) default (least_of option) most n) }
+    ensures none { IfNone result ((n : ℕ) → IsNumber (first_value (found_of matches.now) (name_of option)) default (least_of option) most n → ⊥) }
 {
-    number(matches.get_str(option), default, least, most)
+    let row = option.row();
+    number(matches.get_str(row.name), default, row.least, most)
+}
+
+/// The text that is given for an option.
+fn text_of<'a>(matches: &ArgMatches<'a>, option: CommandOption) -> Option<&'a str>
+    ensures { option_map (λ text. text.now) result ≡ first_value (found_of matches.now) (name_of option) }
+{
+    matches.get_str(option.row().name)
 }

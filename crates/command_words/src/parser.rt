@@ -1,13 +1,13 @@
 // The words as `clap` reads them: one command without subcommands, whose options and positional words are texts.
-ghost use Rattle.std.specs.Prelude.{ℕ, List, ◌≡◌, ◌^◌, map, Err, IfOk, ◌↔◌, codes, fold, false, true};
+ghost use Rattle.std.specs.Prelude.{List, ◌≡◌, map, option_map, Err, IfOk, ◌↔◌, fold, false};
 ghost use Rattle.std.specs.String.{string_bytes};
-ghost use Rattle.clap.specs.Simple.{new_app, on_top};
 ghost use Rattle.clap.specs.Words.{app_of, first_value, found_of, rule_of};
-ghost use Rattle.command_words.specs.Arguments.{rule_at, with_argument};
 ghost use Rattle.command_words.specs.Said.{Said};
-ghost use Rattle.command_words.specs.Parse.{IsReadable, IsSaid, IsReadAs, words_app};
+ghost use Rattle.clap.specs.Simple.{new_rule};
+ghost use Rattle.command_words.specs.Parse.{IsReadable, IsSaid, IsReadAs, bare_app, with_option, with_place, words_app};
 
 use crate::commands::WordsError;
+use crate::option_table::{AUDIT, CommandOption, PLACEMENT, RUN, SHARED};
 use clap::error::ErrorKind;
 use clap::{Arg, ArgMatches, Command};
 use std::alloc::{AllocError, Global};
@@ -27,63 +27,63 @@ pub(crate) fn parse<'a>(alloc: Global, words: &'a Vec<String>) -> Result<ArgMatc
     }
 }
 
-/// The arguments: the command's name and three names of files, which are positional, and the options, each with its name behind
-/// the dashes.
-const ARGUMENTS: [(&str, Option<&str>); 18] = [
-    ("command", None),
-    ("first", None),
-    ("second", None),
-    ("third", None),
-    ("--chunk", Some("chunk")),
-    ("--max-path", Some("max-path")),
-    ("--chunks", Some("chunks")),
-    ("--extra", Some("extra")),
-    ("--extra-size", Some("extra-size")),
-    ("--fuel", Some("fuel")),
-    ("--backlog", Some("backlog")),
-    ("--caps", Some("caps")),
-    ("--high", Some("high")),
-    ("--low", Some("low")),
-    ("--rule", Some("rule")),
-    ("--tickets", Some("tickets")),
-    ("--knee", Some("knee")),
-    ("--steps", Some("steps")),
-];
+/// The positional words: the command's name and three more.
+const PLACES: [&str; 4] = ["command", "first", "second", "third"];
 
-/// The command with all arguments.
+/// The command with all positional words and options.
 fn parser<'a>(alloc: Global) -> Result<Command<'a>, AllocError>
     ensures { IfOk result (λ parser. app_of parser ≡ words_app) }
 {
-    with_arguments(alloc, bare(alloc), &ARGUMENTS)
+    let places = with_places(alloc, bare(alloc), &PLACES)?;
+    let placement = with_options(alloc, places, &PLACEMENT)?;
+    let run = with_options(alloc, placement, &RUN)?;
+    let shared = with_options(alloc, run, &SHARED)?;
+    with_options(alloc, shared, &AUDIT)
 }
 
 /// The command without arguments.
 fn bare<'a>(alloc: Global) -> Command<'a>
-    ensures { app_of result ≡ on_top (λ top. record top { no_binary_name = true; disable_help_flag = true }) (new_app (codes "capriccio")) }
+    ensures { app_of result ≡ bare_app }
 {
     Command::new(alloc, "capriccio")
         .no_binary_name(true)
         .disable_help_flag(true)
 }
 
-/// Adds arguments in turn.
-fn with_arguments<'a>(
+/// Adds positional words in turn.
+fn with_places<'a>(
     alloc: Global,
     command: Command<'a>,
-    arguments: &[(&'a str, Option<&'a str>)],
+    names: &[&'a str],
 ) -> Result<Command<'a>, AllocError>
-    ensures { IfOk result (λ parser. app_of parser ≡ fold with_argument (app_of command.entry) arguments.now) }
+    ensures { IfOk result (λ parser. app_of parser ≡ fold (λ app name. with_place app name.now) (app_of command.entry) names.now) }
 {
     let mut command = command;
-    for (name, long) in arguments {
-        command = command.arg(argument(alloc, name, *long))?;
+    for name in names {
+        command = command.arg(argument(alloc, name, None))?;
     }
     Ok(command)
 }
 
-/// A positional word, or an option, which takes one text.
+/// Adds options in turn.
+fn with_options<'a>(
+    alloc: Global,
+    command: Command<'a>,
+    options: &[CommandOption],
+) -> Result<Command<'a>, AllocError>
+    ensures { IfOk result (λ parser. app_of parser ≡ fold with_option (app_of command.entry) options.now) }
+{
+    let mut command = command;
+    for option in options {
+        let row = option.row();
+        command = command.arg(argument(alloc, row.name, Some(row.long)))?;
+    }
+    Ok(command)
+}
+
+/// A positional word, or an option with its name behind the dashes, which takes one text.
 fn argument<'a>(alloc: Global, name: &'a str, long: Option<&'a str>) -> Arg<'a>
-    ensures rule { rule_of result ≡ rule_at (name.entry, long.entry) }
+    ensures rule { rule_of result ≡ record (new_rule name.now) { long = option_map (λ text. text.now) long.entry } }
     ensures local { result.global ≡ false }
 {
     let argument = Arg::new(alloc, name);

@@ -1,11 +1,13 @@
 // A command out of the texts that were parsed.
-ghost use Rattle.std.specs.Prelude.{ℕ, List, ◌≡◌, ◌≤◌, ◌*◌, ◌↔◌, IsTrue, IfSome, IfNone, Some, None, is_none, codes, option_map};
+ghost use Rattle.std.specs.Prelude.{ℕ, List, ◌≡◌, ◌*◌, ◌↔◌, IsTrue, IfSome, IfNone, Some, None, is_none, codes};
 ghost use Rattle.clap.specs.Words.{first_value, found_of};
+ghost use Rattle.command_words.specs.OptionTable.{names_of};
 ghost use Rattle.command_words.specs.WordList.{Request, Serve, Run, Build, Check, Graph, Demo, Budget, request_of, audit_options, placement_options, policy_options, run_options};
 ghost use Rattle.command_words.specs.Asked.{IsAsked, LacksAll, HasOne, HasThree, HasTwo};
 
 use crate::commands::Command;
 use crate::numbers::number;
+use crate::option_table::{AUDIT, CommandOption, PLACEMENT, RUN, SHARED};
 use crate::option_values::{audit_given, placement, policy};
 use clap::ArgMatches;
 
@@ -155,7 +157,8 @@ fn audit<'a>(matches: &ArgMatches<'a>) -> Option<Command<'a>>
 
 /// The one positional word behind the command.
 fn one_name<'a>(matches: &ArgMatches<'a>) -> Option<&'a str>
-    ensures found { IfSome result (λ word. (first_value (found_of matches.now) (codes "first") ≡ Some word.now) × (first_value (found_of matches.now) (codes "second") ≡ None)) }
+    ensures found { IfSome result (λ word. (first_value (found_of matches.now) (codes "first") ≡ Some word.now)
+        × (first_value (found_of matches.now) (codes "second") ≡ None)) }
     ensures none { IfNone result ((name word : List ℕ) → HasOne (λ name. first_value (found_of matches.now) name) name word → ⊥) }
 {
     match (matches.get_str("first"), matches.get_str("second")) {
@@ -191,40 +194,40 @@ fn three_names<'a>(matches: &ArgMatches<'a>) -> Option<(&'a str, &'a str, &'a st
 fn without_placement(matches: &ArgMatches<'_>) -> bool
     ensures { IsTrue result ↔ LacksAll (λ name. first_value (found_of matches.now) name) placement_options }
 {
-    is_absent(matches, "--chunk") && is_absent(matches, "--max-path")
+    lacks_all(matches, &PLACEMENT)
 }
 
 /// Whether no option of a run is given.
 fn without_policy(matches: &ArgMatches<'_>) -> bool
     ensures { IsTrue result ↔ LacksAll (λ name. first_value (found_of matches.now) name) policy_options }
 {
-    is_absent(matches, "--chunks")
-        && is_absent(matches, "--extra")
-        && is_absent(matches, "--extra-size")
-        && is_absent(matches, "--fuel")
-        && is_absent(matches, "--backlog")
-        && is_absent(matches, "--caps")
-        && is_absent(matches, "--high")
-        && is_absent(matches, "--low")
-        && is_absent(matches, "--rule")
-        && is_absent(matches, "--tickets")
-        && is_absent(matches, "--knee")
+    lacks_all(matches, &RUN) && lacks_all(matches, &SHARED)
 }
 
 /// Whether no option is given that only an audit has.
 fn without_audit(matches: &ArgMatches<'_>) -> bool
     ensures { IsTrue result ↔ LacksAll (λ name. first_value (found_of matches.now) name) audit_options }
 {
-    is_absent(matches, "--steps")
+    lacks_all(matches, &AUDIT)
 }
 
 /// Whether no option of a run is given that an audit hasn't.
 fn without_run(matches: &ArgMatches<'_>) -> bool
     ensures { IsTrue result ↔ LacksAll (λ name. first_value (found_of matches.now) name) run_options }
 {
-    is_absent(matches, "--extra-size")
-        && is_absent(matches, "--rule")
-        && is_absent(matches, "--tickets")
+    lacks_all(matches, &RUN)
+}
+
+/// Whether none of these options is given.
+fn lacks_all(matches: &ArgMatches<'_>, options: &[CommandOption]) -> bool
+    ensures { IsTrue result ↔ LacksAll (λ name. first_value (found_of matches.now) name) (names_of options.now) }
+{
+    for option in options {
+        if !is_absent(matches, option.row().name) {
+            return false;
+        }
+    }
+    true
 }
 
 /// Whether an option is not given.

@@ -2,8 +2,11 @@
 ghost use Rattle.std.specs.Prelude.{◌↔◌, IsTrue, map};
 ghost use Rattle.std.specs.List.{AllByRecursion};
 ghost use Rattle.std.specs.String.{string_bytes};
+ghost use Rattle.command_words.specs.OptionTable.{names_of};
 ghost use Rattle.command_words.specs.Said.{IsPlain, IsOneOf};
 ghost use Rattle.command_words.specs.Parse.{IsWord, IsReadable, command_names, all_options};
+
+use crate::option_table::{AUDIT, CommandOption, PLACEMENT, RUN, SHARED};
 
 /// Whether the first word is a command's name and each other word is a value or positional word or an option's name.
 pub(crate) fn is_readable(words: &[String]) -> bool
@@ -48,23 +51,22 @@ fn is_command(word: &str) -> bool
 fn is_option(word: &str) -> bool
     ensures { IsTrue result ↔ IsOneOf all_options word.now }
 {
-    matches!(
-        word,
-        "--chunk"
-            | "--max-path"
-            | "--chunks"
-            | "--extra"
-            | "--extra-size"
-            | "--fuel"
-            | "--backlog"
-            | "--caps"
-            | "--high"
-            | "--low"
-            | "--rule"
-            | "--tickets"
-            | "--knee"
-            | "--steps"
-    )
+    is_named(&PLACEMENT, word)
+        || is_named(&RUN, word)
+        || is_named(&SHARED, word)
+        || is_named(&AUDIT, word)
+}
+
+/// Whether the word is the name of one of these options.
+fn is_named(options: &[CommandOption], word: &str) -> bool
+    ensures { IsTrue result ↔ IsOneOf (names_of options.now) word.now }
+{
+    for option in options {
+        if option.row().name == word {
+            return true;
+        }
+    }
+    false
 }
 
 /// Whether the word may be a value or a positional word: it is not empty and does not begin with `-`.

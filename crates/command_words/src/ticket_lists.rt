@@ -1,23 +1,24 @@
 // The rule of choices, and the tickets of threads, as the values of options.
 ghost use Rattle.std.specs.Prelude.{ℕ, List, ◌≡◌, ◌≤◌, option_map, IfSome, IfNone};
+ghost use Rattle.command_words.specs.OptionTable.{least_of, most_of};
+ghost use Rattle.command_words.specs.declared.option_table.CommandOption.TheVariants as option;
 ghost use Rattle.command_words.specs.Values.{AreTickets, IsRule, IsTicketsText, rule_name, ticket_text, tickets_of};
 ghost use Rattle.command_words.specs.declared.options.Rule.{Rule};
 ghost use Rattle.command_words.specs.declared.options.Tickets.{Tickets};
 
+use crate::option_table::CommandOption;
 use crate::options::{Rule, Tickets};
 use cap_text::Fields;
 
 /// The greatest number of a thread that can be given tickets.
 const MOST_THREAD: u64 = 1_000_000;
 
-/// The most tickets of a thread.
-const MOST_TICKETS: u64 = 1024;
-
 /// The rule of the texts of `--rule` and `--tickets`: that by the graph, or else by strides. None where the text names no rule, where
 /// tickets are given beside the rule by the graph, or where their text is no list of tickets.
 pub(crate) fn rule(given: Option<&str>, tickets_given: Option<&str>) -> Option<Rule>
     ensures found { IfSome result (λ rule. IsRule (option_map (λ text. text.now) given.entry) (option_map (λ text. text.now) tickets_given.entry) rule) }
-    ensures none { IfNone result ((rule : Rule) → IsRule (option_map (λ text. text.now) given.entry) (option_map (λ text. text.now) tickets_given.entry) rule → ⊥) }
+    ensures none { IfNone result ((rule : Rule) → IsRule (option_map (λ text. text.now) given.entry)
+        (option_map (λ text. text.now) tickets_given.entry) rule → ⊥) }
 {
     match name_of(given) {
         "graph" => tickets_given.is_none().then_some(Rule::Graph),
@@ -83,14 +84,17 @@ fn tickets_in(text: &[u8]) -> Option<Tickets>
 
 /// A thread from 0 to 1,000,000 and its tickets.
 fn ticket(field: &[u8]) -> Option<(u32, u32)>
-    ensures found { IfSome result (λ ticket. (field.now ≡ ticket_text ticket) × (ticket.0 ≤ 1000000) × (1 ≤ ticket.1) × (ticket.1 ≤ 1024)) }
-    ensures none { IfNone result ((thread count : ℕ) → thread ≤ 1000000 → 1 ≤ count → count ≤ 1024 → field.now ≡ ticket_text (thread, count) → ⊥) }
+    ensures found { IfSome result (λ ticket. (field.now ≡ ticket_text ticket) × (ticket.0 ≤ 1000000)
+        × (least_of option.Tickets ≤ ticket.1) × (ticket.1 ≤ most_of option.Tickets)) }
+    ensures none { IfNone result ((thread count : ℕ) → thread ≤ 1000000 → least_of option.Tickets ≤ count → count ≤ most_of option.Tickets
+        → field.now ≡ ticket_text (thread, count) → ⊥) }
 {
     let mut parts = Fields::new(field, b'=');
     let thread = parts.number(MOST_THREAD)?;
-    let count = parts.number(MOST_TICKETS)?;
+    let row = CommandOption::Tickets.row();
+    let count = parts.number(row.most)?;
     parts.end()?;
-    if count == 0 {
+    if count < row.least {
         return None;
     }
     Some((thread as u32, count as u32))

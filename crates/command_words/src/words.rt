@@ -1,5 +1,5 @@
 // A list of words into a command.
-ghost use Rattle.std.specs.Prelude.{ℕ, List, ◌≡◌, map, IfOk, Err};
+ghost use Rattle.std.specs.Prelude.{◌≡◌, map, IfOk, Err};
 ghost use Rattle.std.specs.String.{string_bytes};
 ghost use Rattle.command_words.specs.WordList.{Request, request_of, IsWordList};
 

@@ -1,5 +1,5 @@
 -- The values of the options, or that the texts are none.
-use Rattle.std.proofs.Common.{◌≡◌, ◌∙◌, ℕ, zero, suc, ◌+◌, ◌*◌, ◌-◌, ◌<◌, ◌≤◌, ◌%◌, ◌⊎◌, inl, inr, List, [], ◌∷◌, length, map, replicate, Option, Some, None, refl, sym, ap, subst, arith, codes}
+use Rattle.std.proofs.Common.{◌≡◌, ◌∙◌, ℕ, suc, ◌-◌, ◌<◌, ◌≤◌, ◌%◌, ◌⊎◌, inl, inr, List, [], ◌∷◌, length, map, replicate, Option, Some, None, refl, ap, arith, codes}
 use Rattle.std.proofs.lemmas.List.{length-map}
 use Rattle.cap_text.specs.Decimals.{canonical_decimal}
 use Rattle.cap_text.specs.Pieces.{pieces}
@@ -9,9 +9,12 @@ use Rattle.command_words.specs.declared.options.Policy.{Policy}
 use Rattle.command_words.specs.declared.options.Rule.{Rule}
 use Rattle.command_words.specs.declared.options.Rule.TheVariants.{Graph, Stride}
 use Rattle.command_words.specs.declared.options.Tickets.{Tickets}
-use Rattle.command_words.specs.Values.{IsChosen, IsNumber, default_max_path, IsPlacement, cap_text, AreCapsAbove, caps_of, IsCapsText, AreCaps, ticket_text, AreTicketsFrom, IsTicketsText, tickets_of, AreTickets, rule_name, IsAudit, IsRule, IsPolicy}
+use Rattle.command_words.specs.OptionTable.{name_of, default_of, least_of, most_of}
+use Rattle.command_words.specs.declared.option_table.CommandOption.{CommandOption}
+use Rattle.command_words.specs.declared.option_table.CommandOption.TheVariants as option
+use Rattle.command_words.specs.Values.{IsChosen, IsNumber, IsNumberOf, default_max_path, IsPlacement, cap_text, AreCapsAbove, caps_of, AreCaps, ticket_text, AreTicketsFrom, tickets_of, AreTickets, rule_name, IsAudit, IsRule, IsPolicy}
 use Rattle.decisions.specs.Decided.{Decided}
-use Rattle.decisions.proofs.Decisions.{Below, decided_by, both_decided, either_decided, then_decided, below_decided, le_decided, lt_decided, number_same, text_same, option_same}
+use Rattle.decisions.proofs.Decisions.{Below, decided_by, both_decided, either_decided, below_decided, le_decided, lt_decided, number_same, text_same, option_same}
 
 abbrev Texts : Type 0
 Texts = List ℕ → Option (List ℕ)
@@ -29,7 +32,8 @@ is_number_decided given default least most n =
     (both_decided (chosen_decided given default n) (both_decided (le_decided least n) (le_decided n most)))
 
 -- some number is in the range and has what is decided of each
-pub ranged_decided : (given : Option (List ℕ)) (default least most : ℕ) (P : ℕ → Type 0) → ((n : ℕ) → Decided (P n)) → Decided ((n : ℕ) × (IsNumber given default least most n × P n))
+pub ranged_decided : (given : Option (List ℕ)) (default least most : ℕ) (P : ℕ → Type 0) → ((n : ℕ) → Decided (P n))
+    → Decided ((n : ℕ) × (IsNumber given default least most n × P n))
 ranged_decided given default least most P each =
     decided_by (λ (b : Below (λ n. IsNumber given default least most n × P n) (suc most)). (b.0, b.1.1))
     (λ h. (h.0, ((let below = h.1.0.not_more in omega (arith, below)), h.1)))
@@ -40,19 +44,28 @@ number_decided given default least most =
     decided_by (λ (h : (n : ℕ) × (IsNumber given default least most n × Unit {0})). (h.0, h.1.0)) (λ h. (h.0, (h.1, tt)))
     (ranged_decided given default least most (λ n. Unit {0}) (λ n. inl tt))
 
+-- the same of an option by its row of the table
+ranged_option : (given : Texts) (it : CommandOption) (P : ℕ → Type 0) → ((n : ℕ) → Decided (P n)) → Decided ((n : ℕ) × (IsNumberOf given it n × P n))
+ranged_option given it P each = ranged_decided (given (name_of it)) (default_of it) (least_of it) (most_of it) P each
+
+number_option : (given : Texts) (it : CommandOption) → Decided ((n : ℕ) × IsNumberOf given it n)
+number_option given it = number_decided (given (name_of it)) (default_of it) (least_of it) (most_of it)
+
 -- ---- the sizes
 
 pub placement_decided : (given : Texts) → Decided ((placement : Placement) × IsPlacement given placement)
 placement_decided given =
     decided_by (λ (h : Sizes). (record { chunk = h.0; max_path = h.1.1.1.0 }, record { chunk = h.1.0; whole = h.1.1.0; max_path = h.1.1.1.1 }))
     (λ h. (h.0.chunk, (h.1.chunk, (h.1.whole, (h.0.max_path, h.1.max_path)))))
-    (ranged_decided (given (codes "--chunk")) 4096 64 65536 Rest (λ chunk. both_decided (number_same (chunk % 16) 0) (number_decided (given (codes "--max-path")) (default_max_path chunk) 16 (chunk - 16))))
+    (ranged_option given option.Chunk Rest (λ chunk. both_decided (number_same (chunk % 16) 0)
+    (number_decided (given (name_of option.MaxPath)) (default_max_path chunk) (least_of option.MaxPath) (chunk - 16))))
   where
     Rest : ℕ → Type 0
-    Rest chunk = (chunk % 16 ≡ 0) × ((path : ℕ) × IsNumber (given (codes "--max-path")) (default_max_path chunk) 16 (chunk - 16) path)
+    Rest chunk = (chunk % 16 ≡ 0) × ((path : ℕ)
+        × IsNumber (given (name_of option.MaxPath)) (default_max_path chunk) (least_of option.MaxPath) (chunk - 16) path)
 
     Sizes : Type 0
-    Sizes = (chunk : ℕ) × (IsNumber (given (codes "--chunk")) 4096 64 65536 chunk × Rest chunk)
+    Sizes = (chunk : ℕ) × (IsNumberOf given option.Chunk chunk × Rest chunk)
 
 -- ---- the caps
 
@@ -71,11 +84,13 @@ caps_from : (fields : List (List ℕ)) (below : ℕ) → Decided (CapsFrom field
 caps_from [] below = inl ([], (refl, tt))
 caps_from (field ∷ fields) below = by 8 1000001 refl refl (λ n. caps_from fields n) where
   first : ((n : ℕ) → Decided (CapsFrom fields n)) → (resource most : ℕ) → Decided (FirstCap field fields below resource most)
-  first again resource most = both_decided (both_decided (text_same field (cap_text (resource, most))) (both_decided (lt_decided below resource) (le_decided 1 most))) (again resource)
+  first again resource most = both_decided (both_decided (text_same field (cap_text (resource, most)))
+      (both_decided (lt_decided below resource) (le_decided 1 most))) (again resource)
 
   search : ((n : ℕ) → Decided (CapsFrom fields n)) → (resources mosts : ℕ) → Decided (SomeCap field fields below resources mosts)
   search again resources mosts =
-      below_decided (λ resource. Below (λ most. FirstCap field fields below resource most) mosts) (λ resource. below_decided (λ most. FirstCap field fields below resource most) (first again resource) mosts) resources
+      below_decided (λ resource. Below (λ most. FirstCap field fields below resource most) mosts)
+      (λ resource. below_decided (λ most. FirstCap field fields below resource most) (first again resource) mosts) resources
 
   to : (resources mosts : ℕ) → resources ≡ 8 → mosts ≡ 1000001 → SomeCap field fields below resources mosts → CapsFrom (field ∷ fields) below
   to resources mosts r m b =
@@ -119,11 +134,13 @@ tickets_from : (fields : List (List ℕ)) (least : ℕ) → Decided (TicketsFrom
 tickets_from [] least = inl ([], (refl, tt))
 tickets_from (field ∷ fields) least = by 1000001 1025 refl refl (λ n. tickets_from fields n) where
   first : ((n : ℕ) → Decided (TicketsFrom fields n)) → (thread count : ℕ) → Decided (FirstTicket field fields least thread count)
-  first again thread count = both_decided (both_decided (text_same field (ticket_text (thread, count))) (both_decided (le_decided least thread) (le_decided 1 count))) (again (suc thread))
+  first again thread count = both_decided (both_decided (text_same field (ticket_text (thread, count)))
+      (both_decided (le_decided least thread) (le_decided 1 count))) (again (suc thread))
 
   search : ((n : ℕ) → Decided (TicketsFrom fields n)) → (threads counts : ℕ) → Decided (SomeTicket field fields least threads counts)
   search again threads counts =
-      below_decided (λ thread. Below (λ count. FirstTicket field fields least thread count) counts) (λ thread. below_decided (λ count. FirstTicket field fields least thread count) (first again thread) counts) threads
+      below_decided (λ thread. Below (λ count. FirstTicket field fields least thread count) counts)
+      (λ thread. below_decided (λ count. FirstTicket field fields least thread count) (first again thread) counts) threads
 
   to : (threads counts : ℕ) → threads ≡ 1000001 → counts ≡ 1025 → SomeTicket field fields least threads counts → TicketsFrom (field ∷ fields) least
   to threads counts r m b =
@@ -179,26 +196,30 @@ rule_decided given tickets_given =
 
 pub policy_decided : (given : Texts) → Decided ((policy : Policy) × IsPolicy given policy)
 policy_decided given =
-    decided_by to from (both_decided (number_decided (given (codes "--chunks")) 1024 1 65536)
-    (both_decided (number_decided (given (codes "--extra")) 0 0 65536)
-    (both_decided (ranged_decided (given (codes "--extra-size")) 64 32 65536 (λ bytes. bytes % 16 ≡ 0) (λ bytes. number_same (bytes % 16) 0))
-    (both_decided (number_decided (given (codes "--fuel")) 10000000 0 1000000000)
-    (both_decided (number_decided (given (codes "--backlog")) 64 1 4096)
-    (both_decided (caps_decided (given (codes "--caps")))
-    (both_decided (ranged_decided (given (codes "--high")) 900 1 1000 (λ high. (low : ℕ) × IsNumber (given (codes "--low")) 700 0 (high - 1) low) (λ high. number_decided (given (codes "--low")) 700 0 (high - 1)))
-    (both_decided (rule_decided (given (codes "--rule")) (given (codes "--tickets")))
-    (number_decided (given (codes "--knee")) 0 0 999)))))))))
+    decided_by to from (both_decided (number_option given option.Chunks)
+    (both_decided (number_option given option.Extra)
+    (both_decided (ranged_option given option.ExtraSize (λ bytes. bytes % 16 ≡ 0) (λ bytes. number_same (bytes % 16) 0))
+    (both_decided (number_option given option.Fuel)
+    (both_decided (number_option given option.Backlog)
+    (both_decided (caps_decided (given (name_of option.Caps)))
+    (both_decided (ranged_option given option.High (λ high. (low : ℕ) × IsLow high low)
+    (λ high. number_decided (given (name_of option.Low)) (default_of option.Low) (least_of option.Low) (high - 1)))
+    (both_decided (rule_decided (given (name_of option.Rule)) (given (name_of option.Tickets)))
+    (number_option given option.Knee)))))))))
   where
+    IsLow : ℕ → ℕ → Type 0
+    IsLow high low = IsNumber (given (name_of option.Low)) (default_of option.Low) (least_of option.Low) (high - 1) low
+
     Parts : Type 0
-    Parts = ((n : ℕ) × IsNumber (given (codes "--chunks")) 1024 1 65536 n)
-        × (((n : ℕ) × IsNumber (given (codes "--extra")) 0 0 65536 n)
-        × (((n : ℕ) × (IsNumber (given (codes "--extra-size")) 64 32 65536 n × (n % 16 ≡ 0)))
-        × (((n : ℕ) × IsNumber (given (codes "--fuel")) 10000000 0 1000000000 n)
-        × (((n : ℕ) × IsNumber (given (codes "--backlog")) 64 1 4096 n)
-        × (((caps : List ℕ) × AreCaps (given (codes "--caps")) caps)
-        × (((n : ℕ) × (IsNumber (given (codes "--high")) 900 1 1000 n × ((low : ℕ) × IsNumber (given (codes "--low")) 700 0 (n - 1) low)))
-        × (((rule : Rule) × IsRule (given (codes "--rule")) (given (codes "--tickets")) rule)
-        × ((n : ℕ) × IsNumber (given (codes "--knee")) 0 0 999 n))))))))
+    Parts = ((n : ℕ) × IsNumberOf given option.Chunks n)
+        × (((n : ℕ) × IsNumberOf given option.Extra n)
+        × (((n : ℕ) × (IsNumberOf given option.ExtraSize n × (n % 16 ≡ 0)))
+        × (((n : ℕ) × IsNumberOf given option.Fuel n)
+        × (((n : ℕ) × IsNumberOf given option.Backlog n)
+        × (((caps : List ℕ) × AreCaps (given (name_of option.Caps)) caps)
+        × (((n : ℕ) × (IsNumberOf given option.High n × ((low : ℕ) × IsLow n low)))
+        × (((rule : Rule) × IsRule (given (name_of option.Rule)) (given (name_of option.Tickets)) rule)
+        × ((n : ℕ) × IsNumberOf given option.Knee n))))))))
 
     to : Parts → (policy : Policy) × IsPolicy given policy
     to p =
@@ -262,73 +283,13 @@ policy_decided given =
 
 pub audit_options_decided : (given : Texts) → Decided ((options : Audit) × IsAudit given options)
 audit_options_decided given =
-    decided_by to from (both_decided (number_decided (given (codes "--chunks")) 1024 1 65536)
-    (both_decided (number_decided (given (codes "--extra")) 0 0 65536)
-    (both_decided (number_decided (given (codes "--fuel")) 10000000 0 1000000000)
-    (both_decided (number_decided (given (codes "--backlog")) 64 1 4096)
-    (both_decided (caps_decided (given (codes "--caps")))
-    (both_decided (ranged_decided (given (codes "--high")) 900 1 1000 (λ high. (low : ℕ) × IsNumber (given (codes "--low")) 700 0 (high - 1) low) (λ high. number_decided (given (codes "--low")) 700 0 (high - 1)))
-    (both_decided (number_decided (given (codes "--knee")) 0 0 999)
-    (number_decided (given (codes "--steps")) 1000000000 0 1000000000))))))))
+    decided_by to from (both_decided (policy_decided given) (number_option given option.Steps))
   where
     Parts : Type 0
-    Parts = ((n : ℕ) × IsNumber (given (codes "--chunks")) 1024 1 65536 n)
-        × (((n : ℕ) × IsNumber (given (codes "--extra")) 0 0 65536 n)
-        × (((n : ℕ) × IsNumber (given (codes "--fuel")) 10000000 0 1000000000 n)
-        × (((n : ℕ) × IsNumber (given (codes "--backlog")) 64 1 4096 n)
-        × (((caps : List ℕ) × AreCaps (given (codes "--caps")) caps)
-        × (((n : ℕ) × (IsNumber (given (codes "--high")) 900 1 1000 n × ((low : ℕ) × IsNumber (given (codes "--low")) 700 0 (n - 1) low)))
-        × (((n : ℕ) × IsNumber (given (codes "--knee")) 0 0 999 n)
-        × ((n : ℕ) × IsNumber (given (codes "--steps")) 1000000000 0 1000000000 n)))))))
+    Parts = ((policy : Policy) × IsPolicy given policy) × ((n : ℕ) × IsNumberOf given option.Steps n)
 
     to : Parts → (options : Audit) × IsAudit given options
-    to p =
-        let q = p.1.1.1 in
-        let r = q.1.1 in (
-          record {
-            chunks = p.0.0;
-            extra = p.1.0.0;
-            fuel = p.1.1.0.0;
-            backlog = q.0.0;
-            caps = q.1.0.0;
-            high = r.0.0;
-            low = r.0.1.1.0;
-            knee = r.1.0.0;
-            steps = r.1.1.0;
-          },
-          record {
-            chunks = p.0.1;
-            extra = p.1.0.1;
-            fuel = p.1.1.0.1;
-            backlog = q.0.1;
-            caps = q.1.0.1;
-            high = r.0.1.0;
-            low = r.0.1.1.1;
-            knee = r.1.0.1;
-            steps = r.1.1.1;
-          },
-        )
+    to p = (record { policy = p.0.0; steps = p.1.0 }, record { policy = p.0.1; steps = p.1.1 })
 
     from : (options : Audit) × IsAudit given options → Parts
-    from ((options, is)) = (
-      (options.chunks, is.chunks),
-      (
-        (options.extra, is.extra),
-        (
-          (options.fuel, is.fuel),
-          (
-            (options.backlog, is.backlog),
-            (
-              (options.caps, is.caps),
-              (
-                (options.high, (is.high, (options.low, is.low))),
-                (
-                  (options.knee, is.knee),
-                  (options.steps, is.steps),
-                ),
-              ),
-            ),
-          ),
-        ),
-      ),
-    )
+    from ((options, is)) = ((options.policy, is.policy), (options.steps, is.steps))

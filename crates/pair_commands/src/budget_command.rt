@@ -5,7 +5,7 @@ ghost use Rattle.c_tree.specs.ProgramView.{program_tree};
 ghost use Rattle.c_lower.specs.ProgramCode.{lowered};
 ghost use Rattle.call_cycles.specs.Cycles.{IsLeast, IsOnCycle};
 ghost use Rattle.accepted_pairs.specs.Accepting.{accepted_tree};
-ghost use Rattle.pair_commands.specs.Budgets.{Budgets, BudgetsBytes, BudgetsPair, IsBudgetPrinted, IsCycleRefused, budget_text, height_line, height_lines};
+ghost use Rattle.pair_commands.specs.Budgets.{Budgets, BudgetsBytes, BudgetsPair, IsCycleRefused, budget_text, height_line, height_lines};
 ghost use Rattle.command_outcomes.specs.Outcome.{printed};
 ghost use Rattle.command_outcomes.specs.Steps.{EndsAs, IsStatus, IsStop, IsShelfStop};
 ghost use Rattle.command_outcomes.specs.Done.{Outside, outside_beside};

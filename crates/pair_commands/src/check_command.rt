@@ -1,5 +1,5 @@
 // The command `check`: a source, an image and a certificate are checked.
-ghost use Rattle.std.specs.Prelude.{ℕ, List, Option, ◌≡◌, ◌++◌, ◌∷◌, [], ◌≤◌, length, MatchResult, IfOk};
+ghost use Rattle.std.specs.Prelude.{ℕ, List, Option, ◌≡◌, ◌≤◌, length, MatchResult, IfOk};
 ghost use Rattle.cap_io.specs.Files.{KeepsFiles};
 ghost use Rattle.c_tree.specs.ProgramView.{program_tree};
 ghost use Rattle.pair_commands.specs.Checks.{Checks, ChecksBytes, ChecksPair, verdict_status, verdict_line, verdict_outcome};

@@ -124,13 +124,122 @@ fn other_words_are_refused(rt: HostRuntime) {
     assert!(rt; right);
 }
 
+// The name of a command.
+fn name_of(command: &Command<'_>) -> &'static str {
+    match command {
+        Command::Serve { .. } => "serve",
+        Command::Run { .. } => "run",
+        Command::Build { .. } => "build",
+        Command::Check { .. } => "check",
+        Command::Graph { .. } => "graph",
+        Command::Demo { .. } => "demo",
+        Command::Audit { .. } => "audit",
+        Command::Budget { .. } => "budget",
+    }
+}
+
+// The files of a command by name, an empty name for each that it has less than three.
+fn files_of<'a>(command: &Command<'a>) -> [&'a str; 3] {
+    match *command {
+        Command::Serve { source, .. } | Command::Graph { source, .. } => [source, "", ""],
+        Command::Run {
+            source,
+            image,
+            certificate,
+            ..
+        }
+        | Command::Build {
+            source,
+            image,
+            certificate,
+            ..
+        }
+        | Command::Check {
+            source,
+            image,
+            certificate,
+        }
+        | Command::Budget {
+            source,
+            image,
+            certificate,
+        } => [source, image, certificate],
+        Command::Audit { source, log, .. } => [source, log, ""],
+        Command::Demo { .. } => ["", "", ""],
+    }
+}
+
+// The placement of a command, the default one if it has none.
+fn placement_of(command: &Command<'_>) -> Placement {
+    match *command {
+        Command::Serve { placement, .. }
+        | Command::Build { placement, .. }
+        | Command::Graph { placement, .. } => placement,
+        _ => PLACEMENT,
+    }
+}
+
+// The policy of a command, the default one if it has none.
+fn policy_of(command: &Command<'_>) -> Policy {
+    match *command {
+        Command::Serve { policy, .. } | Command::Run { policy, .. } => policy,
+        Command::Audit { options, .. } => options.policy,
+        _ => POLICY,
+    }
+}
+
+// The number of a workload or of an audit's steps, 0 if a command has none.
+fn number_of(command: &Command<'_>) -> u64 {
+    match *command {
+        Command::Demo { number } => u64::from(number),
+        Command::Audit { options, .. } => options.steps,
+        _ => 0,
+    }
+}
+
+// Whether two rules of choices are the same.
+fn is_same_rule(a: &Rule, b: &Rule) -> bool {
+    match (a, b) {
+        (Rule::Graph, Rule::Graph) => true,
+        (Rule::Stride { tickets }, Rule::Stride { tickets: others }) => {
+            tickets.count == others.count && tickets.pairs == others.pairs
+        }
+        _ => false,
+    }
+}
+
+// Whether two policies are the same.
+fn is_same_policy(a: &Policy, b: &Policy) -> bool {
+    a.chunks == b.chunks
+        && a.extra == b.extra
+        && a.extra_bytes == b.extra_bytes
+        && a.fuel == b.fuel
+        && a.backlog == b.backlog
+        && a.caps == b.caps
+        && a.high == b.high
+        && a.low == b.low
+        && is_same_rule(&a.rule, &b.rule)
+        && a.knee == b.knee
+}
+
+// Whether two commands are the same, with their files by name and their options.
+fn is_same(a: &Command<'_>, b: &Command<'_>) -> bool {
+    let (here, there) = (placement_of(a), placement_of(b));
+    name_of(a) == name_of(b)
+        && files_of(a) == files_of(b)
+        && number_of(a) == number_of(b)
+        && here.chunk == there.chunk
+        && here.max_path == there.max_path
+        && is_same_policy(&policy_of(a), &policy_of(b))
+}
+
 // Whether the words of a line ask for this command.
 fn asks(alloc: Global, line: &str, want: &Command<'_>) -> bool {
     let Ok(words) = words_of(alloc, line) else {
         return false;
     };
     let asked = match read_words(alloc, &words) {
-        Ok(command) => command == *want,
+        Ok(command) => is_same(&command, want),
         Err(_) => false,
     };
     drop(words);
@@ -206,14 +315,7 @@ const AUDIT: Command<'static> = Command::Audit {
 };
 
 const AUDIT_OPTIONS: Audit = Audit {
-    chunks: 1024,
-    extra: 0,
-    fuel: 10_000_000,
-    backlog: 64,
-    caps: [0; 8],
-    high: 900,
-    low: 700,
-    knee: 0,
+    policy: POLICY,
     steps: 1_000_000_000,
 };
 
@@ -221,12 +323,14 @@ const AUDIT_OF_FEW_STEPS: Command<'static> = Command::Audit {
     source: "P",
     log: "L",
     options: Audit {
-        extra: 65_536,
-        fuel: 0,
-        caps: [0, 1, 0, 0, 0, 0, 0, 0],
-        knee: 999,
+        policy: Policy {
+            extra: 65_536,
+            fuel: 0,
+            caps: [0, 1, 0, 0, 0, 0, 0, 0],
+            knee: 999,
+            ..POLICY
+        },
         steps: 0,
-        ..AUDIT_OPTIONS
     },
 };
 

@@ -24,22 +24,28 @@ returns-in_default-read_dec-clause-none c resource most least small some few tex
     let parts = cap_parts c.args.field.now c.in_ok-digit.rest.now c.in_ok-digit.digit.now resource most c.in_ok-digit.ensures.cases.0 small text in
     let stripped = strip_prefix_is Decides-eqb c.in_ok-digit.rest.now (61 ∷ []) (Some c.in-Some.number) c.in-Some.ensures.cases in
     let both : 61 ∷ c.in-Some.number.now ≡ 61 ∷ canonical_decimal most = sym stripped ∙ parts.1 in
-    let read = c.in_default-read_dec.ensures.reads most few (cc) in
+    let read = (rw c.row-row.ensures.most at c.in_default-read_dec.ensures.reads) most few (cc) in
     absurd (cc)
 
-pub returns-then-most-eq0-clause-none : goal.returns-then-most-eq0-clause-none
-returns-then-most-eq0-clause-none c resource most least small some few text =
+pub returns-then-most-row-clause-none : goal.returns-then-most-row-clause-none
+returns-then-most-row-clause-none c resource most least small some few text =
     let parts = cap_parts c.args.field.now c.in_ok-digit.rest.now c.in_ok-digit.digit.now resource most c.in_ok-digit.ensures.cases.0 small text in
     let stripped = strip_prefix_is Decides-eqb c.in_ok-digit.rest.now (61 ∷ []) (Some c.in-Some.number) c.in-Some.ensures.cases in
     let both : 61 ∷ c.in-Some.number.now ≡ 61 ∷ canonical_decimal most = sym stripped ∙ parts.1 in
-    let read = c.in-Ok.ensures.reads most few (cc) in
+    let read = (rw c.row-row.ensures.most at c.in-Ok.ensures.reads) most few (cc) in
     let same : c.in-Ok.most ≡ most = cc in
-    absurd (omega arith)
+    absurd (omega (arith, c.row-row.ensures.least))
 
 pub returns-clause-found : goal.returns-clause-found
 returns-clause-found c =
     let stripped = strip_prefix_is Decides-eqb c.in_ok-digit.rest.now (61 ∷ []) (Some c.in-Some.number) c.in-Some.ensures.cases in
     let digit : 48 + c.from.result ≡ c.in_ok-digit.digit.now = omega arith in
     let small : c.from.result ≤ 7 = omega arith in
-    let parts : c.in_ok-digit.digit.now ∷ c.in_ok-digit.rest.now ≡ (48 + c.from.result) ∷ 61 ∷ canonical_decimal c.in-Ok.most = cc (stripped, c.in-Ok.ensures.number.0) in
-    (c.in_ok-digit.ensures.cases.0 ∙ parts ∙ sym (cap_text_is c.from.result c.in-Ok.most small), omega arith, small, omega arith, c.in-Ok.ensures.number.1)
+    let parts : c.in_ok-digit.digit.now ∷ c.in_ok-digit.rest.now ≡ (48 + c.from.result) ∷ 61 ∷ canonical_decimal c.in-Ok.most = cc
+    (stripped, c.in-Ok.ensures.number.0) in (
+      c.in_ok-digit.ensures.cases.0 ∙ parts ∙ sym (cap_text_is c.from.result c.in-Ok.most small),
+      omega arith,
+      small,
+      omega (arith, c.row-row.ensures.least),
+      rw c.row-row.ensures.most at c.in-Ok.ensures.number.1,
+    )

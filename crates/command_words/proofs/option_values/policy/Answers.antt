@@ -4,7 +4,8 @@ use Rattle.command_words.proofs.option_values.policy.Goals as goal
 
 pub returns-in_err-chunks-clause-none : goal.returns-in_err-chunks-clause-none
 returns-in_err-chunks-clause-none c =
-    if_none c.from_residual.result (λ policy is. c.in_err-chunks.ensures.none _ (room_of_policy (λ name. first_value (found_of c.args.matches.now) name) policy is))
+    if_none c.from_residual.result (λ policy is. c.in_err-chunks.ensures.none _
+    (room_of_policy (λ name. first_value (found_of c.args.matches.now) name) policy is))
 
 pub returns-in_err-caps-clause-none : goal.returns-in_err-caps-clause-none
 returns-in_err-caps-clause-none c =
@@ -17,7 +18,7 @@ returns-in_err-extra_bytes-clause-none c =
 
 pub returns-in_err-rule-clause-none : goal.returns-in_err-rule-clause-none
 returns-in_err-rule-clause-none c =
-    if_none c.from_residual-in_err-rule.result (λ policy is. c.in_err-rule.ensures.none policy.rule (rw (c.get_str.ensures, c.get_str-2.ensures) is.rule))
+    if_none c.from_residual-in_err-rule.result (λ policy is. c.in_err-rule.ensures.none policy.rule (rw (c.text_of.ensures, c.text_of-2.ensures) is.rule))
 
 pub returns-clause-found : goal.returns-clause-found
 returns-clause-found c = record {
@@ -30,6 +31,6 @@ returns-clause-found c = record {
   caps = c.in_ok-caps.ensures.found.caps;
   high = c.in_ok-caps.ensures.found.high;
   low = c.in_ok-caps.ensures.found.low;
-  rule = rw (c.get_str.ensures, c.get_str-2.ensures) at c.in_ok-rule.ensures.found;
+  rule = rw (c.text_of.ensures, c.text_of-2.ensures) at c.in_ok-rule.ensures.found;
   knee = c.in_ok-caps.ensures.found.knee;
 }

@@ -6,7 +6,8 @@ use Rattle.command_words.proofs.reading.serve.Goals as goal
 pub returns-in_err-source-clause-none : goal.returns-in_err-source-clause-none
 returns-in_err-source-clause-none c =
     if_none c.from_residual.result
-    (no_serve (λ name. first_value (found_of c.args.matches.now) name) c.requires (λ source p q asked. c.in_err-source.ensures.none (codes "serve") source asked.0))
+    (no_serve (λ name. first_value (found_of c.args.matches.now) name) c.requires
+    (λ source p q asked. c.in_err-source.ensures.none (codes "serve") source asked.0))
 
 pub returns-in_err-placement-clause-none : goal.returns-in_err-placement-clause-none
 returns-in_err-placement-clause-none c =
@@ -22,4 +23,5 @@ pub returns-then-from-extra_bytes-gt-MOST_BYTES-clause-none : goal.returns-then-
 returns-then-from-extra_bytes-gt-MOST_BYTES-clause-none c =
     no_serve (λ name. first_value (found_of c.args.matches.now) name) c.requires
     (no_pool (λ name. first_value (found_of c.args.matches.now) name) c.in_ok-placement.placement c.in_ok-policy.policy
-    c.in_ok-placement.ensures.found c.in_ok-policy.ensures.found (rw (c.from.ensures, c.from-2.ensures, c.from-3.ensures, c.from-4.ensures) at c.if-from-extra_bytes-gt-MOST_BYTES.true))
+    c.in_ok-placement.ensures.found c.in_ok-policy.ensures.found
+    (rw (c.from.ensures, c.from-2.ensures, c.from-3.ensures, c.from-4.ensures) at c.if-from-extra_bytes-gt-MOST_BYTES.true))
