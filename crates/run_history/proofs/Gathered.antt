@@ -9,6 +9,7 @@ use Rattle.std.proofs.lemmas.List.Sums.{sum_by-append}
 use Rattle.run_history.specs.declared.answers.Answers.{Answers}
 use Rattle.run_history.specs.declared.numbers.WaitLength.{WaitLength}
 use Rattle.run_history.specs.Answers.{with_answer, answers_from}
+use Rattle.run_history.specs.declared.answering.Answering.TheVariants.{ByThread}
 use Rattle.run_history.specs.declared.numbers.Numbers.{Numbers}
 use Rattle.run_history.specs.Numbers.{is_event, take_of, takes, wait_lengths, IsNumbersOf, IsOneMore}
 
@@ -80,7 +81,7 @@ arrivals_from-append line (Ran segment free ∷ told) more = arrivals_from-appen
 arrivals_from-append line (Nothing ∷ told) more = arrivals_from-append line told more
 
 -- what a log tells and one entry more
-pub numbers_more : (chunks : ℕ) (before : List Happening) (told : Happening) (old new : Numbers) → IsNumbersOf chunks before old → IsOneMore chunks told old new → IsNumbersOf chunks (before ++ told ∷ []) new
+pub numbers_more : (chunks : ℕ) (before : List Happening) (told : Happening) (old new : Numbers) → IsNumbersOf ByThread chunks before old → IsOneMore chunks told old new → IsNumbersOf ByThread chunks (before ++ told ∷ []) new
 numbers_more chunks before told old new was more = record {
   events = more.events ∙ (ap (λ n. n + count_by is_event (told ∷ [])) was.events ∙ sym (sum_by-append (λ x. cond (is_event x) 1 0) before (told ∷ [])));
   arrivals = more.arrivals ∙ (ap (λ l. l ++ arrivals_from old.events (told ∷ [])) was.arrivals ∙ (ap (λ n. arrivals_from 0 before ++ arrivals_from n (told ∷ [])) (let at : old.events ≡ 0 + count_by is_event before = omega (arith, was.events) in at) ∙ sym (arrivals_from-append 0 before (told ∷ []))));

@@ -3,6 +3,8 @@ use Rattle.std.specs.Prelude.{◌≡◌, ℕ, ◌+◌, ◌-◌, Bool, true, fals
 use Rattle.run_history.specs.declared.happenings.Wait.{Wait}
 use Rattle.run_history.specs.declared.happenings.Happening.{Happening}
 use Rattle.run_history.specs.declared.happenings.Happening.TheVariants.{Came, Lost, Waited}
+use Rattle.run_history.specs.declared.answering.Answering.{Answering}
+use Rattle.run_history.specs.AnsweredBy.{answers_by}
 use Rattle.run_history.specs.Happenings.{requests_dropped, arrivals_from, answered_at, most_held}
 use Rattle.run_history.specs.declared.numbers.Numbers.{Numbers}
 use Rattle.run_history.specs.declared.numbers.WaitLength.{WaitLength}
@@ -31,13 +33,13 @@ wait_lengths [] = []
 wait_lengths (Waited wait ∷ told) = record { site = wait.site; thread = wait.thread; ticks = wait.until - wait.since; until = wait.until } ∷ wait_lengths told
 wait_lengths (_ ∷ told) = wait_lengths told
 
--- these are the numbers of what a log tells of a run with so many chunks
-pub record IsNumbersOf (chunks : ℕ) (told : List Happening) (n : Numbers) : Type 0 where
+-- these are the numbers of what a log tells of a run with so many chunks, where these outputs are the answers
+pub record IsNumbersOf (answering : Answering) (chunks : ℕ) (told : List Happening) (n : Numbers) : Type 0 where
   pub events : n.events ≡ count_by is_event told
   pub arrivals : n.arrivals.items ≡ arrivals_from 0 told
   pub dropped : n.dropped ≡ requests_dropped told
   pub takes : n.takes.items ≡ takes told
-  pub answers : (request : ℕ) → answers_at n.answers.items request ≡ answers_from None (answered_at request told)
+  pub answers : (request : ℕ) → answers_at n.answers.items request ≡ answers_by answering told request
   pub waits : n.waits.items ≡ wait_lengths told
   pub held : n.most_held ≡ most_held chunks told
 

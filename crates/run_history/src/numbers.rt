@@ -42,6 +42,7 @@ pub struct Numbers {
 
 impl Numbers {
     ghost use Rattle.std.specs.Prelude.{◌≡◌, ℕ, ◌++◌, ◌∷◌, [], List, OnOk};
+    ghost use Rattle.run_history.specs.declared.answering.Answering.TheVariants.{ByThread};
     ghost use Rattle.run_history.specs.declared.happenings.Happening.{Happening};
     ghost use Rattle.run_history.specs.declared.happenings.Happening.TheVariants.{Came, Lost, Waited, Ran};
     ghost use Rattle.run_history.specs.Happenings.{clocks_in};
@@ -50,7 +51,7 @@ impl Numbers {
 
     /// The numbers before the first entry. It takes no memory.
     pub fn new(alloc: Global) -> Numbers
-        ensures { (chunks : ℕ) → IsNumbersOf chunks [] result }
+        ensures { (chunks : ℕ) → IsNumbersOf ByThread chunks [] result }
     {
         Numbers {
             events: 0,
