@@ -17,7 +17,7 @@ use cap_io::{CleanSink, CleanSource, Shelf, Sink, Source, put_all};
 use capriccio_commands::let_go;
 use report_figures::Window;
 use report_text::Text;
-use run_history::Spawned;
+use run_history::Answering;
 use schedule_log::read_entry;
 use source_places::Places;
 use std::alloc::{AllocError, Global};
@@ -354,9 +354,8 @@ fn write_text(
         world: run.world,
         decided,
         request: wanted.request,
-        pairing: wanted.answers,
+        answering: answering_of(run.told, wanted),
         window: window_of(wanted),
-        spawned: spawned_in(run.told, wanted),
     };
     let found = put_report(alloc, text, places, whole)?;
     if let Some(world) = run.world {
@@ -369,11 +368,12 @@ fn write_text(
     Ok(found)
 }
 
-/// The threads that segments started, where a request is followed through `spawn`: with `--why`.
-fn spawned_in<'a>(told: Option<&'a Told>, wanted: &Wanted) -> Option<&'a [Spawned]> {
-    match told {
-        Some(known) if wanted.why => Some(known.spawned.as_slice()),
-        _ => None,
+/// Which outputs are the answers to requests: as a user says, and else with `--why` also those of threads that work for a request.
+fn answering_of<'a>(told: Option<&'a Told>, wanted: &Wanted) -> Answering<'a> {
+    match (wanted.answers, told) {
+        (Some(pairing), _) => Answering::ByPairing(pairing),
+        (None, Some(known)) if wanted.why => Answering::BySpawn(known.spawned.as_slice()),
+        _ => Answering::ByThread,
     }
 }
 

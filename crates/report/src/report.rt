@@ -23,13 +23,12 @@ use report_lines::{
 };
 use report_text::Text;
 use run_history::{
-    Followed, Happening, HistoryError, Marks, Numbers, Pairing, Pairs, ReadError, Reading, Spawned,
-    Spells, Takes, Unasked, Watch, numbers_of,
+    Answering, Happening, HistoryError, Marks, Numbers, Pairing, ReadError, Reading, Spells, Takes,
+    Unasked, Watch, numbers_of,
 };
 use schedule_log::{Entry, Item};
 use source_places::Places;
 use std::alloc::{AllocError, Global};
-use std::mem;
 use thread_core::World;
 
 /// What a report takes from the options of the run.
@@ -73,10 +72,6 @@ pub(crate) struct Course<'a> {
     pub(crate) takes: Takes,
     /// What threads put that served no request.
     pub(crate) unasked: Unasked,
-    /// Which outputs answer which requests, where a user says how.
-    pairs: Option<Pairs>,
-    /// What threads answer that work for requests, where it is known who started whom.
-    followed: Option<Followed<'a>>,
     /// One more than the greatest number of a thread that ran, and how many threads ran.
     pub(crate) threads: u32,
     started: u64,
@@ -92,14 +87,15 @@ pub(crate) struct Course<'a> {
 }
 
 impl<'a> Watch for Course<'a> {
-    fn see(&mut self, entry: &Entry, told: Happening) -> Result<(), HistoryError> {
-        let named = self.named(told);
+    fn see(
+        &mut self,
+        entry: &Entry,
+        told: Happening,
+        named: Happening,
+    ) -> Result<(), HistoryError> {
         match self.takes.add(told, self.at_take) {
             Ok(()) => match self.unasked.add(named) {
-                Ok(()) => match self.pair(told) {
-                    Ok(()) => self.take(entry, told),
-                    Err(error) => Err(error),
-                },
+                Ok(()) => self.take(entry, told),
                 Err(error) => Err(error),
             },
             Err(AllocError) => Err(HistoryError::Memory),
@@ -129,8 +125,6 @@ impl<'a> Course<'a> {
             options,
             takes: Takes::new(alloc),
             unasked: Unasked::new(alloc),
-            pairs: None,
-            followed: None,
             threads: 0,
             started: 0,
             counts: Counts::new(window, spells),
@@ -177,25 +171,6 @@ impl<'a> Course<'a> {
                 Ok(())
             }
             None => Err(HistoryError::Count),
-        }
-    }
-
-    /// What was told, with the request that a thread works for where that is known.
-    fn named(&self, told: Happening) -> Happening {
-        match &self.followed {
-            Some(followed) => followed.named(told),
-            None => told,
-        }
-    }
-
-    /// Takes what tells of requests and outputs, where a user says which belong together.
-    fn pair(&mut self, told: Happening) -> Result<(), HistoryError> {
-        if let Some(pairs) = &mut self.pairs {
-            return pairs.add(told);
-        }
-        match &mut self.followed {
-            Some(followed) => followed.add(told),
-            None => Ok(()),
         }
     }
 
@@ -259,11 +234,10 @@ pub struct RunLog<'a> {
     pub world: Option<&'a World>,
     pub decided: Option<Decided>,
     pub request: Option<u64>,
-    pub pairing: Option<Pairing>,
+    /// Which outputs are the answers to requests.
+    pub answering: Answering<'a>,
     /// The clocks between which it is told, if not all are.
     pub window: Option<Window>,
-    /// The threads that segments started, where that is known.
-    pub spawned: Option<&'a [Spawned]>,
 }
 
 /// Appends the report on a run, up to what is left at its end. `Log` comes where the log has no
@@ -278,7 +252,7 @@ pub fn put_report(
     let accepts = places.sites_of(alloc, b"accept")?;
     let at_take = places.sites_of(alloc, b"take")?;
     let waiting = places.waiting_sites(alloc)?;
-    let mut course = Course::new(
+    let course = Course::new(
         alloc,
         accepts.as_slice(),
         at_take.as_slice(),
@@ -287,11 +261,6 @@ pub fn put_report(
         run.options,
         run.window,
     );
-    if let Some(pairing) = run.pairing {
-        course.pairs = Some(Pairs::new(alloc, pairing));
-    } else if let Some(spawned) = run.spawned {
-        course.followed = Some(Followed::new(alloc, spawned));
-    }
     put_course(alloc, text, places, run, course)
 }
 
@@ -305,13 +274,8 @@ fn put_course(
 ) -> Result<Found, Failure> {
     let accepts = course.accepts;
     let chunks = course.options.marks.chunks;
-    match numbers_of(alloc, run.log, accepts, chunks, &mut course) {
-        Ok(mut reading) => {
-            if let Some(pairs) = &mut course.pairs {
-                reading.numbers.answers = mem::replace(&mut pairs.answers, Vec::new(alloc));
-            } else if let Some(followed) = &mut course.followed {
-                reading.numbers.answers = mem::replace(&mut followed.answers, Vec::new(alloc));
-            }
+    match numbers_of(alloc, run.log, accepts, chunks, run.answering, &mut course) {
+        Ok(reading) => {
             let put = put_numbers(alloc, text, places, run, &course, &reading);
             drop(reading);
             match put {
@@ -330,15 +294,16 @@ fn put_course(
 }
 
 /// Appends how outputs answer requests, where a user says so.
-fn put_pairing(text: &mut Text, pairing: Option<Pairing>) {
-    match pairing {
-        Some(Pairing::First) => text.words(
+fn put_pairing(text: &mut Text, answering: Answering) {
+    match answering {
+        Answering::ByPairing(Pairing::First) => text.words(
             "answers: the N-th output is that to the N-th request\n",
         ),
-        Some(Pairing::Value) => text.words(
+        Answering::ByPairing(Pairing::Value) => text.words(
             "answers: an output is that to the first request of its value that has none\n",
         ),
-        None => (),
+        Answering::ByThread => (),
+        Answering::BySpawn(_) => (),
     }
 }
 
@@ -360,7 +325,7 @@ fn put_numbers(
         text.words(FOREIGN);
     }
     put_window(text, run.window);
-    put_pairing(text, run.pairing);
+    put_pairing(text, run.answering);
     let scope = course.counts.scope(numbers, run.times);
     put_requests(alloc, text, scope, course.counts.dropped_in(numbers));
     put_unasked(text, &course.unasked);

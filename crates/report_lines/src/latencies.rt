@@ -18,7 +18,7 @@ struct Latency {
 /// request's time in the trace to its first answer and to its last one.
 pub fn put_requests(alloc: Global, text: &mut Text, scope: Scope, dropped: u64) {
     let arrivals = scope.numbers.arrivals.len();
-    let takes = scope.numbers.takes.len();
+    let takes = scope.numbers.takers.len();
     let line = RequestsLine {
         came: scope.count(arrivals),
         dropped,
@@ -88,15 +88,15 @@ fn latency_of(scope: Scope, request: usize, to_last: bool) -> Option<Latency> {
     let arrived = scope.arrived(request)?;
     match (
         scope.numbers.answers.as_slice().get(request),
-        scope.numbers.takes.as_slice().get(request),
+        scope.numbers.takers.as_slice().get(request),
     ) {
-        (Some(Some(given)), Some(take)) => {
+        (Some(Some(given)), Some(thread)) => {
             let answered = if to_last { given.last } else { given.first };
             Some(Latency {
                 request,
                 ticks: answered.saturating_sub(arrived),
                 arrived,
-                thread: take.thread,
+                thread: *thread,
             })
         }
         _ => None,

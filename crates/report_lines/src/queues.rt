@@ -25,7 +25,7 @@ pub fn put_queue(alloc: Global, text: &mut Text, scope: Scope) {
 /// Adds how long each request was queued that is told of. The answer is the one that was queued longest, the earliest of such.
 fn add_queued(ticks: &mut Vec<u64>, scope: Scope) -> Result<Option<Longest>, AllocError> {
     let mut longest: Option<Longest> = None;
-    for request in 0..scope.numbers.takes.len() {
+    for request in 0..scope.numbers.takers.len() {
         if let Some(queued) = queued_in(scope, request) {
             longest = match longest {
                 Some(before) if ticks_of(before.queued) >= ticks_of(queued) => Some(before),

@@ -20,7 +20,7 @@ impl<'a> Scope<'a> {
 
     /// The time of the request of that number, from 0 in the order in which requests came, if it is told of.
     pub(crate) fn arrived(&self, request: usize) -> Option<u64> {
-        let line = *self.numbers.arrivals.as_slice().get(request)?;
+        let line = self.numbers.arrivals.get(request)?;
         let time = *self.times.get(line as usize)?;
         if self.has(time) { Some(time) } else { None }
     }

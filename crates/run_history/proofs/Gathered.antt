@@ -1,16 +1,19 @@
 -- The lists and counts of what a log tells, when one entry more has told something.
-use Rattle.std.proofs.Common.{◌≡◌, ◌∙◌, ℕ, ◌+◌, ◌-◌, List, [], ◌∷◌, ◌++◌, Option, Some, None, ap, sym, refl, max, append_assoc, arith}
+use Rattle.std.proofs.Common.{◌≡◌, ◌∙◌, ℕ, ◌+◌, ◌-◌, List, [], ◌∷◌, ◌++◌, Option, Some, None, ap, map, sym, refl, max, append_assoc, arith}
 use Rattle.schedule_log.specs.declared.entries.Item.TheVariants.{Arrive, Data}
 use Rattle.run_history.specs.declared.happenings.Happening.{Happening}
 use Rattle.run_history.specs.declared.happenings.Happening.TheVariants.{Came, Lost, Started, Waited, Put, Ran, Nothing}
 use Rattle.run_history.specs.Happenings.{answered_at, clocks_in, most_held, arrivals_from, requests_dropped, drops_request}
 use Rattle.std.specs.Prelude.{count_by, cond}
+use Rattle.std.proofs.lemmas.List.{map-append}
 use Rattle.std.proofs.lemmas.List.Sums.{sum_by-append}
 use Rattle.run_history.specs.declared.answers.Answers.{Answers}
+use Rattle.run_history.specs.declared.happenings.Wait.{Wait}
 use Rattle.run_history.specs.declared.numbers.WaitLength.{WaitLength}
 use Rattle.run_history.specs.Answers.{with_answer, answers_from}
+use Rattle.run_history.specs.declared.answering.Answering.TheVariants.{ByThread}
 use Rattle.run_history.specs.declared.numbers.Numbers.{Numbers}
-use Rattle.run_history.specs.Numbers.{is_event, take_of, takes, wait_lengths, IsNumbersOf, IsOneMore}
+use Rattle.run_history.specs.Numbers.{is_event, take_of, takes, takers, taken, wait_lengths, IsNumbersOf, IsOneMore}
 
 -- lists that grow at their end
 pub takes-append : (told more : List Happening) → takes (told ++ more) ≡ takes told ++ takes more
@@ -80,12 +83,13 @@ arrivals_from-append line (Ran segment free ∷ told) more = arrivals_from-appen
 arrivals_from-append line (Nothing ∷ told) more = arrivals_from-append line told more
 
 -- what a log tells and one entry more
-pub numbers_more : (chunks : ℕ) (before : List Happening) (told : Happening) (old new : Numbers) → IsNumbersOf chunks before old → IsOneMore chunks told old new → IsNumbersOf chunks (before ++ told ∷ []) new
+pub numbers_more : (chunks : ℕ) (before : List Happening) (told : Happening) (old new : Numbers) → IsNumbersOf ByThread chunks before old → IsOneMore chunks told old new → IsNumbersOf ByThread chunks (before ++ told ∷ []) new
 numbers_more chunks before told old new was more = record {
   events = more.events ∙ (ap (λ n. n + count_by is_event (told ∷ [])) was.events ∙ sym (sum_by-append (λ x. cond (is_event x) 1 0) before (told ∷ [])));
   arrivals = more.arrivals ∙ (ap (λ l. l ++ arrivals_from old.events (told ∷ [])) was.arrivals ∙ (ap (λ n. arrivals_from 0 before ++ arrivals_from n (told ∷ [])) (let at : old.events ≡ 0 + count_by is_event before = omega (arith, was.events) in at) ∙ sym (arrivals_from-append 0 before (told ∷ []))));
   dropped = more.dropped ∙ (ap (λ n. n + requests_dropped (told ∷ [])) was.dropped ∙ sym (sum_by-append (λ x. cond (drops_request x) 1 0) before (told ∷ [])));
-  takes = more.takes ∙ (ap (λ l. l ++ takes (told ∷ [])) was.takes ∙ sym (takes-append before (told ∷ [])));
+  takers = more.takers ∙ (ap (λ l. l ++ takers (told ∷ [])) was.takers ∙ sym (ap (map (λ (wait : Wait). wait.thread)) (takes-append before (told ∷ [])) ∙ map-append (λ (wait : Wait). wait.thread) (takes before) (takes (told ∷ []))));
+  taken = more.taken ∙ (ap (λ l. l ++ taken (told ∷ [])) was.taken ∙ sym (ap (map (λ (wait : Wait). wait.until)) (takes-append before (told ∷ [])) ∙ map-append (λ (wait : Wait). wait.until) (takes before) (takes (told ∷ []))));
   answers = λ request. more.answers request
       ∙ (ap (λ a. answers_from a (answered_at request (told ∷ []))) (was.answers request)
       ∙ (sym (answers_from-append None (answered_at request before) (answered_at request (told ∷ [])))

@@ -4,3 +4,7 @@ pub mod Readings
 pub mod Paired
 pub mod PairedOnce
 pub mod FollowedOnce
+pub mod AnsweringKept
+pub mod Outputs
+pub mod OutputsOf
+pub mod OutputsInTurn

@@ -1,4 +1,4 @@
--- The numbers of the lines of a log so far are those of what its entries so far tell.
+-- What is gathered from the lines of a log so far is gathered from what its entries so far tell.
 use Rattle.std.proofs.Common.{◌≡◌, ◌∙◌, ℕ, Bool, List, [], ◌∷◌, ◌++◌, map, ap, sym, refl, subst, append_assoc}
 use Rattle.std.proofs.lemmas.List.{append-nil}
 use Rattle.std.specs.List.{AllByRecursion}
@@ -11,30 +11,28 @@ use Rattle.schedule_log.proofs.LogLines.{log_lines}
 use Rattle.run_history.specs.declared.happenings.Happening.{Happening}
 use Rattle.run_history.specs.Known.{Known, nothing_known, with_entry, happening}
 use Rattle.run_history.specs.Happenings.{happenings, happenings_from}
-use Rattle.run_history.specs.declared.numbers.Numbers.{Numbers}
-use Rattle.run_history.specs.Numbers.{IsNumbersOf}
 
--- the lines that are left are those of entries that tell, after what was told, what the whole log tells
-abbrev pub IsReading : List Bool → ℕ → List ℕ → List (List ℕ) → Known → Numbers → Type 0
-IsReading accepts chunks log left known numbers =
+-- the lines that are left are those of entries that tell, after what was told, what the whole log tells; and this holds of what was told
+abbrev pub IsReading : List Bool → List ℕ → List (List ℕ) → Known → (List Happening → Type 0) → Type 0
+IsReading accepts log left known holds =
     (entries : List Entry) → AllByRecursion FitsEntry entries → log ≡ log_text entries →
-    (rest : List Entry) × (told : List Happening) × (left ≡ map entry_text rest) × AllByRecursion FitsEntry rest × IsNumbersOf chunks told numbers × (told ++ happenings_from accepts known rest ≡ happenings accepts entries)
+    (rest : List Entry) × (told : List Happening) × (left ≡ map entry_text rest) × AllByRecursion FitsEntry rest × holds told × (told ++ happenings_from accepts known rest ≡ happenings accepts entries)
 
 -- the entry that was read is the one
 pub ok-same : {X E : Type 0} (x y : X) → ◌≡◌ {A = Result X E} (Ok x) (Ok y) → x ≡ y
 ok-same x y same = cc
 
-pub reading-starts : (accepts : List Bool) (chunks : ℕ) (log : List ℕ) (numbers : Numbers) → IsNumbersOf chunks [] numbers → IsReading accepts chunks log (lines_of log) nothing_known numbers
-reading-starts accepts chunks log numbers none = λ entries fits is. (entries, [], ap lines_of is ∙ log_lines entries, fits, none, refl)
+pub reading-starts : (accepts : List Bool) (log : List ℕ) (holds : List Happening → Type 0) → holds [] → IsReading accepts log (lines_of log) nothing_known holds
+reading-starts accepts log holds none = λ entries fits is. (entries, [], ap lines_of is ∙ log_lines entries, fits, none, refl)
 
-one-more : (accepts : List Bool) (chunks : ℕ) (line : List ℕ) (left left' : List (List ℕ)) (known known' : Known) (numbers numbers' : Numbers) (entry : Entry) (told : Happening) (all before : List Happening) (rest : List Entry) →
+one-more : (accepts : List Bool) (line : List ℕ) (left left' : List (List ℕ)) (known known' : Known) (holds holds' : List Happening → Type 0) (entry : Entry) (told : Happening) (all before : List Happening) (rest : List Entry) →
     left ≡ line ∷ left' → ((e : Entry) → FitsEntry e → entry_text e ≡ line → entry ≡ e) → known' ≡ with_entry accepts entry known → told ≡ happening accepts entry known →
-    ((h : List Happening) → IsNumbersOf chunks h numbers → IsNumbersOf chunks (h ++ told ∷ []) numbers') →
-    left ≡ map entry_text rest → AllByRecursion FitsEntry rest → IsNumbersOf chunks before numbers → before ++ happenings_from accepts known rest ≡ all →
-    (rest' : List Entry) × (told' : List Happening) × (left' ≡ map entry_text rest') × AllByRecursion FitsEntry rest' × IsNumbersOf chunks told' numbers' × (told' ++ happenings_from accepts known' rest' ≡ all)
-one-more accepts chunks line left left' known known' numbers numbers' entry told all before [] goes back known-is told-is add lines fits counted tells =
+    ((h : List Happening) → holds h → holds' (h ++ told ∷ [])) →
+    left ≡ map entry_text rest → AllByRecursion FitsEntry rest → holds before → before ++ happenings_from accepts known rest ≡ all →
+    (rest' : List Entry) × (told' : List Happening) × (left' ≡ map entry_text rest') × AllByRecursion FitsEntry rest' × holds' told' × (told' ++ happenings_from accepts known' rest' ≡ all)
+one-more accepts line left left' known known' holds holds' entry told all before [] goes back known-is told-is add lines fits counted tells =
     absurd (let clash : line ∷ left' ≡ [] = sym goes ∙ lines in cc)
-one-more accepts chunks line left left' known known' numbers numbers' entry told all before (x ∷ rest) goes back known-is told-is add lines fits counted tells =
+one-more accepts line left left' known known' holds holds' entry told all before (x ∷ rest) goes back known-is told-is add lines fits counted tells =
     let both : line ∷ left' ≡ entry_text x ∷ map entry_text rest = sym goes ∙ lines in
     let first : line ≡ entry_text x = cc in
     let others : left' ≡ map entry_text rest = cc in
@@ -51,24 +49,24 @@ one-more accepts chunks line left left' known known' numbers numbers' entry told
       append_assoc before (told ∷ []) (happenings_from accepts known' rest) ∙ (ap (λ l. before ++ l) step ∙ tells),
     )
 
-pub reading-goes-on : (accepts : List Bool) (chunks : ℕ) (log line : List ℕ) (left left' : List (List ℕ)) (known known' : Known) (numbers numbers' : Numbers) (entry : Entry) (told : Happening) →
-    IsReading accepts chunks log left known numbers → left ≡ line ∷ left' → ((e : Entry) → FitsEntry e → entry_text e ≡ line → entry ≡ e) →
+pub reading-goes-on : (accepts : List Bool) (log line : List ℕ) (left left' : List (List ℕ)) (known known' : Known) (holds holds' : List Happening → Type 0) (entry : Entry) (told : Happening) →
+    IsReading accepts log left known holds → left ≡ line ∷ left' → ((e : Entry) → FitsEntry e → entry_text e ≡ line → entry ≡ e) →
     known' ≡ with_entry accepts entry known → told ≡ happening accepts entry known →
-    ((h : List Happening) → IsNumbersOf chunks h numbers → IsNumbersOf chunks (h ++ told ∷ []) numbers') →
-    IsReading accepts chunks log left' known' numbers'
-reading-goes-on accepts chunks log line left left' known known' numbers numbers' entry told h goes back known-is told-is add = λ entries fits is.
+    ((h : List Happening) → holds h → holds' (h ++ told ∷ [])) →
+    IsReading accepts log left' known' holds'
+reading-goes-on accepts log line left left' known known' holds holds' entry told h goes back known-is told-is add = λ entries fits is.
     let now = h entries fits is in
-    one-more accepts chunks line left left' known known' numbers numbers' entry told (happenings accepts entries) now.1 now.0 goes back known-is told-is add now.2 now.3 now.4 now.5
+    one-more accepts line left left' known known' holds holds' entry told (happenings accepts entries) now.1 now.0 goes back known-is told-is add now.2 now.3 now.4 now.5
 
-none-left : (accepts : List Bool) (chunks : ℕ) (known : Known) (numbers : Numbers) (all told : List Happening) (rest : List Entry) →
-    [] ≡ map entry_text rest → IsNumbersOf chunks told numbers → told ++ happenings_from accepts known rest ≡ all → IsNumbersOf chunks all numbers
-none-left accepts chunks known numbers all told [] none counted tells = subst (λ h. IsNumbersOf chunks h numbers) (sym (append-nil told) ∙ tells) counted
-none-left accepts chunks known numbers all told (x ∷ rest) none counted tells = absurd (cc)
+none-left : (accepts : List Bool) (known : Known) (holds : List Happening → Type 0) (all told : List Happening) (rest : List Entry) →
+    [] ≡ map entry_text rest → holds told → told ++ happenings_from accepts known rest ≡ all → holds all
+none-left accepts known holds all told [] none counted tells = subst holds (sym (append-nil told) ∙ tells) counted
+none-left accepts known holds all told (x ∷ rest) none counted tells = absurd (cc)
 
-pub reading-is : (accepts : List Bool) (chunks : ℕ) (log : List ℕ) (left : List (List ℕ)) (known : Known) (numbers : Numbers) → IsReading accepts chunks log left known numbers → left ≡ [] →
-    (entries : List Entry) → AllByRecursion FitsEntry entries → log ≡ log_text entries → IsNumbersOf chunks (happenings accepts entries) numbers
-reading-is accepts chunks log left known numbers h over entries fits is =
-    let now = h entries fits is in none-left accepts chunks known numbers (happenings accepts entries) now.1 now.0 (sym over ∙ now.2) now.4 now.5
+pub reading-is : (accepts : List Bool) (log : List ℕ) (left : List (List ℕ)) (known : Known) (holds : List Happening → Type 0) → IsReading accepts log left known holds → left ≡ [] →
+    (entries : List Entry) → AllByRecursion FitsEntry entries → log ≡ log_text entries → holds (happenings accepts entries)
+reading-is accepts log left known holds h over entries fits is =
+    let now = h entries fits is in none-left accepts known holds (happenings accepts entries) now.1 now.0 (sym over ∙ now.2) now.4 now.5
 
 no-line : (line : List ℕ) (left left' : List (List ℕ)) (rest : List Entry) → left ≡ line ∷ left' → (IsLogLine line → ⊥) → left ≡ map entry_text rest → AllByRecursion FitsEntry rest → ⊥
 no-line line left left' [] goes none lines fits = let clash : line ∷ left' ≡ [] = sym goes ∙ lines in cc
@@ -78,7 +76,7 @@ no-line line left left' (x ∷ rest) goes none lines fits =
     none (x, fits.0, sym first)
 
 -- a line that is no entry's stands in no log of entries
-pub reading-refuses : (accepts : List Bool) (chunks : ℕ) (log line : List ℕ) (left left' : List (List ℕ)) (known : Known) (numbers : Numbers) → IsReading accepts chunks log left known numbers → left ≡ line ∷ left' → (IsLogLine line → ⊥) →
+pub reading-refuses : (accepts : List Bool) (log line : List ℕ) (left left' : List (List ℕ)) (known : Known) (holds : List Happening → Type 0) → IsReading accepts log left known holds → left ≡ line ∷ left' → (IsLogLine line → ⊥) →
     (entries : List Entry) → AllByRecursion FitsEntry entries → log ≡ log_text entries → ⊥
-reading-refuses accepts chunks log line left left' known numbers h goes none entries fits is =
+reading-refuses accepts log line left left' known holds h goes none entries fits is =
     let now = h entries fits is in no-line line left left' now.0 goes none now.2 now.3

@@ -1,3 +1,5 @@
+pub mod AnsweredBy
+pub mod Answering
 pub mod Answers
 pub mod Followed
 pub mod FollowedRuns
@@ -5,6 +7,7 @@ pub mod Happenings
 pub mod Known
 pub mod Longest
 pub mod Numbers
+pub mod Outputs
 pub mod PairedRuns
 pub mod Pairs
 pub mod Parts

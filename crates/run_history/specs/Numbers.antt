@@ -1,12 +1,15 @@
 -- The numbers of what a log tells.
-use Rattle.std.specs.Prelude.{◌≡◌, ℕ, ◌+◌, ◌-◌, Bool, true, false, List, [], ◌∷◌, ◌++◌, Option, Some, None, count_by, max}
+use Rattle.std.specs.Prelude.{◌≡◌, ℕ, ◌+◌, ◌-◌, Bool, true, false, List, [], ◌∷◌, ◌++◌, Option, Some, None, count_by, map, max}
 use Rattle.run_history.specs.declared.happenings.Wait.{Wait}
 use Rattle.run_history.specs.declared.happenings.Happening.{Happening}
 use Rattle.run_history.specs.declared.happenings.Happening.TheVariants.{Came, Lost, Waited}
+use Rattle.run_history.specs.declared.answering.Answering.{Answering}
+use Rattle.run_history.specs.AnsweredBy.{answers_by}
 use Rattle.run_history.specs.Happenings.{requests_dropped, arrivals_from, answered_at, most_held}
 use Rattle.run_history.specs.declared.numbers.Numbers.{Numbers}
 use Rattle.run_history.specs.declared.numbers.WaitLength.{WaitLength}
 use Rattle.run_history.specs.Answers.{answers_from, answers_at}
+use Rattle.tick_lists.specs.Ticks.{ticks_in}
 
 -- an event of the trace came or was dropped
 abbrev pub is_event : Happening → Bool
@@ -25,28 +28,37 @@ takes [] = []
 takes (Waited wait ∷ told) = take_of wait wait.request ++ takes told
 takes (_ ∷ told) = takes told
 
+-- the threads that took requests, and when
+abbrev pub takers : List Happening → List ℕ
+takers told = map (λ (wait : Wait). wait.thread) (takes told)
+
+abbrev pub taken : List Happening → List ℕ
+taken told = map (λ (wait : Wait). wait.until) (takes told)
+
 -- how long all waits were, with their sites, their threads and their ends
 abbrev pub wait_lengths : List Happening → List WaitLength
 wait_lengths [] = []
 wait_lengths (Waited wait ∷ told) = record { site = wait.site; thread = wait.thread; ticks = wait.until - wait.since; until = wait.until } ∷ wait_lengths told
 wait_lengths (_ ∷ told) = wait_lengths told
 
--- these are the numbers of what a log tells of a run with so many chunks
-pub record IsNumbersOf (chunks : ℕ) (told : List Happening) (n : Numbers) : Type 0 where
+-- these are the numbers of what a log tells of a run with so many chunks, where these outputs are the answers
+pub record IsNumbersOf (answering : Answering) (chunks : ℕ) (told : List Happening) (n : Numbers) : Type 0 where
   pub events : n.events ≡ count_by is_event told
-  pub arrivals : n.arrivals.items ≡ arrivals_from 0 told
+  pub arrivals : ticks_in n.arrivals ≡ arrivals_from 0 told
   pub dropped : n.dropped ≡ requests_dropped told
-  pub takes : n.takes.items ≡ takes told
-  pub answers : (request : ℕ) → answers_at n.answers.items request ≡ answers_from None (answered_at request told)
+  pub takers : n.takers.items ≡ takers told
+  pub taken : ticks_in n.taken ≡ taken told
+  pub answers : (request : ℕ) → answers_at n.answers.items request ≡ answers_by answering told request
   pub waits : n.waits.items ≡ wait_lengths told
   pub held : n.most_held ≡ most_held chunks told
 
 -- the numbers with what one entry more tells
 pub record IsOneMore (chunks : ℕ) (told : Happening) (old new : Numbers) : Type 0 where
   pub events : new.events ≡ old.events + count_by is_event (told ∷ [])
-  pub arrivals : new.arrivals.items ≡ old.arrivals.items ++ arrivals_from old.events (told ∷ [])
+  pub arrivals : ticks_in new.arrivals ≡ ticks_in old.arrivals ++ arrivals_from old.events (told ∷ [])
   pub dropped : new.dropped ≡ old.dropped + requests_dropped (told ∷ [])
-  pub takes : new.takes.items ≡ old.takes.items ++ takes (told ∷ [])
+  pub takers : new.takers.items ≡ old.takers.items ++ takers (told ∷ [])
+  pub taken : ticks_in new.taken ≡ ticks_in old.taken ++ taken (told ∷ [])
   pub answers : (request : ℕ) → answers_at new.answers.items request ≡ answers_from (answers_at old.answers.items request) (answered_at request (told ∷ []))
   pub waits : new.waits.items ≡ old.waits.items ++ wait_lengths (told ∷ [])
   pub held : new.most_held ≡ max old.most_held (most_held chunks (told ∷ []))
@@ -54,8 +66,18 @@ pub record IsOneMore (chunks : ℕ) (told : Happening) (old new : Numbers) : Typ
 -- all but the answers is as it was
 pub record KeepsOthers (old new : Numbers) : Type 0 where
   pub events : new.events ≡ old.events
-  pub arrivals : new.arrivals.items ≡ old.arrivals.items
+  pub arrivals : ticks_in new.arrivals ≡ ticks_in old.arrivals
   pub dropped : new.dropped ≡ old.dropped
-  pub takes : new.takes.items ≡ old.takes.items
+  pub takers : new.takers.items ≡ old.takers.items
+  pub taken : ticks_in new.taken ≡ ticks_in old.taken
+  pub waits : new.waits.items ≡ old.waits.items
+  pub held : new.most_held ≡ old.most_held
+
+-- all but who took requests, and when, is as it was
+pub record KeepsAllButTakes (old new : Numbers) : Type 0 where
+  pub events : new.events ≡ old.events
+  pub arrivals : ticks_in new.arrivals ≡ ticks_in old.arrivals
+  pub dropped : new.dropped ≡ old.dropped
+  pub answers : new.answers ≡ old.answers
   pub waits : new.waits.items ≡ old.waits.items
   pub held : new.most_held ≡ old.most_held

@@ -1,18 +1,16 @@
 -- How requests are queued, from their arrival to the `accept` that takes them.
 use Rattle.std.specs.Prelude.{ℕ, List, Option, Some, None, slice_get}
-use Rattle.run_history.specs.declared.happenings.Wait.{Wait}
 use Rattle.run_history.specs.declared.queues.Queued.{Queued}
 
--- from the time of its arrival, where it has one, to the end of the wait that took it, where one did
-abbrev pub queued_by : Option ℕ → Option Wait → Option Queued
-queued_by None take = None
-queued_by (Some time) None = None
-queued_by (Some time) (Some take) = Some (record { arrived = time; taken = take.until; thread = take.thread })
+-- from the time of its arrival, where it has one, to the clock at which a thread took it, where one did
+abbrev pub queued_by : Option ℕ → Option ℕ → Option ℕ → Option Queued
+queued_by (Some time) (Some thread) (Some clock) = Some (record { arrived = time; taken = clock; thread = thread })
+queued_by _ _ _ = None
 
-abbrev pub queued_from : List ℕ → Option ℕ → Option Wait → Option Queued
-queued_from times None take = None
-queued_from times (Some line) take = queued_by (slice_get times line) take
+abbrev pub queued_from : List ℕ → Option ℕ → Option ℕ → Option ℕ → Option Queued
+queued_from times None thread clock = None
+queued_from times (Some line) thread clock = queued_by (slice_get times line) thread clock
 
--- the request of a number, by the times of the trace's events, the places in the trace of the requests that came, and the waits that took them
-abbrev pub queued_in : List ℕ → List ℕ → List Wait → ℕ → Option Queued
-queued_in times arrivals takes request = queued_from times (slice_get arrivals request) (slice_get takes request)
+-- the request of a number, by the times of the trace's events, the places in the trace of the requests that came, and who took them when
+abbrev pub queued_in : List ℕ → List ℕ → List ℕ → List ℕ → ℕ → Option Queued
+queued_in times arrivals takers taken request = queued_from times (slice_get arrivals request) (slice_get takers request) (slice_get taken request)

@@ -23,11 +23,13 @@
 // `at_start` and `with_happening` (specs/Spells.antt), whose gate and pressure are those of `resource_monitor`.
 #![tactic(auto)]
 
+mod answering;
 mod answers;
 mod choices;
 mod followed;
 mod happenings;
 mod history;
+mod laws;
 mod longest;
 mod numbers;
 mod pairs;
@@ -39,10 +41,12 @@ mod takes;
 mod threads;
 mod unasked;
 
+pub use answering::Answering;
 pub use answers::Answers;
 pub use followed::{Followed, Spawned};
 pub use happenings::{Happening, Segment, Wait};
 pub use history::{History, HistoryError};
+pub use laws::{outputs_answer_in_order, outputs_answer_in_turn};
 pub use longest::longest_at;
 pub use numbers::{Numbers, WaitLength};
 pub use pairs::{Pairing, Pairs};

@@ -6,6 +6,7 @@ use crate::happenings::{Happening, Segment, Wait};
 use crate::history::HistoryError;
 use schedule_log::Item;
 use std::alloc::{AllocError, Global};
+use tick_lists::TickList;
 
 /// How long a wait at a site was.
 #[derive(Clone, Copy)]
@@ -26,11 +27,12 @@ pub struct Numbers {
     pub events: u64,
     /// The places in the trace, from 0, of the requests that came, in order. The request of number i in the order of takes is
     /// the one at place i here: requests are taken the oldest first.
-    pub arrivals: Vec<u64>,
+    pub arrivals: TickList,
     /// How many requests were dropped.
     pub dropped: u64,
-    /// The waits that took a request, in order.
-    pub takes: Vec<Wait>,
+    /// The threads that took requests, and the clocks at which they did, in order.
+    pub takers: Vec<u32>,
+    pub taken: TickList,
     /// When requests were answered: at the place of a request's number, where it was. Behind the last that was answered there are no
     /// places.
     pub answers: Vec<Option<Answers>>,
@@ -42,21 +44,24 @@ pub struct Numbers {
 
 impl Numbers {
     ghost use Rattle.std.specs.Prelude.{◌≡◌, ℕ, ◌++◌, ◌∷◌, [], List, OnOk};
+    ghost use Rattle.run_history.specs.declared.answering.Answering.TheVariants.{ByThread};
     ghost use Rattle.run_history.specs.declared.happenings.Happening.{Happening};
     ghost use Rattle.run_history.specs.declared.happenings.Happening.TheVariants.{Came, Lost, Waited, Ran};
     ghost use Rattle.run_history.specs.Happenings.{clocks_in};
     ghost use Rattle.run_history.specs.Answers.{answers_from, answers_at};
-    ghost use Rattle.run_history.specs.Numbers.{IsNumbersOf, IsOneMore, KeepsOthers};
+    ghost use Rattle.run_history.specs.Numbers.{IsNumbersOf, IsOneMore, KeepsAllButTakes, KeepsOthers};
+    ghost use Rattle.tick_lists.specs.Ticks.{ticks_in};
 
     /// The numbers before the first entry. It takes no memory.
     pub fn new(alloc: Global) -> Numbers
-        ensures { (chunks : ℕ) → IsNumbersOf chunks [] result }
+        ensures { (chunks : ℕ) → IsNumbersOf ByThread chunks [] result }
     {
         Numbers {
             events: 0,
-            arrivals: Vec::new(alloc),
+            arrivals: TickList::new(alloc),
             dropped: 0,
-            takes: Vec::new(alloc),
+            takers: Vec::new(alloc),
+            taken: TickList::new(alloc),
             answers: Vec::new(alloc),
             waits: Vec::new(alloc),
             most_held: 0,
@@ -134,10 +139,22 @@ impl Numbers {
         };
         match wait.request {
             None => Ok(()),
-            Some(_) => match self.takes.push(wait) {
-                Ok(()) => Ok(()),
-                Err(_) => Err(HistoryError::Memory),
-            },
+            Some(_) => self.take(wait),
+        }
+    }
+
+    /// A wait that took a request is over.
+    fn take(&mut self, wait: Wait) -> Result<(), HistoryError>
+        ensures takers { OnOk result (self.new.takers.items ≡ self.old.takers.items ++ wait.thread ∷ []) }
+        ensures taken { OnOk result (ticks_in self.new.taken ≡ ticks_in self.old.taken ++ wait.until ∷ []) }
+        ensures others { OnOk result (KeepsAllButTakes self.old self.new) }
+    {
+        let Ok(()) = self.takers.push(wait.thread) else {
+            return Err(HistoryError::Memory);
+        };
+        match self.taken.push(wait.until) {
+            Ok(()) => Ok(()),
+            Err(_) => Err(HistoryError::Memory),
         }
     }
 

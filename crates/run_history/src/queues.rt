@@ -1,7 +1,7 @@
 ghost use Rattle.std.specs.Prelude.{◌≡◌};
 ghost use Rattle.run_history.specs.Queues.{queued_by, queued_in};
+ghost use Rattle.tick_lists.specs.Ticks.{ticks_in};
 
-use crate::happenings::Wait;
 use crate::numbers::Numbers;
 
 /// How a request was queued before it was taken.
@@ -17,29 +17,26 @@ pub struct Queued {
 
 /// How the request of that number was queued, where it was taken. `times` are the times of the trace's events, in order.
 pub fn queued_of(numbers: &Numbers, times: &[u64], request: usize) -> Option<Queued>
-    ensures { result ≡ queued_in times.now numbers.now.arrivals.items numbers.now.takes.items request }
+    ensures { result ≡ queued_in times.now (ticks_in numbers.now.arrivals) numbers.now.takers.items (ticks_in numbers.now.taken) request }
 {
-    let place = numbers.arrivals.as_slice().get(request).copied();
-    let take = numbers.takes.as_slice().get(request).copied();
-    match place {
+    let thread = numbers.takers.as_slice().get(request).copied();
+    let clock = numbers.taken.get(request);
+    match numbers.arrivals.get(request) {
         None => None,
-        Some(line) => queued_by(times.get(line as usize).copied(), take),
+        Some(line) => queued_by(times.get(line as usize).copied(), thread, clock),
     }
 }
 
-/// How a request was queued that arrived then, and that this wait took.
-fn queued_by(arrived: Option<u64>, take: Option<Wait>) -> Option<Queued>
-    ensures { result ≡ queued_by arrived take }
+/// How a request was queued that arrived then, and that this thread took at that clock.
+fn queued_by(arrived: Option<u64>, thread: Option<u32>, clock: Option<u64>) -> Option<Queued>
+    ensures { result ≡ queued_by arrived thread clock }
 {
-    match arrived {
-        None => None,
-        Some(time) => match take {
-            None => None,
-            Some(wait) => Some(Queued {
-                arrived: time,
-                taken: wait.until,
-                thread: wait.thread,
-            }),
-        },
+    match (arrived, thread, clock) {
+        (Some(arrived), Some(thread), Some(taken)) => Some(Queued {
+            arrived,
+            taken,
+            thread,
+        }),
+        _ => None,
     }
 }

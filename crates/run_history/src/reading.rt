@@ -1,13 +1,13 @@
 // The numbers of a whole log.
-ghost use Rattle.std.specs.Prelude.{◌≡◌, List, IfOk, OnOk, Err};
+ghost use Rattle.std.specs.Prelude.{◌≡◌, List, IfOk, Err};
 ghost use Rattle.std.specs.List.{AllByRecursion};
 ghost use Rattle.schedule_log.specs.EntryRanges.{FitsEntry};
 ghost use Rattle.schedule_log.specs.EntryText.{log_text};
 ghost use Rattle.schedule_log.specs.declared.entries.Entry.{Entry};
 ghost use Rattle.run_history.specs.Happenings.{happenings};
-ghost use Rattle.run_history.specs.Known.{with_entry, happening};
-ghost use Rattle.run_history.specs.Numbers.{IsNumbersOf, IsOneMore};
+ghost use Rattle.run_history.specs.Numbers.{IsNumbersOf};
 
+use crate::answering::{Answerer, Answering};
 use crate::happenings::Happening;
 use crate::history::{History, HistoryError};
 use crate::numbers::Numbers;
@@ -28,8 +28,9 @@ pub enum ReadError {
 
 /// What looks on while a log is read.
 pub trait Watch {
-    /// One entry more, and what it tells. A refusal ends the reading.
-    fn see(&mut self, entry: &Entry, told: Happening) -> Result<(), HistoryError>;
+    /// One entry more, and what it tells: once by itself, and once with the request that a segment's thread works for as the one that
+    /// it serves, where that is known. A refusal ends the reading.
+    fn see(&mut self, entry: &Entry, told: Happening, named: Happening) -> Result<(), HistoryError>;
 }
 
 /// What a log tells: its numbers, and what is known at its end.
@@ -39,53 +40,104 @@ pub struct Reading {
     pub history: History,
 }
 
-/// The numbers of the run that has this log, with so many chunks. At the number of each site stands in `accepts` whether its
-/// call is `accept`. It keeps no entry: the log is read once, line by line, and `watch` sees each entry.
+/// What is read off a log so far.
+#[derive(Drop)]
+struct Course<'a> {
+    history: History,
+    numbers: Numbers,
+    answerer: Answerer<'a>,
+}
+
+/// The numbers of the run that has this log, with so many chunks, where these outputs are the answers. At the number of each site
+/// stands in `accepts` whether its call is `accept`. It keeps no entry: the log is read once, line by line, and `watch` sees each entry.
 pub fn numbers_of<W: Watch>(
     alloc: Global,
     log: &[u8],
     accepts: &[bool],
     chunks: u32,
+    answering: Answering,
     watch: &mut W,
 ) -> Result<Reading, ReadError>
-    ensures numbers { (entries : List Entry) → AllByRecursion FitsEntry entries → log.now ≡ log_text entries → IfOk result (λ reading. IsNumbersOf chunks (happenings accepts.now entries) reading.numbers) }
+    ensures numbers { (entries : List Entry) → AllByRecursion FitsEntry entries → log.now ≡ log_text entries → IfOk result (λ reading. IsNumbersOf answering.entry chunks (happenings accepts.now entries) reading.numbers) }
     ensures line { result ≡ Err ReadError.Line → (entries : List Entry) → AllByRecursion FitsEntry entries → log.now ≡ log_text entries → ⊥ }
 {
-    let mut history = History::new(alloc);
-    let mut numbers = Numbers::new(alloc);
+    let history = History::new(alloc);
+    let numbers = Numbers::new(alloc);
+    let answerer = Answerer::new(alloc, answering);
+    let mut course = Course {
+        history,
+        numbers,
+        answerer,
+    };
     for line in Lines::new(log) {
         match read_entry(line) {
             Ok(entry) => {
-                take_entry(&mut history, &mut numbers, &entry, accepts, chunks, watch)?;
+                course.take(&entry, accepts, chunks, watch)?;
             }
             Err(LogError::Line) => return Err(ReadError::Line),
         }
     }
+    let Course {
+        history,
+        mut numbers,
+        mut answerer,
+    } = course;
+    answerer.hand_over(alloc, &mut numbers);
+    drop(answerer);
     Ok(Reading { numbers, history })
 }
 
-/// One entry more.
-fn take_entry<W: Watch>(
-    history: &mut History,
-    numbers: &mut Numbers,
-    entry: &Entry,
-    accepts: &[bool],
-    chunks: u32,
-    watch: &mut W,
-) -> Result<(), ReadError>
-    ensures known { OnOk result (history.new ≡ with_entry accepts.now entry.now history.old) }
-    ensures more { OnOk result (IsOneMore chunks (happening accepts.now entry.now history.old) numbers.old numbers.new) }
-    ensures line { result ≡ Err ReadError.Line → ⊥ }
-{
-    match history.tell(entry, accepts) {
-        Ok(told) => match numbers.add(told, chunks) {
-            Ok(()) => match watch.see(entry, told) {
-                Ok(()) => Ok(()),
+impl<'a> Course<'a> {
+    ghost use Rattle.std.specs.Prelude.{◌≡◌, List, [], ◌∷◌, ◌++◌, OnOk, Err};
+    ghost use Rattle.run_history.specs.declared.answering.Answering.{Answering};
+    ghost use Rattle.run_history.specs.declared.happenings.Happening.{Happening};
+    ghost use Rattle.run_history.specs.Answering.{Keeps};
+    ghost use Rattle.run_history.specs.Known.{with_entry, happening};
+    ghost use Rattle.run_history.specs.Numbers.{IsOneMore};
+
+    /// One entry more.
+    fn take<W: Watch>(
+        &mut self,
+        entry: &Entry,
+        accepts: &[bool],
+        chunks: u32,
+        watch: &mut W,
+    ) -> Result<(), ReadError>
+        ensures known { OnOk result (self.new.history ≡ with_entry accepts.now entry.now self.old.history) }
+        ensures more { OnOk result (IsOneMore chunks (happening accepts.now entry.now self.old.history) self.old.numbers self.new.numbers) }
+        ensures kept { (answering : Answering) → (before : List Happening) → Keeps answering before self.old.answerer → OnOk result (Keeps answering (before ++ happening accepts.now entry.now self.old.history ∷ []) self.new.answerer) }
+        ensures line { result ≡ Err ReadError.Line → ⊥ }
+    {
+        match self.history.tell(entry, accepts) {
+            Ok(told) => self.take_told(entry, told, chunks, watch),
+            Err(error) => Err(of_history(error)),
+        }
+    }
+
+    /// What that entry tells.
+    fn take_told<W: Watch>(
+        &mut self,
+        entry: &Entry,
+        told: Happening,
+        chunks: u32,
+        watch: &mut W,
+    ) -> Result<(), ReadError>
+        ensures known { self.new.history ≡ self.old.history }
+        ensures more { OnOk result (IsOneMore chunks told self.old.numbers self.new.numbers) }
+        ensures kept { (answering : Answering) → (before : List Happening) → Keeps answering before self.old.answerer → OnOk result (Keeps answering (before ++ told ∷ []) self.new.answerer) }
+        ensures line { result ≡ Err ReadError.Line → ⊥ }
+    {
+        let named = self.answerer.named(told);
+        match self.numbers.add(told, chunks) {
+            Ok(()) => match self.answerer.add(told) {
+                Ok(()) => match watch.see(entry, told, named) {
+                    Ok(()) => Ok(()),
+                    Err(error) => Err(of_history(error)),
+                },
                 Err(error) => Err(of_history(error)),
             },
             Err(error) => Err(of_history(error)),
-        },
-        Err(error) => Err(of_history(error)),
+        }
     }
 }
 

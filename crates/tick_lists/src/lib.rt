@@ -1,0 +1,10 @@
+// Lists of clocks and of lengths of time, in few bytes.
+//
+// In: numbers of 64 bits, one after another. Out: the same by their places (`TickList`). Each takes 4 bytes up to the first that is
+// 2^32 or more, and 8 bytes from there on: the clocks of most runs stay below 2^32. What a list holds is said by `ticks_in`
+// (specs/Ticks.antt). `run_history` keeps the numbers of a run in such lists.
+#![tactic(auto)]
+
+mod ticks;
+
+pub use ticks::TickList;

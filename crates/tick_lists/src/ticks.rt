@@ -1,0 +1,97 @@
+ghost use Rattle.std.specs.Prelude.{◌≡◌, ◌++◌, OnOk};
+
+use std::alloc::{AllocError, Global};
+
+/// A list of numbers, each in 4 bytes up to the first that is 2^32 or more, and in 8 bytes from there on.
+#[derive(Drop)]
+pub struct TickList {
+    alloc: Global,
+    pub small: Vec<u32>,
+    pub large: Vec<u64>,
+}
+
+impl TickList {
+    ghost use Rattle.std.specs.Prelude.{◌≡◌, ◌<◌, ◌++◌, ◌∷◌, [], OnOk, length, set, slice_get};
+    ghost use Rattle.tick_lists.specs.Ticks.{ticks_in};
+
+    /// An empty list. It takes no memory.
+    pub fn new(alloc: Global) -> TickList
+        ensures { ticks_in result ≡ [] }
+    {
+        TickList {
+            alloc,
+            small: Vec::new(alloc),
+            large: Vec::new(alloc),
+        }
+    }
+
+    /// Appends a number. After a refusal nothing is said.
+    pub fn push(&mut self, ticks: u64) -> Result<(), AllocError>
+        ensures { OnOk result (ticks_in self.new ≡ ticks_in self.old ++ ticks ∷ []) }
+    {
+        if self.large.is_empty() && ticks <= u64::from(u32::MAX) {
+            self.small.push(ticks as u32)?;
+        } else {
+            self.large.push(ticks)?;
+        }
+        Ok(())
+    }
+
+    /// How many numbers there are.
+    pub fn len(&self) -> usize
+        ensures { result ≡ length (ticks_in self.now) }
+    {
+        self.small.len() + self.large.len()
+    }
+
+    /// The number at a place, from 0.
+    pub fn get(&self, place: usize) -> Option<u64>
+        ensures { result ≡ slice_get (ticks_in self.now) place }
+    {
+        let count = self.small.len();
+        if place < count {
+            return Some(u64::from(self.small[place]));
+        }
+        self.large.as_slice().get(place - count).copied()
+    }
+
+    /// Puts another number at a place. After a refusal nothing is said.
+    pub fn set(&mut self, place: usize, ticks: u64) -> Result<(), AllocError>
+        requires { place < length (ticks_in self.old) }
+        ensures { OnOk result (ticks_in self.new ≡ set (ticks_in self.old) place ticks) }
+    {
+        let count = self.small.len();
+        if place >= count {
+            self.large[place - count] = ticks;
+        } else if ticks <= u64::from(u32::MAX) {
+            self.small[place] = ticks as u32;
+        } else {
+            self.widen()?;
+            self.large[place] = ticks;
+        }
+        Ok(())
+    }
+
+    /// Keeps all numbers in 8 bytes. After a refusal nothing is said.
+    fn widen(&mut self) -> Result<(), AllocError>
+        ensures small { OnOk result (self.new.small.items ≡ []) }
+        ensures large { OnOk result (self.new.large.items ≡ ticks_in self.old) }
+    {
+        let mut wide = Vec::new(self.alloc);
+        add_all(&mut wide, self.small.as_slice())?;
+        wide.extend_from_slice(self.large.as_slice())?;
+        self.small.clear();
+        self.large = wide;
+        Ok(())
+    }
+}
+
+/// Appends all of these numbers.
+fn add_all(wide: &mut Vec<u64>, small: &[u32]) -> Result<(), AllocError>
+    ensures { OnOk result (wide.new.items ≡ wide.old.items ++ small.now) }
+{
+    for ticks in small {
+        wide.push(u64::from(*ticks))?;
+    }
+    Ok(())
+}
