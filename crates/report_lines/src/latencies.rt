@@ -87,10 +87,10 @@ fn add_latencies(
 fn latency_of(scope: Scope, request: usize, to_last: bool) -> Option<Latency> {
     let arrived = scope.arrived(request)?;
     match (
-        scope.numbers.answers.as_slice().get(request),
+        scope.numbers.answers.get(request),
         scope.numbers.takers.as_slice().get(request),
     ) {
-        (Some(Some(given)), Some(thread)) => {
+        (Some(given), Some(thread)) => {
             let answered = if to_last { given.last } else { given.first };
             Some(Latency {
                 request,

@@ -30,9 +30,9 @@ impl Asked {
         Asked {
             request,
             is_slowest: false,
-            until: match numbers.answers.as_slice().get(request as usize) {
-                Some(Some(given)) => Some(given.last),
-                _ => None,
+            until: match numbers.answers.get(request as usize) {
+                Some(given) => Some(given.last),
+                None => None,
             },
         }
     }

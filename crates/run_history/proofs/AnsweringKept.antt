@@ -14,19 +14,19 @@ use Rattle.run_history.specs.Answers.{answers_at}
 use Rattle.run_history.specs.Numbers.{IsNumbersOf, KeepsOthers}
 
 abbrev pub ShowAnswers : Answering → List Happening → Numbers → Type 0
-ShowAnswers answering told numbers = (request : ℕ) → answers_at numbers.answers.items request ≡ answers_by answering told request
+ShowAnswers answering told numbers = (request : ℕ) → answers_at numbers.answers request ≡ answers_by answering told request
 
 pub of-pairs : (answering : Answering) (told : List Happening) (pairs : Pairs) (numbers : Numbers) → numbers.answers ≡ pairs.answers → Keeps answering told (OfPairs pairs) → ShowAnswers answering told numbers
 of-pairs ByThread told pairs numbers same kept = absurd kept
-of-pairs (ByPairing First) told pairs numbers same kept = λ request. ap (λ v. answers_at v.items request) same ∙ kept.1.answers request
-of-pairs (ByPairing Value) told pairs numbers same kept = λ request. ap (λ v. answers_at v.items request) same ∙ kept.1.answers request
+of-pairs (ByPairing First) told pairs numbers same kept = λ request. ap (λ v. answers_at v request) same ∙ kept.1.answers request
+of-pairs (ByPairing Value) told pairs numbers same kept = λ request. ap (λ v. answers_at v request) same ∙ kept.1.answers request
 of-pairs (BySpawn spawned) told pairs numbers same kept = absurd kept
 
 pub of-spawned : (answering : Answering) (told : List Happening) (followed : Followed) (numbers : Numbers) → numbers.answers ≡ followed.answers → Keeps answering told (OfSpawned followed) → ShowAnswers answering told numbers
 of-spawned ByThread told followed numbers same kept = absurd kept
 of-spawned (ByPairing First) told followed numbers same kept = absurd kept
 of-spawned (ByPairing Value) told followed numbers same kept = absurd kept
-of-spawned (BySpawn spawned) told followed numbers same kept = λ request. ap (λ v. answers_at v.items request) same ∙ kept.answers request
+of-spawned (BySpawn spawned) told followed numbers same kept = λ request. ap (λ v. answers_at v request) same ∙ kept.answers request
 
 -- the numbers of what was told, with these answers
 pub with-answers : (answering : Answering) (chunks : ℕ) (told : List Happening) (old new : Numbers) → IsNumbersOf ByThread chunks told old → KeepsOthers old new → ShowAnswers answering told new → IsNumbersOf answering chunks told new

@@ -54,7 +54,7 @@ followed_with-same request Nothing started other before same = refl
 pub followed_more : (spawned : List Spawned) (before : List Happening) (one : Happening) (old new : Followed) → IsFollowed spawned before old →
     new.segments ≡ segments_with one old.segments → new.left.now ≡ left_with one old.segments old.left.now →
     ((thread : ℕ) → get nat_cmp new.started thread ≡ started_with one old.segments old.left.now (λ t. get nat_cmp old.started t) thread) →
-    ((request : ℕ) → answers_at new.answers.items request ≡ followed_with request one (λ t. get nat_cmp old.started t) (answers_at old.answers.items request)) → IsFollowed spawned (before ++ one ∷ []) new
+    ((request : ℕ) → answers_at new.answers request ≡ followed_with request one (λ t. get nat_cmp old.started t) (answers_at old.answers request)) → IsFollowed spawned (before ++ one ∷ []) new
 followed_more spawned before one old new was segments left started answers = record {
   segments = segments ∙ (ap (segments_with one) was.segments ∙ sym (segments-one 0 before one));
   left = left ∙ (ap (λ n. left_with one n old.left.now) was.segments ∙ (ap (left_with one (segments_after 0 before)) was.left ∙ sym (left-one 0 spawned before one)));
@@ -64,6 +64,6 @@ followed_more spawned before one old new was segments left started answers = rec
       ∙ (started_with-same one (segments_after 0 before) (left_after_all 0 spawned before) (λ t. get nat_cmp old.started t) (started_after 0 spawned none_started before) thread was.started
       ∙ sym (started-one 0 spawned none_started before one thread))));
   answers = λ request. answers request
-      ∙ (followed_with-same request one (λ t. get nat_cmp old.started t) (started_after 0 spawned none_started before) (answers_at old.answers.items request) was.started
+      ∙ (followed_with-same request one (λ t. get nat_cmp old.started t) (started_after 0 spawned none_started before) (answers_at old.answers request) was.started
       ∙ (ap (followed_with request one (started_after 0 spawned none_started before)) (was.answers request) ∙ sym (answers-one request 0 spawned none_started None before one)));
 }

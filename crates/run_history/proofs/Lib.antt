@@ -1,6 +1,6 @@
-mod EmptyPlaces
 pub mod Gathered
 pub mod Readings
+pub mod Kept
 pub mod Paired
 pub mod PairedOnce
 pub mod FollowedOnce

@@ -54,12 +54,12 @@ value_with-same Nothing waiting other under_way same = refl
 -- one entry more, by order
 pub by_order : (before : List Happening) (one : Happening) (old new : Pairs) → ArePairsByOrder before old →
     new.put ≡ puts_with one old.put → new.under_way.items ≡ first_with one old.put old.under_way.items →
-    ((request : ℕ) → answers_at new.answers.items request ≡ answers_with request one old.under_way.items (answers_at old.answers.items request)) → ArePairsByOrder (before ++ one ∷ []) new
+    ((request : ℕ) → answers_at new.answers request ≡ answers_with request one old.under_way.items (answers_at old.answers request)) → ArePairsByOrder (before ++ one ∷ []) new
 by_order before one old new was put under_way answers = record {
   put = put ∙ (ap (puts_with one) was.put ∙ sym (put-one 0 before one));
   under_way = under_way ∙ (ap (λ n. first_with one n old.under_way.items) was.put ∙ (ap (first_with one (put_after 0 before)) was.under_way ∙ sym (first-one 0 [] before one)));
   answers = λ request. answers request
-      ∙ (ap (λ l. answers_with request one l (answers_at old.answers.items request)) was.under_way
+      ∙ (ap (λ l. answers_with request one l (answers_at old.answers request)) was.under_way
       ∙ (ap (answers_with request one (first_after 0 [] before)) (was.answers request) ∙ sym (first_answers-one request 0 [] None before one)));
 }
 
@@ -67,7 +67,7 @@ by_order before one old new was put under_way answers = record {
 pub by_value : (before : List Happening) (one : Happening) (old new : Pairs) → ArePairsByValue before old →
     new.came ≡ came_with one old.came → ((value : ℤ) → waiting_in new.unanswered value ≡ waiting_with one old.came value (waiting_in old.unanswered value)) →
     new.under_way.items ≡ value_with one (λ value. waiting_in old.unanswered value) old.under_way.items →
-    ((request : ℕ) → answers_at new.answers.items request ≡ answers_with request one old.under_way.items (answers_at old.answers.items request)) → ArePairsByValue (before ++ one ∷ []) new
+    ((request : ℕ) → answers_at new.answers request ≡ answers_with request one old.under_way.items (answers_at old.answers request)) → ArePairsByValue (before ++ one ∷ []) new
 by_value before one old new was came waiting under_way answers = record {
   came = came ∙ (ap (came_with one) was.came ∙ sym (came-one 0 before one));
   waiting = λ value. waiting value
@@ -77,6 +77,6 @@ by_value before one old new was came waiting under_way answers = record {
       ∙ (value_with-same one (λ value. waiting_in old.unanswered value) (λ value. waiting_after 0 none_waits before value) old.under_way.items was.waiting
       ∙ (ap (value_with one (λ value. waiting_after 0 none_waits before value)) was.under_way ∙ sym (value-one 0 none_waits [] before one)));
   answers = λ request. answers request
-      ∙ (ap (λ l. answers_with request one l (answers_at old.answers.items request)) was.under_way
+      ∙ (ap (λ l. answers_with request one l (answers_at old.answers request)) was.under_way
       ∙ (ap (answers_with request one (value_after 0 none_waits [] before)) (was.answers request) ∙ sym (value_answers-one request 0 none_waits [] None before one)));
 }

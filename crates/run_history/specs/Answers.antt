@@ -1,6 +1,8 @@
 -- The answers to a request, in the order of their clocks.
-use Rattle.std.specs.Prelude.{ℕ, ◌+◌, List, [], ◌∷◌, Option, Some, None, slice_index_or}
+use Rattle.std.specs.Prelude.{ℕ, zero, suc, ◌+◌, List, [], ◌∷◌, Option, Some, None, get_or}
+use Rattle.run_history.specs.declared.answers.AnswerList.{AnswerList}
 use Rattle.run_history.specs.declared.answers.Answers.{Answers}
+use Rattle.tick_lists.specs.Ticks.{ticks_in}
 
 -- one answer more, at that clock
 abbrev pub with_answer : Option Answers → ℕ → Answers
@@ -12,6 +14,11 @@ abbrev pub answers_from : Option Answers → List ℕ → Option Answers
 answers_from before [] = before
 answers_from before (at ∷ clocks) = answers_from (Some (with_answer before at)) clocks
 
+-- so many answers from a first to a last one
+abbrev pub answers_of : ℕ → ℕ → ℕ → Option Answers
+answers_of first last zero = None
+answers_of first last (suc count) = Some (record { first = first; last = last; count = suc count })
+
 -- the answers to a request, of those that are kept at the places of the requests' numbers: none behind the last place
-abbrev pub answers_at : List (Option Answers) → ℕ → Option Answers
-answers_at kept request = slice_index_or kept request None
+abbrev pub answers_at : AnswerList → ℕ → Option Answers
+answers_at kept request = answers_of (get_or (ticks_in kept.firsts) request 0) (get_or (ticks_in kept.lasts) request 0) (get_or kept.counts.items request 0)

@@ -39,4 +39,4 @@ pub record IsFollowed (spawned : List Spawned) (told : List Happening) (followed
   pub segments : followed.segments ≡ segments_after 0 told
   pub left : followed.left.now ≡ left_after_all 0 spawned told
   pub started : (thread : ℕ) → get nat_cmp followed.started thread ≡ started_after 0 spawned none_started told thread
-  pub answers : (request : ℕ) → answers_at followed.answers.items request ≡ followed_answers request 0 spawned none_started None told
+  pub answers : (request : ℕ) → answers_at followed.answers request ≡ followed_answers request 0 spawned none_started None told

@@ -48,7 +48,7 @@ pub record IsNumbersOf (answering : Answering) (chunks : ℕ) (told : List Happe
   pub dropped : n.dropped ≡ requests_dropped told
   pub takers : n.takers.items ≡ takers told
   pub taken : ticks_in n.taken ≡ taken told
-  pub answers : (request : ℕ) → answers_at n.answers.items request ≡ answers_by answering told request
+  pub answers : (request : ℕ) → answers_at n.answers request ≡ answers_by answering told request
   pub waits : n.waits.items ≡ wait_lengths told
   pub held : n.most_held ≡ most_held chunks told
 
@@ -59,7 +59,7 @@ pub record IsOneMore (chunks : ℕ) (told : Happening) (old new : Numbers) : Typ
   pub dropped : new.dropped ≡ old.dropped + requests_dropped (told ∷ [])
   pub takers : new.takers.items ≡ old.takers.items ++ takers (told ∷ [])
   pub taken : ticks_in new.taken ≡ ticks_in old.taken ++ taken (told ∷ [])
-  pub answers : (request : ℕ) → answers_at new.answers.items request ≡ answers_from (answers_at old.answers.items request) (answered_at request (told ∷ []))
+  pub answers : (request : ℕ) → answers_at new.answers request ≡ answers_from (answers_at old.answers request) (answered_at request (told ∷ []))
   pub waits : new.waits.items ≡ old.waits.items ++ wait_lengths (told ∷ [])
   pub held : new.most_held ≡ max old.most_held (most_held chunks (told ∷ []))
 

@@ -31,7 +31,7 @@ first_answers request put under_way before (one ∷ told) = first_answers reques
 pub record ArePairsByOrder (told : List Happening) (pairs : Pairs) : Type 0 where
   pub put : pairs.put ≡ put_after 0 told
   pub under_way : pairs.under_way.items ≡ first_after 0 [] told
-  pub answers : (request : ℕ) → answers_at pairs.answers.items request ≡ first_answers request 0 [] None told
+  pub answers : (request : ℕ) → answers_at pairs.answers request ≡ first_answers request 0 [] None told
 
 -- ---- an output answers the oldest request of its value that has no answer
 
@@ -60,4 +60,4 @@ pub record ArePairsByValue (told : List Happening) (pairs : Pairs) : Type 0 wher
   pub came : pairs.came ≡ came_after 0 told
   pub waiting : (value : ℤ) → waiting_in pairs.unanswered value ≡ waiting_after 0 none_waits told value
   pub under_way : pairs.under_way.items ≡ value_after 0 none_waits [] told
-  pub answers : (request : ℕ) → answers_at pairs.answers.items request ≡ value_answers request 0 none_waits [] None told
+  pub answers : (request : ℕ) → answers_at pairs.answers request ≡ value_answers request 0 none_waits [] None told

@@ -2,6 +2,7 @@
 // work for it.
 ghost use Rattle.std.specs.Prelude.{◌≡◌};
 
+use crate::answers::AnswerList;
 use crate::followed::{Followed, Spawned};
 use crate::happenings::Happening;
 use crate::history::HistoryError;
@@ -77,10 +78,10 @@ impl<'a> Answerer<'a> {
         match self {
             Answerer::OfThreads => (),
             Answerer::OfPairs(pairs) => {
-                numbers.answers = mem::replace(&mut pairs.answers, Vec::new(alloc));
+                numbers.answers = mem::replace(&mut pairs.answers, AnswerList::new(alloc));
             }
             Answerer::OfSpawned(followed) => {
-                numbers.answers = mem::replace(&mut followed.answers, Vec::new(alloc));
+                numbers.answers = mem::replace(&mut followed.answers, AnswerList::new(alloc));
             }
         }
     }

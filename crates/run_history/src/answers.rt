@@ -1,5 +1,10 @@
-ghost use Rattle.std.specs.Prelude.{◌≡◌, ◌+◌, ◌^◌, ◌≤◌, IfSome, IfNone};
-ghost use Rattle.run_history.specs.Answers.{with_answer};
+ghost use Rattle.std.specs.Prelude.{◌≡◌, ℕ, ◌<◌, OnOk, get_or, length, nat_eq, set, if◌then◌else◌};
+ghost use Rattle.run_history.specs.Answers.{answers_of};
+ghost use Rattle.tick_lists.specs.Ticks.{ticks_in};
+
+use crate::history::HistoryError;
+use std::alloc::{AllocError, Global};
+use tick_lists::TickList;
 
 /// When the answers to a request were there. The log tells no clock of an `out`, so it is the end of the segment that put it.
 #[derive(Clone, Copy)]
@@ -12,23 +17,121 @@ pub struct Answers {
     pub count: u64,
 }
 
-/// The answers with one more, at that clock; none where they are 2^64.
-pub(crate) fn one_more(before: Option<Answers>, at: u64) -> Option<Answers>
-    ensures { IfSome result (λ answers. answers ≡ with_answer before at) }
-{
-    match before {
-        None => Some(Answers {
-            first: at,
-            last: at,
-            count: 1,
-        }),
-        Some(answers) => match answers.count.checked_add(1) {
-            Some(count) => Some(Answers {
-                first: answers.first,
-                last: at,
-                count,
-            }),
-            None => None,
-        },
+/// When requests were answered, at the places of their numbers from 0. Behind the last that was answered there are no places.
+#[derive(Drop)]
+pub struct AnswerList {
+    /// The clocks of the first answers and of the last.
+    pub firsts: TickList,
+    pub lasts: TickList,
+    /// How many segments put some: 0 if the request isn't answered.
+    pub counts: Vec<u32>,
+}
+
+impl AnswerList {
+    ghost use Rattle.std.specs.Prelude.{◌≡◌, ℕ, ◌<◌, None, OnOk, length};
+    ghost use Rattle.run_history.specs.Answers.{answers_at, answers_from};
+    ghost use Rattle.run_history.specs.Pairs.{clocks_for};
+    ghost use Rattle.tick_lists.specs.Ticks.{ticks_in};
+
+    /// No answers. It takes no memory.
+    pub fn new(alloc: Global) -> AnswerList
+        ensures { (request : ℕ) → answers_at result request ≡ None }
+    {
+        AnswerList {
+            firsts: TickList::new(alloc),
+            lasts: TickList::new(alloc),
+            counts: Vec::new(alloc),
+        }
     }
+
+    /// How many places there are.
+    pub fn len(&self) -> usize
+        ensures { result ≡ length self.now.counts.items }
+    {
+        self.counts.len()
+    }
+
+    /// The answers to the request of that number.
+    pub fn get(&self, request: usize) -> Option<Answers>
+        ensures { result ≡ answers_at self.now request }
+    {
+        answers_of(
+            self.firsts.at(request),
+            self.lasts.at(request),
+            u64::from(count_at(self.counts.as_slice(), request)),
+        )
+    }
+
+    /// A request is answered once more, at that clock. `Count` comes only where it would be answered 2^32 times.
+    pub(crate) fn add(&mut self, request: usize, at: u64) -> Result<(), HistoryError>
+        ensures { (other : ℕ) → OnOk result (answers_at self.new other ≡ answers_from (answers_at self.old other) (clocks_for other at request)) }
+    {
+        let Ok(()) = self.reach(request) else {
+            return Err(HistoryError::Memory);
+        };
+        let count = self.counts[request];
+        let Some(more) = count.checked_add(1) else {
+            return Err(HistoryError::Count);
+        };
+        let Ok(()) = note_first(&mut self.firsts, request, at, count) else {
+            return Err(HistoryError::Memory);
+        };
+        let Ok(()) = self.lasts.set(request, at) else {
+            return Err(HistoryError::Memory);
+        };
+        self.counts[request] = more;
+        Ok(())
+    }
+
+    /// Makes places for the answers to all requests up to this one.
+    fn reach(&mut self, request: usize) -> Result<(), AllocError>
+        ensures same { (other : ℕ) → OnOk result (answers_at self.new other ≡ answers_at self.old other) }
+        ensures firsts { OnOk result (request < length (ticks_in self.new.firsts)) }
+        ensures lasts { OnOk result (request < length (ticks_in self.new.lasts)) }
+        ensures counts { OnOk result (request < length self.new.counts.items) }
+    {
+        self.firsts.reach(request)?;
+        self.lasts.reach(request)?;
+        reach(&mut self.counts, request)?;
+        Ok(())
+    }
+}
+
+/// So many answers from a first to a last one.
+fn answers_of(first: u64, last: u64, count: u64) -> Option<Answers>
+    ensures { result ≡ answers_of first last count }
+{
+    if count == 0 {
+        return None;
+    }
+    Some(Answers { first, last, count })
+}
+
+/// The count at a place, and 0 behind the last.
+fn count_at(counts: &[u32], place: usize) -> u32
+    ensures { result ≡ get_or counts.now place 0 }
+{
+    counts.get(place).copied().unwrap_or(0)
+}
+
+/// Notes the clock of a request's first answer, after so many.
+fn note_first(firsts: &mut TickList, request: usize, at: u64, count: u32) -> Result<(), AllocError>
+    requires { request < length (ticks_in firsts.old) }
+    ensures { OnOk result (ticks_in firsts.new ≡ if nat_eq count 0 then set (ticks_in firsts.old) request at else ticks_in firsts.old) }
+{
+    if count == 0 {
+        firsts.set(request, at)?;
+    }
+    Ok(())
+}
+
+/// Makes places for the counts of all requests up to this one.
+fn reach(counts: &mut Vec<u32>, request: usize) -> Result<(), AllocError>
+    ensures same { (other : ℕ) → OnOk result (get_or counts.new.items other 0 ≡ get_or counts.old.items other 0) }
+    ensures there { OnOk result (request < length counts.new.items) }
+{
+    while counts.len() <= request {
+        counts.push(0)?;
+    }
+    Ok(())
 }

@@ -2,10 +2,9 @@
 ghost use Rattle.std.specs.Prelude.{◌≡◌};
 ghost use Rattle.run_history.specs.Followed.{works_for};
 
-use crate::answers::Answers;
+use crate::answers::AnswerList;
 use crate::happenings::{Happening, Segment};
 use crate::history::HistoryError;
-use crate::pairs::add_answer;
 use std::alloc::Global;
 use std::collections::BTreeMap;
 
@@ -27,8 +26,8 @@ pub struct Followed<'a> {
     pub segments: u64,
     /// The request that a thread works for which has taken none.
     pub started: BTreeMap<u32, u64>,
-    /// When requests were answered, at the places of their numbers from 0.
-    pub answers: Vec<Option<Answers>>,
+    /// When requests were answered.
+    pub answers: AnswerList,
 }
 
 impl<'a> Followed<'a> {
@@ -52,7 +51,7 @@ impl<'a> Followed<'a> {
             left: spawned,
             segments: 0,
             started: BTreeMap::new(alloc),
-            answers: Vec::new(alloc),
+            answers: AnswerList::new(alloc),
         }
     }
 
@@ -61,7 +60,7 @@ impl<'a> Followed<'a> {
         ensures segments { OnOk result (self.new.segments ≡ segments_with told self.old.segments) }
         ensures left { OnOk result (self.new.left.now ≡ left_with told self.old.segments self.old.left.now) }
         ensures started { (thread : ℕ) → OnOk result (get nat_cmp self.new.started thread ≡ started_with told self.old.segments self.old.left.now (λ one. get nat_cmp self.old.started one) thread) }
-        ensures answers { (request : ℕ) → OnOk result (answers_at self.new.answers.items request ≡ followed_with request told (λ one. get nat_cmp self.old.started one) (answers_at self.old.answers.items request)) }
+        ensures answers { (request : ℕ) → OnOk result (answers_at self.new.answers request ≡ followed_with request told (λ one. get nat_cmp self.old.started one) (answers_at self.old.answers request)) }
         ensures followed { (spawned : List Spawned) → (before : List Happening) → IsFollowed spawned before self.old → OnOk result (IsFollowed spawned (before ++ told ∷ []) self.new) }
     {
         match self.take(told) {
@@ -75,7 +74,7 @@ impl<'a> Followed<'a> {
         ensures segments { OnOk result (self.new.segments ≡ segments_with told self.old.segments) }
         ensures left { OnOk result (self.new.left.now ≡ left_with told self.old.segments self.old.left.now) }
         ensures started { (thread : ℕ) → OnOk result (get nat_cmp self.new.started thread ≡ started_with told self.old.segments self.old.left.now (λ one. get nat_cmp self.old.started one) thread) }
-        ensures answers { (request : ℕ) → OnOk result (answers_at self.new.answers.items request ≡ followed_with request told (λ one. get nat_cmp self.old.started one) (answers_at self.old.answers.items request)) }
+        ensures answers { (request : ℕ) → OnOk result (answers_at self.new.answers request ≡ followed_with request told (λ one. get nat_cmp self.old.started one) (answers_at self.old.answers request)) }
     {
         match told {
             Happening::Came { .. } => Ok(()),
@@ -119,7 +118,7 @@ impl<'a> Followed<'a> {
         ensures segments { OnOk result (self.new.segments ≡ self.old.segments + 1) }
         ensures left { OnOk result (self.new.left.now ≡ left_after self.old.segments self.old.left.now) }
         ensures started { (thread : ℕ) → OnOk result (get nat_cmp self.new.started thread ≡ inherits self.old.segments (works_for segment.request (get nat_cmp self.old.started segment.thread)) thread self.old.left.now (get nat_cmp self.old.started thread)) }
-        ensures answers { (request : ℕ) → OnOk result (answers_at self.new.answers.items request ≡ answers_from (answers_at self.old.answers.items request) (clocks_by request (works_for segment.request (get nat_cmp self.old.started segment.thread)) segment)) }
+        ensures answers { (request : ℕ) → OnOk result (answers_at self.new.answers request ≡ answers_from (answers_at self.old.answers request) (clocks_by request (works_for segment.request (get nat_cmp self.old.started segment.thread)) segment)) }
     {
         let request = self.request_of(segment);
         self.start_all(request)?;
@@ -128,9 +127,7 @@ impl<'a> Followed<'a> {
         };
         self.segments = segments;
         match request {
-            Some(number) if segment.puts > 0 => {
-                add_answer(&mut self.answers, number as usize, segment.ended)
-            }
+            Some(number) if segment.puts > 0 => { self.answers.add(number as usize, segment.ended) }
             _ => Ok(()),
         }
     }

@@ -42,7 +42,7 @@ mod threads;
 mod unasked;
 
 pub use answering::Answering;
-pub use answers::Answers;
+pub use answers::{AnswerList, Answers};
 pub use followed::{Followed, Spawned};
 pub use happenings::{Happening, Segment, Wait};
 pub use history::{History, HistoryError};

@@ -1,7 +1,7 @@
 ghost use Rattle.std.specs.Prelude.{◌≡◌, ℕ, ◌<◌, OnOk, length};
 ghost use Rattle.run_history.specs.Answers.{answers_at};
 
-use crate::answers::{Answers, one_more};
+use crate::answers::AnswerList;
 use crate::happenings::{Happening, Segment, Wait};
 use crate::history::HistoryError;
 use schedule_log::Item;
@@ -33,9 +33,8 @@ pub struct Numbers {
     /// The threads that took requests, and the clocks at which they did, in order.
     pub takers: Vec<u32>,
     pub taken: TickList,
-    /// When requests were answered: at the place of a request's number, where it was. Behind the last that was answered there are no
-    /// places.
-    pub answers: Vec<Option<Answers>>,
+    /// When requests were answered.
+    pub answers: AnswerList,
     /// All waits, in order.
     pub waits: Vec<WaitLength>,
     /// The most chunks that were held after a segment.
@@ -62,7 +61,7 @@ impl Numbers {
             dropped: 0,
             takers: Vec::new(alloc),
             taken: TickList::new(alloc),
-            answers: Vec::new(alloc),
+            answers: AnswerList::new(alloc),
             waits: Vec::new(alloc),
             most_held: 0,
         }
@@ -173,7 +172,7 @@ impl Numbers {
 
     /// The answers of a segment.
     fn answer(&mut self, segment: Segment) -> Result<(), HistoryError>
-        ensures answers { (request : ℕ) → OnOk result (answers_at self.new.answers.items request ≡ answers_from (answers_at self.old.answers.items request) (clocks_in request segment)) }
+        ensures answers { (request : ℕ) → OnOk result (answers_at self.new.answers request ≡ answers_from (answers_at self.old.answers request) (clocks_in request segment)) }
         ensures others { OnOk result (KeepsOthers self.old self.new) }
     {
         if segment.puts == 0 {
@@ -182,30 +181,6 @@ impl Numbers {
         let Some(request) = segment.request else {
             return Ok(());
         };
-        let place = request as usize;
-        let Ok(()) = make_places(&mut self.answers, place) else {
-            return Err(HistoryError::Memory);
-        };
-        match one_more(self.answers[place], segment.ended) {
-            Some(answers) => {
-                self.answers[place] = Some(answers);
-                Ok(())
-            }
-            None => Err(HistoryError::Count),
-        }
+        self.answers.add(request as usize, segment.ended)
     }
-}
-
-/// Makes places for the answers to all requests up to this one.
-pub(crate) fn make_places(
-    answers: &mut Vec<Option<Answers>>,
-    place: usize,
-) -> Result<(), AllocError>
-    ensures same { (request : ℕ) → OnOk result (answers_at answers.new.items request ≡ answers_at answers.old.items request) }
-    ensures there { OnOk result (place < length answers.new.items) }
-{
-    while answers.len() <= place {
-        answers.push(None)?;
-    }
-    Ok(())
 }

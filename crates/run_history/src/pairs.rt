@@ -4,10 +4,9 @@ ghost use Rattle.std.specs.Ordering.{int_eq};
 ghost use Rattle.run_history.specs.Answers.{answers_at, answers_from};
 ghost use Rattle.run_history.specs.Pairs.{clocks_for, clocks_of, waiting_in};
 
-use crate::answers::{Answers, one_more};
+use crate::answers::AnswerList;
 use crate::happenings::Happening;
 use crate::history::HistoryError;
-use crate::numbers::make_places;
 use schedule_log::Item;
 use std::alloc::Global;
 use std::collections::{BTreeMap, VecDeque};
@@ -36,8 +35,8 @@ pub struct Pairs {
     pub unanswered: Unanswered,
     /// The requests that the segment under way answers.
     pub under_way: Vec<u64>,
-    /// When requests were answered, at the places of their numbers from 0.
-    pub answers: Vec<Option<Answers>>,
+    /// When requests were answered.
+    pub answers: AnswerList,
 }
 
 impl Pairs {
@@ -58,7 +57,7 @@ impl Pairs {
         ensures by_order { pairing ≡ First → ArePairsByOrder [] result }
         ensures by_value { pairing ≡ Value → ArePairsByValue [] result }
         ensures under_way { result.under_way.items ≡ [] }
-        ensures answers { result.answers.items ≡ [] }
+        ensures answers { (request : ℕ) → answers_at result.answers request ≡ None }
     {
         Pairs {
             alloc,
@@ -67,7 +66,7 @@ impl Pairs {
             put: 0,
             unanswered: BTreeMap::new(alloc),
             under_way: Vec::new(alloc),
-            answers: Vec::new(alloc),
+            answers: AnswerList::new(alloc),
         }
     }
 
@@ -79,7 +78,7 @@ impl Pairs {
         ensures unanswered { (value : ℤ) → self.old.pairing ≡ Value → OnOk result (waiting_in self.new.unanswered value ≡ waiting_with told self.old.came value (waiting_in self.old.unanswered value)) }
         ensures value { self.old.pairing ≡ Value → OnOk result (self.new.under_way.items ≡ value_with told (λ value. waiting_in self.old.unanswered value) self.old.under_way.items) }
         ensures first { self.old.pairing ≡ First → OnOk result (self.new.under_way.items ≡ first_with told self.old.put self.old.under_way.items) }
-        ensures answers { (request : ℕ) → OnOk result (answers_at self.new.answers.items request ≡ answers_with request told self.old.under_way.items (answers_at self.old.answers.items request)) }
+        ensures answers { (request : ℕ) → OnOk result (answers_at self.new.answers request ≡ answers_with request told self.old.under_way.items (answers_at self.old.answers request)) }
         ensures by_order { (before : List Happening) → self.old.pairing ≡ First → ArePairsByOrder before self.old → OnOk result (ArePairsByOrder (before ++ told ∷ []) self.new) }
         ensures by_value { (before : List Happening) → self.old.pairing ≡ Value → ArePairsByValue before self.old → OnOk result (ArePairsByValue (before ++ told ∷ []) self.new) }
     {
@@ -97,7 +96,7 @@ impl Pairs {
         ensures unanswered { (value : ℤ) → self.old.pairing ≡ Value → OnOk result (waiting_in self.new.unanswered value ≡ waiting_with told self.old.came value (waiting_in self.old.unanswered value)) }
         ensures value { self.old.pairing ≡ Value → OnOk result (self.new.under_way.items ≡ value_with told (λ value. waiting_in self.old.unanswered value) self.old.under_way.items) }
         ensures first { self.old.pairing ≡ First → OnOk result (self.new.under_way.items ≡ first_with told self.old.put self.old.under_way.items) }
-        ensures answers { (request : ℕ) → OnOk result (answers_at self.new.answers.items request ≡ answers_with request told self.old.under_way.items (answers_at self.old.answers.items request)) }
+        ensures answers { (request : ℕ) → OnOk result (answers_at self.new.answers request ≡ answers_with request told self.old.under_way.items (answers_at self.old.answers request)) }
     {
         match told {
             Happening::Came { item, .. } => self.come(item),
@@ -117,7 +116,7 @@ impl Pairs {
         ensures came { OnOk result (self.new.came ≡ came_item item self.old.came) }
         ensures unanswered { (value : ℤ) → self.old.pairing ≡ Value → OnOk result (waiting_in self.new.unanswered value ≡ waiting_item item self.old.came value (waiting_in self.old.unanswered value)) }
         ensures under_way { self.new.under_way.items ≡ self.old.under_way.items }
-        ensures answers { self.new.answers.items ≡ self.old.answers.items }
+        ensures answers { self.new.answers ≡ self.old.answers }
     {
         match item {
             Item::Arrive { value } => self.come_with(value),
@@ -132,7 +131,7 @@ impl Pairs {
         ensures came { OnOk result (self.new.came ≡ self.old.came + 1) }
         ensures unanswered { (other : ℤ) → self.old.pairing ≡ Value → OnOk result (waiting_in self.new.unanswered other ≡ if int_eq value other then waiting_in self.old.unanswered other ++ self.old.came ∷ [] else waiting_in self.old.unanswered other) }
         ensures under_way { self.new.under_way.items ≡ self.old.under_way.items }
-        ensures answers { self.new.answers.items ≡ self.old.answers.items }
+        ensures answers { self.new.answers ≡ self.old.answers }
     {
         let request = self.came;
         let Some(came) = request.checked_add(1) else {
@@ -153,7 +152,7 @@ impl Pairs {
         ensures unanswered { (other : ℤ) → self.old.pairing ≡ Value → OnOk result (waiting_in self.new.unanswered other ≡ if int_eq value other then drop 1 (waiting_in self.old.unanswered other) else waiting_in self.old.unanswered other) }
         ensures value { self.old.pairing ≡ Value → OnOk result (self.new.under_way.items ≡ self.old.under_way.items ++ take 1 (waiting_in self.old.unanswered value)) }
         ensures first { self.old.pairing ≡ First → OnOk result (self.new.under_way.items ≡ self.old.under_way.items ++ self.old.put ∷ []) }
-        ensures answers { self.new.answers.items ≡ self.old.answers.items }
+        ensures answers { self.new.answers ≡ self.old.answers }
     {
         let place = self.put;
         let Some(put) = place.checked_add(1) else {
@@ -180,7 +179,7 @@ impl Pairs {
         ensures came { self.new.came ≡ self.old.came }
         ensures unanswered { self.new.unanswered ≡ self.old.unanswered }
         ensures under_way { OnOk result (self.new.under_way.items ≡ []) }
-        ensures answers { (request : ℕ) → OnOk result (answers_at self.new.answers.items request ≡ answers_from (answers_at self.old.answers.items request) (clocks_of request at self.old.under_way.items)) }
+        ensures answers { (request : ℕ) → OnOk result (answers_at self.new.answers request ≡ answers_from (answers_at self.old.answers request) (clocks_of request at self.old.under_way.items)) }
     {
         add_all(&mut self.answers, self.under_way.as_slice(), at)?;
         self.under_way.clear();
@@ -226,35 +225,11 @@ fn take_oldest(unanswered: &mut Unanswered, value: i32) -> Option<u64>
 
 /// Each of these requests is answered once more, at that clock.
 #[tactic(auto, using(crate::proofs::Paired::answers_more))]
-fn add_all(
-    answers: &mut Vec<Option<Answers>>,
-    requests: &[u64],
-    at: u64,
-) -> Result<(), HistoryError>
-    ensures { (request : ℕ) → OnOk result (answers_at answers.new.items request ≡ answers_from (answers_at answers.old.items request) (clocks_of request at requests.now)) }
+fn add_all(answers: &mut AnswerList, requests: &[u64], at: u64) -> Result<(), HistoryError>
+    ensures { (request : ℕ) → OnOk result (answers_at answers.new request ≡ answers_from (answers_at answers.old request) (clocks_of request at requests.now)) }
 {
     for request in requests {
-        add_answer(answers, *request as usize, at)?;
+        answers.add(*request as usize, at)?;
     }
     Ok(())
-}
-
-/// A request is answered once more, at that clock.
-pub(crate) fn add_answer(
-    answers: &mut Vec<Option<Answers>>,
-    place: usize,
-    at: u64,
-) -> Result<(), HistoryError>
-    ensures { (request : ℕ) → OnOk result (answers_at answers.new.items request ≡ answers_from (answers_at answers.old.items request) (clocks_for request at place)) }
-{
-    let Ok(()) = make_places(answers, place) else {
-        return Err(HistoryError::Memory);
-    };
-    match one_more(answers[place], at) {
-        Some(more) => {
-            answers[place] = Some(more);
-            Ok(())
-        }
-        None => Err(HistoryError::Count),
-    }
 }

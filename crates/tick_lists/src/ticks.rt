@@ -11,7 +11,7 @@ pub struct TickList {
 }
 
 impl TickList {
-    ghost use Rattle.std.specs.Prelude.{◌≡◌, ◌<◌, ◌++◌, ◌∷◌, [], OnOk, length, set, slice_get};
+    ghost use Rattle.std.specs.Prelude.{◌≡◌, ℕ, ◌<◌, ◌++◌, ◌∷◌, [], OnOk, get_or, length, set, slice_get};
     ghost use Rattle.tick_lists.specs.Ticks.{ticks_in};
 
     /// An empty list. It takes no memory.
@@ -55,6 +55,13 @@ impl TickList {
         self.large.as_slice().get(place - count).copied()
     }
 
+    /// The number at a place, and 0 behind the last.
+    pub fn at(&self, place: usize) -> u64
+        ensures { result ≡ get_or (ticks_in self.now) place 0 }
+    {
+        self.get(place).unwrap_or(0)
+    }
+
     /// Puts another number at a place. After a refusal nothing is said.
     pub fn set(&mut self, place: usize, ticks: u64) -> Result<(), AllocError>
         requires { place < length (ticks_in self.old) }
@@ -68,6 +75,17 @@ impl TickList {
         } else {
             self.widen()?;
             self.large[place] = ticks;
+        }
+        Ok(())
+    }
+
+    /// Appends 0 until there is a number at that place. After a refusal nothing is said.
+    pub fn reach(&mut self, place: usize) -> Result<(), AllocError>
+        ensures same { (other : ℕ) → OnOk result (get_or (ticks_in self.new) other 0 ≡ get_or (ticks_in self.old) other 0) }
+        ensures there { OnOk result (place < length (ticks_in self.new)) }
+    {
+        while self.len() <= place {
+            self.push(0)?;
         }
         Ok(())
     }

@@ -5,4 +5,4 @@ use Rattle.run_history.proofs.pairs.add_all.Given as goal
 
 abbrev pub invariant-loop-request : goal.invariant-loop-request
 invariant-loop-request l =
-    (request : ℕ) → answers_at l.answers.items request ≡ answers_from (answers_at l.initial.answers.items request) (clocks_of request l.at (take l.request-index l.requests))
+    (request : ℕ) → answers_at l.answers request ≡ answers_from (answers_at l.initial.answers request) (clocks_of request l.at (take l.request-index l.requests))
