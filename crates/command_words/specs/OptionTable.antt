@@ -3,8 +3,10 @@ use Rattle.std.specs.Prelude.{ℕ, List, [], ◌∷◌, ◌++◌, drop, map, cod
 use Rattle.command_words.specs.declared.option_table.CommandOption.{CommandOption}
 use Rattle.command_words.specs.declared.option_table.CommandOption.TheVariants as option
 
--- the name with its dashes, the default, and the least and the greatest number. Of a list the numbers are those of each of its members;
--- `--rule` takes a word, and its numbers are 0
+-- the name with its dashes, the default, and the least and the greatest number. Of a list the least and the greatest number are those of
+-- each member, and the default isn't used; `--rule` takes a word, and its numbers are 0. Where the numbers of an option depend on another
+-- option, the row has the default at that one's default and the greatest number at its greatest: `IsPlacement` and `IsPolicy` say the
+-- numbers of `--max-path` and `--low` at any chunk and any `--high`
 pub record OptionRow : Type 0 where
   pub name : List ℕ
   pub default : ℕ

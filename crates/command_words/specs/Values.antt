@@ -119,7 +119,7 @@ pub record IsPolicy (given : List ℕ → Option (List ℕ)) (policy : Policy) :
   pub rule : IsRule (given (name_of option.Rule)) (given (name_of option.Tickets)) policy.rule
   pub knee : IsNumberOf given option.Knee policy.knee
 
--- an audit has the policy of a run, of which its words give no more than an audit's options
+-- an audit has a run's policy; its words give only those options of it that an audit takes (`audit_policy`)
 pub record IsAudit (given : List ℕ → Option (List ℕ)) (options : Audit) : Type 0 where
   pub policy : IsPolicy given options.policy
   pub steps : IsNumberOf given option.Steps options.steps

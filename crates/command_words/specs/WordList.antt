@@ -33,19 +33,23 @@ request_of (command.Demo number) = Demo number
 request_of (command.Audit source log options) = Audit source.now log.now options
 request_of (command.Budget source image certificate) = Budget source.now image.now certificate.now
 
--- the options of placement, those of a run that no audit has, all those of a run, those of an audit that no run has, and all those of an audit
+-- the options of placement
 abbrev pub placement_options : List (List ℕ)
 placement_options = names_of placement_table
 
+-- those of a run that no audit has
 abbrev pub run_options : List (List ℕ)
 run_options = names_of run_table
 
+-- all those of a run
 abbrev pub policy_options : List (List ℕ)
 policy_options = names_of (run_table ++ shared_table)
 
+-- those that only an audit has
 abbrev pub audit_options : List (List ℕ)
 audit_options = names_of audit_table
 
+-- all those of an audit
 abbrev pub audit_policy : List (List ℕ)
 audit_policy = names_of (shared_table ++ audit_table)
 

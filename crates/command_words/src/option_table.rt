@@ -7,8 +7,8 @@ ghost use Rattle.command_words.specs.OptionTable.{long_name_of, row_of};
 pub enum CommandOption {
     /// The size of a chunk, in bytes: a multiple of 16.
     Chunk,
-    /// The longest path between two checkpoints, in bytes. Both numbers depend on the chunk: at most its size
-    /// without the header, by default half of that.
+    /// The longest path between two checkpoints, in bytes: at most the chunk's size without the header, by default half
+    /// of that, as a multiple of 16. The row has the default at the default chunk and the greatest number at the greatest.
     MaxPath,
     /// The size of each added chunk, in bytes: a multiple of 16.
     ExtraSize,
@@ -61,7 +61,8 @@ pub(crate) const SHARED: [CommandOption; 8] = [
 /// The options that only an audit has.
 pub(crate) const AUDIT: [CommandOption; 1] = [CommandOption::Steps];
 
-/// A row of the table. Of a list the numbers are those of each of its members; `--rule` takes a word, and its numbers are 0.
+/// A row of the table. Of a list the least and the greatest number are those of each member; `--rule` takes a word, and its
+/// numbers are 0.
 #[derive(Clone, Copy)]
 pub(crate) struct Row<'a> {
     /// The name, with its dashes.

@@ -156,7 +156,8 @@ fn number_of(matches: &ArgMatches<'_>, option: CommandOption) -> Option<u64>
     number_within(matches, option, row.default, row.most)
 }
 
-/// The number of an option whose default or greatest number depends on another option.
+/// The number of an option: the given one, or else `default`. None if it is no canonical decimal, or not from the option's
+/// least number to `most`.
 fn number_within(
     matches: &ArgMatches<'_>,
     option: CommandOption,

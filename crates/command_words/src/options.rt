@@ -56,8 +56,8 @@ pub struct Policy {
 /// The options of an audit.
 #[derive(Clone, Copy)]
 pub struct Audit {
-    /// The policy of the runs whose logs it judges. It has no options for the size of the added chunks and for the rule, which
-    /// have their defaults.
+    /// The policy of the runs whose logs it judges. No option of an audit sets `extra_bytes` and `rule`: they have their
+    /// defaults.
     pub policy: Policy,
     /// The number of steps of the source that may be taken: at most 1,000,000,000.
     pub steps: u64,
