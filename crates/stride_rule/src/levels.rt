@@ -105,8 +105,7 @@ impl Levels {
         }
     }
 
-    /// Makes the summaries be of one more place, behind the others. If an allocation fails, they cover the
-    /// places before it.
+    /// Makes the summaries be of one more place, behind the others. If an allocation fails, they cover the places before it.
     pub fn add(&mut self, place: usize, row: &Option<Row>) -> Result<(), AllocError>
         requires { HasRoom self.old place }
         ensures kept { (places : List (Option RowOf)) → AreLevels self.old places → AreLevels self.new places }
