@@ -1,4 +1,4 @@
--- The answers to requests, by which outputs they are.
+-- What is kept for the answers while a log is read, for each way to say which outputs are answers.
 use Rattle.std.specs.Prelude.{◌≡◌, List, ⊤}
 use Rattle.std.specs.BTreeMap.{get}
 use Rattle.std.specs.Ordering.{nat_cmp}
@@ -12,7 +12,7 @@ use Rattle.run_history.specs.Followed.{named_by}
 use Rattle.run_history.specs.FollowedRuns.{IsFollowed}
 use Rattle.run_history.specs.PairedRuns.{ArePairsByOrder, ArePairsByValue}
 
--- what is kept is of what a log tells
+-- this is what is kept once a log has told so much
 abbrev pub Keeps : Answering → List Happening → Answerer → Type 0
 Keeps ByThread told OfThreads = ⊤
 Keeps (ByPairing First) told (OfPairs pairs) = (pairs.pairing ≡ First) × ArePairsByOrder told pairs

@@ -38,7 +38,13 @@ clocks_by request works segment = if is_request request works && nat_lt 0 segmen
 -- what an entry tells, with the request that its segment's thread works for as the one that it serves
 abbrev pub named_by : (ℕ → Option ℕ) → Happening → Happening
 named_by started (Ran segment free) =
-    Ran (record { thread = segment.thread; began = segment.began; ended = segment.ended; puts = segment.puts; request = works_for segment.request (started segment.thread) }) free
+    Ran (record {
+      thread = segment.thread;
+      began = segment.began;
+      ended = segment.ended;
+      puts = segment.puts;
+      request = works_for segment.request (started segment.thread);
+    }) free
 named_by started told = told
 
 -- how many segments are over, with one entry more

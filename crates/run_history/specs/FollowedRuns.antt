@@ -22,13 +22,15 @@ left_after_all number left (one ∷ told) = left_after_all (segments_with one nu
 -- what a thread that took no request works for
 abbrev pub started_after : ℕ → List Spawned → (ℕ → Option ℕ) → List Happening → ℕ → Option ℕ
 started_after number left started [] thread = started thread
-started_after number left started (one ∷ told) thread = started_after (segments_with one number) (left_with one number left) (started_with one number left started) told thread
+started_after number left started (one ∷ told) thread =
+    started_after (segments_with one number) (left_with one number left) (started_with one number left started) told thread
 
 -- the answers to a request
 abbrev pub followed_answers : ℕ → ℕ → List Spawned → (ℕ → Option ℕ) → Option Answers → List Happening → Option Answers
 followed_answers request number left started before [] = before
 followed_answers request number left started before (one ∷ told) =
-    followed_answers request (segments_with one number) (left_with one number left) (started_with one number left started) (followed_with request one started before) told
+    followed_answers request (segments_with one number) (left_with one number left) (started_with one number left started)
+    (followed_with request one started before) told
 
 -- no thread was started yet
 abbrev pub none_started : ℕ → Option ℕ

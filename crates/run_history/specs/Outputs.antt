@@ -46,4 +46,5 @@ AnswersInOrder = (told : List Happening) (request : ℕ) → first_answers reque
 -- by value, a request that comes while so many others of its value wait has one answer: of the outputs of its value that follow, the one of that number
 abbrev pub AnswersInTurn : Type 0
 AnswersInTurn = (before after : List Happening) (clock : ℕ) (value : ℤ) →
-    value_answers (came_after 0 before) 0 none_waits [] None (before ++ Came clock (Arrive value) ∷ after) ≡ answered_once (output_of value after (count_waiting value 0 before))
+    value_answers (came_after 0 before) 0 none_waits [] None (before ++ Came clock (Arrive value) ∷ after)
+    ≡ answered_once (output_of value after (count_waiting value 0 before))

@@ -25,7 +25,8 @@ first_after put under_way (one ∷ told) = first_after (puts_with one put) (firs
 -- the answers to a request
 abbrev pub first_answers : ℕ → ℕ → List ℕ → Option Answers → List Happening → Option Answers
 first_answers request put under_way before [] = before
-first_answers request put under_way before (one ∷ told) = first_answers request (puts_with one put) (first_with one put under_way) (answers_with request one under_way before) told
+first_answers request put under_way before (one ∷ told) =
+    first_answers request (puts_with one put) (first_with one put under_way) (answers_with request one under_way before) told
 
 -- these are the pairs of what a log tells
 pub record ArePairsByOrder (told : List Happening) (pairs : Pairs) : Type 0 where
@@ -43,13 +44,15 @@ waiting_after came waiting (one ∷ told) value = waiting_after (came_with one c
 -- the requests that the segment at the end has answered so far
 abbrev pub value_after : ℕ → (ℤ → List ℕ) → List ℕ → List Happening → List ℕ
 value_after came waiting under_way [] = under_way
-value_after came waiting under_way (one ∷ told) = value_after (came_with one came) (λ other. waiting_with one came other (waiting other)) (value_with one waiting under_way) told
+value_after came waiting under_way (one ∷ told) =
+    value_after (came_with one came) (λ other. waiting_with one came other (waiting other)) (value_with one waiting under_way) told
 
 -- the answers to a request
 abbrev pub value_answers : ℕ → ℕ → (ℤ → List ℕ) → List ℕ → Option Answers → List Happening → Option Answers
 value_answers request came waiting under_way before [] = before
 value_answers request came waiting under_way before (one ∷ told) =
-    value_answers request (came_with one came) (λ other. waiting_with one came other (waiting other)) (value_with one waiting under_way) (answers_with request one under_way before) told
+    value_answers request (came_with one came) (λ other. waiting_with one came other (waiting other))
+    (value_with one waiting under_way) (answers_with request one under_way before) told
 
 -- no request has come
 abbrev pub none_waits : ℤ → List ℕ

@@ -1,6 +1,5 @@
 // Which outputs are the answers to a request: those of the thread that took it, those that a user says, or also those of threads that
 // work for it.
-ghost use Rattle.std.specs.Prelude.{◌≡◌};
 
 use crate::answers::AnswerList;
 use crate::followed::{Followed, Spawned};
@@ -18,7 +17,8 @@ pub enum Answering<'a> {
     ByThread,
     /// As a user says, whichever thread puts them.
     ByPairing(Pairing),
-    /// Those of the thread that took it, and of the threads that work for it. These are the threads that segments started.
+    /// Those of the thread that took it, and of the threads that work for it. The list has the threads that segments started, in
+    /// the order of the segments.
     BySpawn(&'a [Spawned]),
 }
 

@@ -1,6 +1,5 @@
-// A request followed through `spawn`: a thread that was started works for the request that its starter served, until it takes one.
-ghost use Rattle.std.specs.Prelude.{◌≡◌};
-ghost use Rattle.run_history.specs.Followed.{works_for};
+// A request followed through `spawn`: a thread that was started works for the request that its starter worked for, until it takes
+// one.
 
 use crate::answers::AnswerList;
 use crate::happenings::{Happening, Segment};

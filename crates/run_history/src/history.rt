@@ -12,7 +12,8 @@ use std::marker::Model;
 /// Why what is told of a run is taken in no further.
 #[derive(Clone, Copy)]
 pub enum HistoryError {
-    /// A clock, a count or what a thread holds would be outside 64 bits, or a wait would end before it began, as in no run.
+    /// A clock, a count or what a thread holds would be outside 64 bits, a request would be answered 2^32 times, or a wait would
+    /// end before it began, as in no run.
     Count,
     /// There is no memory.
     Memory,

@@ -14,9 +14,9 @@
 // specs/Unasked.antt). How long a request was queued is read off the numbers (`queued_of`, over specs/Queues.antt), and so is the
 // longest wait at a site (`longest_at`, over specs/Longest.antt). The parts of one request's time (`Parts`) are over specs/Parts.antt.
 //
-// Which outputs answer which requests, where a user says so (`Pairs`), is over `ArePairsByOrder` and `ArePairsByValue`
-// (specs/PairedRuns.antt), and what threads answer that work for the request of their starter (`Followed`) over `IsFollowed`
-// (specs/FollowedRuns.antt), each over all that a run has told so far.
+// Which outputs are the answers to a request (`Answering`) is over `answers_by` (specs/AnsweredBy.antt): those of the thread that
+// took it, those that a user says (specs/PairedRuns.antt), or also those of the threads that work for it (specs/FollowedRuns.antt).
+// Two laws (specs/Outputs.antt) say what a user's two ways mean by the numbers of requests and outputs.
 //
 // How often the gate was closed, and for how long (`Spells`), is told by what each entry of a log tells and the marks of the gate. A
 // log tells the use of chunks alone, so this is of a run that has no other resource. `Spells::start` and `Spells::with` are over

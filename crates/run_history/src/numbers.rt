@@ -1,11 +1,8 @@
-ghost use Rattle.std.specs.Prelude.{◌≡◌, ℕ, ◌<◌, OnOk, length};
-ghost use Rattle.run_history.specs.Answers.{answers_at};
-
 use crate::answers::AnswerList;
 use crate::happenings::{Happening, Segment, Wait};
 use crate::history::HistoryError;
 use schedule_log::Item;
-use std::alloc::{AllocError, Global};
+use std::alloc::Global;
 use tick_lists::TickList;
 
 /// How long a wait at a site was.

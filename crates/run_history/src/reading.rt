@@ -20,7 +20,8 @@ use std::alloc::Global;
 pub enum ReadError {
     /// A line is no entry's.
     Line,
-    /// A clock or a count would be 2^64 or more, or a wait would end before it began, as in no run.
+    /// A clock or a count would be 2^64 or more, a request would be answered 2^32 times, or a wait would end before it began, as
+    /// in no run.
     Count,
     /// There is no memory.
     Memory,

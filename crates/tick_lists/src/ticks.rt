@@ -2,7 +2,8 @@ ghost use Rattle.std.specs.Prelude.{◌≡◌, ◌++◌, OnOk};
 
 use std::alloc::{AllocError, Global};
 
-/// A list of numbers, each in 4 bytes up to the first that is 2^32 or more, and in 8 bytes from there on.
+/// A list of numbers. Pushed, each takes 4 bytes up to the first that is 2^32 or more, and 8 bytes from there on. Where `set` puts
+/// such a number among those of 4 bytes, all take 8.
 #[derive(Drop)]
 pub struct TickList {
     alloc: Global,
@@ -11,7 +12,7 @@ pub struct TickList {
 }
 
 impl TickList {
-    ghost use Rattle.std.specs.Prelude.{◌≡◌, ℕ, ◌<◌, ◌++◌, ◌∷◌, [], OnOk, get_or, length, set, slice_get};
+    ghost use Rattle.std.specs.Prelude.{◌≡◌, ℕ, ◌<◌, ◌+◌, ◌-◌, ◌++◌, ◌∷◌, [], OnOk, get_or, length, set, slice_get};
     ghost use Rattle.tick_lists.specs.Ticks.{ticks_in};
 
     /// An empty list. It takes no memory.
@@ -82,7 +83,7 @@ impl TickList {
     /// Appends 0 until there is a number at that place. After a refusal nothing is said.
     pub fn reach(&mut self, place: usize) -> Result<(), AllocError>
         ensures same { (other : ℕ) → OnOk result (get_or (ticks_in self.new) other 0 ≡ get_or (ticks_in self.old) other 0) }
-        ensures there { OnOk result (place < length (ticks_in self.new)) }
+        ensures count { OnOk result (length (ticks_in self.new) ≡ length (ticks_in self.old) + (place + 1 - length (ticks_in self.old))) }
     {
         while self.len() <= place {
             self.push(0)?;

@@ -3,7 +3,8 @@ use Rattle.tick_lists.specs.Ticks.{ticks_in}
 use Rattle.tick_lists.proofs.ticks.TickList.reach.Given as goal
 
 abbrev pub invariant-loop-self : goal.invariant-loop-self
-invariant-loop-self l = (other : ℕ) → get_or (ticks_in l.self) other 0 ≡ get_or (ticks_in l.initial.self) other 0
+invariant-loop-self l = ((other : ℕ) → get_or (ticks_in l.self) other 0 ≡ get_or (ticks_in l.initial.self) other 0)
+    × (length (ticks_in l.self) + (l.place + 1 - length (ticks_in l.self)) ≡ length (ticks_in l.initial.self) + (l.place + 1 - length (ticks_in l.initial.self)))
 
 abbrev pub decreases-loop-self : goal.decreases-loop-self
 decreases-loop-self l = l.place + 1 - length (ticks_in l.self)
