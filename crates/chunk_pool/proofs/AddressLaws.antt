@@ -1,5 +1,6 @@
 -- Each address belongs to one chunk at most, and where the chunks stand.
 use Rattle.std.proofs.Common.{◌≡◌, ℕ, ◌+◌, ◌-◌, ◌*◌, ◌/◌, ◌%◌, ◌<◌, ◌≤◌, ◌⊎◌, inl, inr, sym, ◌∙◌, ap, subst, arith, nat_lt, Option, Some, None, IfSome, IfNone, Bool, cond}
+use Rattle.std.specs.Option.{SomeIff}
 use Rattle.std.proofs.lemmas.Bool.{cases_lt, lt-ltb, le-ltb}
 use Rattle.std.proofs.lemmas.Nat.{mul-add-lt, div-mul-add, mod-mul-add, div_below, mod_below, div-add-mod'}
 use Rattle.chunk_pool.specs.declared.shape.Shape.{Shape}
@@ -156,3 +157,9 @@ position_within p id address sound has = omega (arith, has.1, has.2, start_fits 
 pub payload_word : (p : Pool) (id address : ℕ) → IsHeld p id ⊎ (payload_place_of p id ≤ address) → IsHeld p id ⊎ (4 ≤ (address - place_of p id) / 4)
 payload_word p id address (inl held) = inl held
 payload_word p id address (inr behind) = inr (omega (arith, behind))
+
+-- ---- an answer that is there where something holds, and it holds
+
+pub some_where : {P : Type 0} (answer : Option ℕ) (value : ℕ) → SomeIff answer P value → P → answer ≡ Some value
+some_where None value none holds = absurd (none holds)
+some_where (Some x) value there holds = ap (λ (n : ℕ). Some n) there.1

@@ -77,7 +77,8 @@ impl Shape {
         }
     }
 
-    /// The number of the chunk that has a byte at `address`, or `None` where none has.
+    /// The number of the chunk that has a byte at `address`, or `None` where none has. `checked_div` has no trap, so the compiler
+    /// leaves out a search whose answer isn't used.
     pub(crate) fn chunk_at(self, address: u32) -> Option<u32>
         requires { IsShape self }
         ensures { result ≡ chunk_in self address }
@@ -85,11 +86,11 @@ impl Shape {
         let offset = address.checked_sub(FIRST_PLACE)?;
         let first_bytes = 4 * (self.first_count * self.words);
         if offset < first_bytes {
-            return Some(offset / (4 * self.words));
+            return offset.checked_div(4 * self.words);
         }
         let behind = offset - first_bytes;
         if behind < 4 * ((self.count - self.first_count) * self.extra_words) {
-            Some(self.first_count + behind / (4 * self.extra_words))
+            Some(self.first_count + behind.checked_div(4 * self.extra_words)?)
         } else {
             None
         }

@@ -105,10 +105,10 @@ fn run_singly(ready: &[Ready], start: Stand, areas: &mut Areas, file: &mut Regis
     stand
 }
 
-// Does the operation of an index, and where a group begins there, the others of the group too. It answers where the thread
-// stands then, but with the fuel before the last of them, so that the loop takes that one alike behind each kind; or None
-// where only the machine's step does the first, and then nothing has changed. Each kind has an arm of its own: then the
-// compiler makes one jump of it.
+// Does the operation of an index and, where a group begins there, the others of the group. It answers where the thread stands
+// then, with the fuel that was left before the last of them: the loop takes that one for every kind. None where only the
+// machine's step does the first, and then nothing has changed. Each kind has an arm of its own, so that the compiler makes one
+// jump of it.
 #[inline(always)]
 fn turns(ready: &[Ready], stand: Stand, areas: &mut Areas, file: &mut RegisterFile) -> Option<Stand>
     requires run { (run : Run) × IsIn run ready.now areas.old file.old stand.at stand.left }

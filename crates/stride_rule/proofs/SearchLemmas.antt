@@ -1,5 +1,5 @@
 -- A search through the clients finds the lawful choice.
-use Rattle.std.proofs.Common.{◌≡◌, ◌≢◌, ℕ, ◌==◌, Bool, true, false, IsTrue, Option, Some, None, List, [], ◌∷◌, refl, sym, ap, ◌∙◌, subst, ◌⊎◌, inl, inr, arith}
+use Rattle.std.proofs.Common.{◌≡◌, ◌≢◌, ℕ, ◌==◌, ◌&&◌, if◌then◌else◌, Bool, true, false, IsTrue, Option, Some, None, List, [], ◌∷◌, refl, sym, ap, ◌∙◌, subst, ◌⊎◌, inl, inr, arith}
 use Rattle.std.specs.Prelude.{⊤}
 use Rattle.std.specs.List.{AllByRecursion, list_all}
 use Rattle.std.proofs.lemmas.Bool.Decides.{nat_tests}
@@ -11,13 +11,32 @@ use Rattle.stride_rule.specs.declared.rows.Row.{Row}
 use Rattle.stride_rule.specs.declared.searching.Found.{Found}
 use Rattle.stride_rule.specs.Choices.{IsFirstEligible, IsLawfulStrideThread}
 use Rattle.stride_rule.specs.Clients.{IsAbsent, client_of, is_before, is_running}
-use Rattle.stride_rule.specs.Search.{better, found_with, found_from, found_in, found_among, first_with, first_from, first_in, met_with, met_among}
+use Rattle.stride_rule.specs.Search.{better, found_with, found_among, is_before_best, met_with, met_among}
 use Rattle.stride_rule.specs.Rows.{clients_of, needs_in}
 use Rattle.stride_rule.specs.Told.{need_of}
 use Rattle.stride_rule.specs.State.{AreOnce, waiting_in}
 use Rattle.stride_rule.proofs.ClientLemmas.{by_test, other_number}
 use Rattle.stride_rule.proofs.NotingLemmas.{all_wait}
 use Rattle.stride_rule.proofs.OrderLemmas.{goes_before-self, goes_before-asym, goes_before-cotrans}
+
+-- what is found with all these clients
+abbrev pub found_from : (ThreadId → Bool) → Option ℕ → Found → List Client → Found
+found_from eligible running found [] = found
+found_from eligible running found (client ∷ clients) = found_from eligible running (found_with eligible running found client) clients
+
+abbrev pub found_in : (ThreadId → Bool) → Option ℕ → List Client → Found
+found_in eligible running clients = found_from eligible running (record { best = None; all = true }) clients
+
+-- the first alone, where all clients wait: of the first so far and one more client
+abbrev pub first_with : (ThreadId → Bool) → Option Client → Client → Option Client
+first_with eligible best client = if is_before_best client best && eligible client.thread then Some client else best
+
+abbrev pub first_from : (ThreadId → Bool) → Option Client → List Client → Option Client
+first_from eligible best [] = best
+first_from eligible best (client ∷ clients) = first_from eligible (first_with eligible best client) clients
+
+abbrev pub first_in : (ThreadId → Bool) → List Client → Option Client
+first_in eligible clients = first_from eligible None clients
 
 is_before-self : (a : Client) → is_before a a ≡ false
 is_before-self a = goes_before-self a.pass a.thread.number

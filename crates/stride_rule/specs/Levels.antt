@@ -23,7 +23,7 @@ pub record IsThere (levels : Levels) (place : ℕ) : Type 0 where
   pub middle : place / 256 < length levels.middle.items
   pub large : place / 4096 < length levels.large.items
 
--- so that all but what stands at one place is covered
+-- each place has a summary at each level, and each but one is covered by its own
 pub record AreLevelsBut (levels : Levels) (places : List (Option Row)) (but : ℕ) : Type 0 where
   pub there : (place : ℕ) → place < length places → IsThere levels place
   pub small : (place : ℕ) → place < length places → place ≢ but → Covers (summary_at levels.small.items (place / 16)) (row_at places place)

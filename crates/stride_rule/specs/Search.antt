@@ -1,4 +1,4 @@
--- A search through the clients, one after another.
+-- A search through the places of clients, one after another.
 use Rattle.std.specs.Prelude.{ℕ, Bool, true, false, ◌&&◌, if◌then◌else◌, Option, Some, None, List, [], ◌∷◌}
 use Rattle.cap_word.specs.declared.threads.ThreadId.{ThreadId}
 use Rattle.ready_tree.specs.declared.bounds.Bounds.{Bounds}
@@ -20,15 +20,7 @@ found_with eligible running found client =
     else if eligible client.thread then record { best = better found.best client; all = found.all }
     else record { best = found.best; all = false }
 
--- what is found with all these clients
-abbrev pub found_from : (ThreadId → Bool) → Option ℕ → Found → List Client → Found
-found_from eligible running found [] = found
-found_from eligible running found (client ∷ clients) = found_from eligible running (found_with eligible running found client) clients
-
-abbrev pub found_in : (ThreadId → Bool) → Option ℕ → List Client → Found
-found_in eligible running clients = found_from eligible running (record { best = None; all = true }) clients
-
--- the same at places
+-- the same at one more place, and at all these
 abbrev pub found_at : (ThreadId → Bool) → Option ℕ → Found → Option Row → Found
 found_at eligible running found None = found
 found_at eligible running found (Some row) = found_with eligible running found row.client
@@ -37,23 +29,12 @@ abbrev pub found_among : (ThreadId → Bool) → Option ℕ → Found → List (
 found_among eligible running found [] = found
 found_among eligible running found (place ∷ places) = found_among eligible running (found_at eligible running found place) places
 
--- ---- the first alone, where all clients wait
+-- ---- the first whose need is met
 
 -- whether a client goes before the best so far, or there is none
 abbrev pub is_before_best : Client → Option Client → Bool
 is_before_best client None = true
 is_before_best client (Some best) = is_before client best
-
--- the first so far with one more client
-abbrev pub first_with : (ThreadId → Bool) → Option Client → Client → Option Client
-first_with eligible best client = if is_before_best client best && eligible client.thread then Some client else best
-
-abbrev pub first_from : (ThreadId → Bool) → Option Client → List Client → Option Client
-first_from eligible best [] = best
-first_from eligible best (client ∷ clients) = first_from eligible (first_with eligible best client) clients
-
-abbrev pub first_in : (ThreadId → Bool) → List Client → Option Client
-first_in eligible clients = first_from eligible None clients
 
 -- the first so far with who is at one more place, whose need is met
 abbrev pub met_with : Bounds → Option Client → Option Row → Option Client

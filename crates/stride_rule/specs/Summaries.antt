@@ -17,7 +17,7 @@ abbrev pub Covers : Summary → Option Row → Type 0
 Covers summary None = ⊤
 Covers summary (Some row) = CoversRow summary row
 
--- one is also of the places of another
+-- the first summary covers every place that the other covers
 pub record Includes (summary other : Summary) : Type 0 where
   pub met : (bounds : Bounds) → is_some_met bounds other.needs ≡ true → is_some_met bounds summary.needs ≡ true
   pub least : goes_before other.pass other.number summary.pass summary.number ≡ false

@@ -1,5 +1,5 @@
 ghost use Rattle.std.specs.Prelude.{◌≡◌};
-ghost use Rattle.stride_rule.specs.Clients.{is_before, is_running};
+ghost use Rattle.stride_rule.specs.Clients.{goes_before, is_before, is_running};
 
 use cap_word::ThreadId;
 
@@ -14,12 +14,23 @@ pub struct Client {
     pub pass: u64,
 }
 
+/// Whether a thread with this pass goes before another: by pass, and by number where the passes are the same.
+pub(crate) fn is_earlier(pass: u64, number: u32, other_pass: u64, other: u32) -> bool
+    ensures { result ≡ goes_before pass number other_pass other }
+{
+    pass < other_pass || pass == other_pass && number < other
+}
+
 /// Whether a client goes before another: by pass, and by the thread's number where the passes are the same.
 pub(crate) fn is_client_before(client: &Client, other: &Client) -> bool
     ensures { result ≡ is_before client.now other.now }
 {
-    client.pass < other.pass
-        || client.pass == other.pass && client.thread.number < other.thread.number
+    is_earlier(
+        client.pass,
+        client.thread.number,
+        other.pass,
+        other.thread.number,
+    )
 }
 
 /// Whether the choice of this client's thread is under way.

@@ -16,6 +16,12 @@ use std::alloc::{AllocError, Global};
 /// How many places, or summaries of the level below, a summary is of.
 const SPAN: usize = 16;
 
+/// How many places a summary of the middle level is of.
+const MIDDLE: usize = 256;
+
+/// How many places a summary of the large level is of.
+const LARGE: usize = 4096;
+
 /// The summaries of the places of a rule.
 #[derive(Drop)]
 pub struct Levels {
@@ -99,15 +105,15 @@ impl Levels {
         }
     }
 
-    /// Makes the summaries be of one more place, behind the others. Where memory is refused they are still of the others.
+    /// Makes the summaries be of one more place, behind the others. If an allocation fails, they cover the places before it.
     pub fn add(&mut self, place: usize, row: &Option<Row>) -> Result<(), AllocError>
         requires { HasRoom self.old place }
         ensures kept { (places : List (Option RowOf)) → AreLevels self.old places → AreLevels self.new places }
         ensures added { OnOk result ((places : List (Option RowOf)) → place ≡ length places → AreLevels self.old places → AreLevels self.new (places ++ row.now ∷ [])) }
     {
-        cover(&mut self.small, place / 16, row)?;
-        cover(&mut self.middle, place / 256, row)?;
-        cover(&mut self.large, place / 4096, row)
+        cover(&mut self.small, place / SPAN, row)?;
+        cover(&mut self.middle, place / MIDDLE, row)?;
+        cover(&mut self.large, place / LARGE, row)
     }
 
     /// Brings the summaries up to date after a change at a place.
@@ -116,12 +122,13 @@ impl Levels {
         requires but { AreLevelsBut self.old places.now place }
         ensures { AreLevels self.new places.now }
     {
-        self.small[place / 16] = summary_of_places(places, place / 16);
-        self.middle[place / 256] = summary_of_level(&self.small, place / 256);
-        self.large[place / 4096] = summary_of_level(&self.middle, place / 4096);
+        self.small[place / SPAN] = summary_of_places(places, place / SPAN);
+        self.middle[place / MIDDLE] = summary_of_level(&self.small, place / MIDDLE);
+        self.large[place / LARGE] = summary_of_level(&self.middle, place / LARGE);
     }
 
-    /// Brings all summaries up to date, where there are enough of them.
+    /// Brings the summaries of these places up to date, where there are enough of them. Summaries behind them may still be of
+    /// places that are gone, which costs steps and changes no answer.
     pub fn renew_all(&mut self, places: &[Option<Row>])
         requires { (place : ℕ) → place < length places.now → IsThere self.old place }
         ensures { AreLevels self.new places.now }
@@ -131,24 +138,25 @@ impl Levels {
         renew_level(&mut self.large, &self.middle);
     }
 
-    /// The place before which nobody from this one on is the first whose need is met.
+    /// The next place to look at: with the best so far, nobody from this place on and before that one is the first whose need is
+    /// met.
     fn next_from(&self, place: usize, bounds: &Bounds, best: &Option<Client>) -> usize
         requires there { IsThere self.now place }
         requires room { place < 2 ^ 62 }
         ensures at_least { place ≤ result }
         ensures passed { (places : List (Option RowOf)) → AreLevels self.now places → (other : ℕ) → place ≤ other → other < result → other < length places → met_with bounds.now best.now (row_at places other) ≡ best.now }
     {
-        if place % 16 != 0 {
+        if place % SPAN != 0 {
             return place;
         }
-        if place % 4096 == 0 && !self.large[place / 4096].may_help(bounds, best) {
-            return place + 4096;
+        if place % LARGE == 0 && !self.large[place / LARGE].may_help(bounds, best) {
+            return place + LARGE;
         }
-        if place % 256 == 0 && !self.middle[place / 256].may_help(bounds, best) {
-            return place + 256;
+        if place % MIDDLE == 0 && !self.middle[place / MIDDLE].may_help(bounds, best) {
+            return place + MIDDLE;
         }
-        if !self.small[place / 16].may_help(bounds, best) {
-            return place + 16;
+        if !self.small[place / SPAN].may_help(bounds, best) {
+            return place + SPAN;
         }
         place
     }

@@ -1,4 +1,4 @@
-ghost use Rattle.std.specs.Prelude.{◌≡◌, Bool, ◌≤◌, ◌<◌, ◌^◌, ℕ, Some, None, IsTrue, IsSome, IfSome, OnOk, OnErr, ◌||◌, not};
+ghost use Rattle.std.specs.Prelude.{◌≡◌, Bool, ◌≤◌, ◌<◌, ◌^◌, Some, None, IsTrue, IsSome, IfSome, OnOk, OnErr, ◌||◌, not};
 ghost use Rattle.cap_word.specs.declared.threads.ThreadId.{ThreadId as ThreadIdOf};
 ghost use Rattle.scheduler.specs.LawfulChoice.{is_eligible};
 ghost use Rattle.stride_rule.specs.Tickets.{AreTickets};
@@ -158,23 +158,9 @@ impl StrideRule {
         }
     }
 
-    /// The thread of the choice that `choose` makes. The choice is noted, and under way from here on. It takes no memory.
-    pub fn take<R: Ready>(&mut self, gate_open: bool, ready: &R) -> Option<ThreadId>
-        requires none_under_way { self.old.running ≡ None }
-        requires room { self.old.noted < 2 ^ 40 }
-        ensures lawful { IsLawfulStrideThread (waiting_of self.old) (is_eligible (R.is_ready ready.now) (R.at_accept ready.now) (R.any_elsewhere ready.now) gate_open) result }
-        ensures noted { IfSome result (λ thread. self.new ≡ after_choice self.old (choice_among (waiting_of self.old) (is_eligible (R.is_ready ready.now) (R.at_accept ready.now) (R.any_elsewhere ready.now) gate_open) thread)) }
-        ensures none { result ≡ None → self.new ≡ self.old }
-    {
-        let Some(choice) = self.choose(gate_open, ready) else {
-            return None;
-        };
-        self.note_choice(&choice);
-        Some(choice.thread)
-    }
-
-    /// The same where the world vouches for the needs that were told. Each thread that waits is asked until some choice finds one
-    /// that isn't eligible. From then on none is: the needs say who may go on. It takes no memory.
+    /// The thread of the choice that `choose` makes, for a world that vouches for the needs that were told. The choice is noted, and
+    /// under way from here on. Each thread that waits is asked until some choice finds one that isn't eligible. From then on none is
+    /// asked: the needs say who may go on. It takes no memory.
     pub fn take_choice<W: Bounded>(&mut self, gate_open: bool, world: &W) -> Option<ThreadId>
         requires none_under_way { self.old.running ≡ None }
         requires known { AreKnown (W.vouches world.now) self.old }

@@ -3,7 +3,7 @@ ghost use Rattle.std.specs.Prelude.{◌≡◌};
 ghost use Rattle.stride_rule.specs.Clients.{goes_before};
 ghost use Rattle.stride_rule.specs.Summaries.{Covers, Includes, may_help as may_help_in};
 
-use crate::clients::Client;
+use crate::clients::{Client, is_earlier};
 use crate::rows::Row;
 use ready_tree::{Bounds, Needs};
 
@@ -30,7 +30,7 @@ impl Summary {
     fn is_after(&self, pass: u64, number: u32) -> bool
         ensures { result ≡ goes_before pass number self.now.pass self.now.number }
     {
-        pass < self.pass || pass == self.pass && number < self.number
+        is_earlier(pass, number, self.pass, self.number)
     }
 
     /// What is known of these places and others.
@@ -75,6 +75,6 @@ impl Summary {
     fn is_before(&self, client: &Client) -> bool
         ensures { result ≡ goes_before self.now.pass self.now.number client.now.pass client.now.thread.number }
     {
-        self.pass < client.pass || self.pass == client.pass && self.number < client.thread.number
+        is_earlier(self.pass, self.number, client.pass, client.thread.number)
     }
 }
