@@ -22,6 +22,7 @@ use schedule_log::read_entry;
 use source_places::Places;
 use std::alloc::{AllocError, Global};
 use thread_core::World;
+use tick_lists::TickList;
 
 /// The last line of a run in which no thread can go on.
 const IDLE: &[u8] = b"stop idle";
@@ -92,9 +93,9 @@ fn show_trace<F: Shelf, K: Sink, E: Sink>(
     let shown = match &wanted.log {
         Some(name) => {
             drop(bytes);
-            show_stored(alloc, wanted, name.as_str(), times.as_slice(), shelf, out)
+            show_stored(alloc, wanted, name.as_str(), &times, shelf, out)
         }
-        None => show_run(alloc, wanted, bytes, times.as_slice(), shelf, out, err),
+        None => show_run(alloc, wanted, bytes, &times, shelf, out, err),
     };
     drop(times);
     shown
@@ -105,7 +106,7 @@ fn show_stored<F: Shelf, K: Sink>(
     alloc: Global,
     wanted: &Wanted,
     name: &str,
-    times: &[u64],
+    times: &TickList,
     shelf: &mut F,
     out: &mut K,
 ) -> Result<u8, Failure> {
@@ -123,7 +124,7 @@ fn show_stored<F: Shelf, K: Sink>(
 fn show_kept<'a, F: Shelf, K: Sink>(
     alloc: Global,
     wanted: &'a Wanted,
-    times: &'a [u64],
+    times: &'a TickList,
     log: &'a [u8],
     shelf: &mut F,
     out: &mut K,
@@ -148,7 +149,7 @@ fn show_run<F: Shelf, K: Sink, E: Sink>(
     alloc: Global,
     wanted: &Wanted,
     trace: Vec<u8>,
-    times: &[u64],
+    times: &TickList,
     shelf: &mut F,
     out: &mut K,
     err: &mut E,
@@ -181,7 +182,7 @@ fn show_run<F: Shelf, K: Sink, E: Sink>(
 fn show_made<'a, F: Shelf, K: Sink>(
     alloc: Global,
     wanted: &'a Wanted,
-    times: &'a [u64],
+    times: &'a TickList,
     log: &'a [u8],
     last: &'a Option<World>,
     shelf: &mut F,
@@ -233,7 +234,7 @@ fn told_of<F: Shelf>(
 #[derive(Clone, Copy)]
 struct Run<'a> {
     subject: Subject<'a>,
-    times: &'a [u64],
+    times: &'a TickList,
     log: &'a [u8],
     world: Option<&'a World>,
     told: Option<&'a Told>,

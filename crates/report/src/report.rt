@@ -19,7 +19,6 @@ use cap_word::SiteKey;
 use report_figures::Window;
 use report_lines::{
     Asked, ChunksLine, Closed, Counts, put_parts, put_queue, put_requests, put_unasked, put_waits,
-    slowest_of,
 };
 use report_text::Text;
 use run_history::{
@@ -30,6 +29,7 @@ use schedule_log::{Entry, Item};
 use source_places::Places;
 use std::alloc::{AllocError, Global};
 use thread_core::World;
+use tick_lists::TickList;
 
 /// What a report takes from the options of the run.
 #[derive(Clone, Copy)]
@@ -63,7 +63,7 @@ pub(crate) struct Course<'a> {
     /// And whether it is one at which threads wait.
     waiting: &'a [bool],
     /// The times of the trace's events, in order, and how many of them came or were dropped so far.
-    times: &'a [u64],
+    times: &'a TickList,
     events: usize,
     /// Whether each event so far is one of the trace's, and each wait one of the source's.
     fits: bool,
@@ -110,7 +110,7 @@ impl<'a> Course<'a> {
         accepts: &'a [bool],
         at_take: &'a [bool],
         waiting: &'a [bool],
-        times: &'a [u64],
+        times: &'a TickList,
         options: Options,
         window: Option<Window>,
     ) -> Course<'a> {
@@ -160,9 +160,21 @@ impl<'a> Course<'a> {
                 ..
             } => self.requests = self.requests.saturating_add(1),
             Happening::Started { .. } => self.started = self.started.saturating_add(1),
-            Happening::Ran { segment, .. } => self.ended = segment.ended,
+            Happening::Lost { .. } => {
+                let chunks = self.options.marks.chunks;
+                self.counts.add(told, chunks, self.spells);
+            }
+            Happening::Ran { segment, .. } => {
+                self.ended = segment.ended;
+                return self.rest(told);
+            }
             _ => (),
         }
+        Ok(())
+    }
+
+    /// Takes what a segment that is over tells: the gate turns only then.
+    fn rest(&mut self, told: Happening) -> Result<(), HistoryError> {
         match self.spells.with(in_range(self.options.marks), told) {
             Some(spells) => {
                 self.spells = spells;
@@ -177,7 +189,7 @@ impl<'a> Course<'a> {
     /// Takes an event that came or was dropped at that clock: the next of the trace, whose time isn't later.
     fn come(&mut self, clock: u64) {
         let is_next = match self.times.get(self.events) {
-            Some(time) => *time <= clock,
+            Some(time) => time <= clock,
             None => false,
         };
         self.fits = self.fits && is_next;
@@ -230,7 +242,7 @@ pub(crate) fn is_one(sites: &[bool], site: u32) -> bool {
 pub struct RunLog<'a> {
     pub log: &'a [u8],
     pub options: Options,
-    pub times: &'a [u64],
+    pub times: &'a TickList,
     pub world: Option<&'a World>,
     pub decided: Option<Decided>,
     pub request: Option<u64>,
@@ -274,7 +286,15 @@ fn put_course(
 ) -> Result<Found, Failure> {
     let accepts = course.accepts;
     let chunks = course.options.marks.chunks;
-    match numbers_of(alloc, run.log, accepts, chunks, run.answering, &mut course) {
+    match numbers_of(
+        alloc,
+        run.log,
+        accepts,
+        run.window,
+        chunks,
+        run.answering,
+        &mut course,
+    ) {
         Ok(reading) => {
             let put = put_numbers(alloc, text, places, run, &course, &reading);
             drop(reading);
@@ -327,18 +347,18 @@ fn put_numbers(
     put_window(text, run.window);
     put_pairing(text, run.answering);
     let scope = course.counts.scope(numbers, run.times);
-    put_requests(alloc, text, scope, course.counts.dropped_in(numbers));
+    let slowest = put_requests(alloc, text, scope, course.counts.dropped_in(numbers))?;
     put_unasked(text, &course.unasked);
     let asked = match run.request {
         Some(number) => Some(Asked::of(numbers, number)),
-        None => slowest_of(scope),
+        None => slowest,
     };
     if let Some(request) = asked {
         put_parts(alloc, text, places, scope, run.log, course.accepts, request)?;
     }
     text.words("waits by place: count, total, median, 99th, greatest\n");
     put_queue(alloc, text, scope);
-    put_waits(alloc, text, places, scope);
+    put_waits(alloc, text, places, numbers);
     put_choices(text, numbers, course, run.decided);
     Ok(put_left(alloc, text, places, &reading.history, course, run.world))
 }

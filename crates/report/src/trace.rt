@@ -1,8 +1,8 @@
 use crate::failures::Failure;
-use crate::push::push;
 use cap_io::Source;
 use cap_text::{Fields, Lines};
 use std::alloc::{AllocError, Global};
+use tick_lists::TickList;
 
 /// The most bytes of a trace that is read.
 const MOST_BYTES: usize = 1_073_741_824;
@@ -12,7 +12,7 @@ const MOST_BYTES: usize = 1_073_741_824;
 pub struct Trace {
     pub bytes: Vec<u8>,
     /// The times of its events, in order, up to the first line that has none.
-    pub times: Vec<u64>,
+    pub times: TickList,
 }
 
 impl Trace {
@@ -20,7 +20,7 @@ impl Trace {
     pub fn read<S: Source>(alloc: Global, source: &mut S) -> Result<Trace, Failure> {
         let mut trace = Trace {
             bytes: Vec::new(alloc),
-            times: Vec::new(alloc),
+            times: TickList::new(alloc),
         };
         match trace.take_all(source) {
             Ok(()) => Ok(trace),
@@ -55,7 +55,7 @@ impl Trace {
     fn note_times(&mut self) -> Result<(), Failure> {
         for line in Lines::new(self.bytes.as_slice()) {
             match time_of(line) {
-                Some(time) => push(&mut self.times, time)?,
+                Some(time) => self.times.push(time)?,
                 None => return Ok(()),
             }
         }

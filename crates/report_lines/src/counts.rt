@@ -2,6 +2,7 @@ use crate::scopes::Scope;
 use report_figures::Window;
 use run_history::{Happening, Numbers, Spells};
 use schedule_log::Item;
+use tick_lists::TickList;
 
 /// What is counted in a window of a run, or in all of it.
 #[derive(Clone, Copy)]
@@ -122,7 +123,7 @@ impl Counts {
     }
 
     /// The scope of these numbers.
-    pub fn scope<'a>(&self, numbers: &'a Numbers, times: &'a [u64]) -> Scope<'a> {
+    pub fn scope<'a>(&self, numbers: &'a Numbers, times: &'a TickList) -> Scope<'a> {
         Scope {
             numbers,
             times,

@@ -14,48 +14,45 @@ struct Latency {
     thread: u32,
 }
 
-/// Appends the lines on requests, of which so many were dropped: how many came, were dropped, were taken and were answered, and how long that took, from a
-/// request's time in the trace to its first answer and to its last one.
-pub fn put_requests(alloc: Global, text: &mut Text, scope: Scope, dropped: u64) {
+/// Appends the lines on requests, of which so many were dropped: how many came, were dropped, were taken and were answered, and how
+/// long that took, from a request's time in the trace to its first answer and to its last one. The answer is the request that took
+/// longest to its last answer, the earliest of such.
+pub fn put_requests(
+    alloc: Global,
+    text: &mut Text,
+    scope: Scope,
+    dropped: u64,
+) -> Result<Option<Asked>, AllocError> {
     let arrivals = scope.numbers.arrivals.len();
     let takes = scope.numbers.takers.len();
+    let mut ticks = Vec::new(alloc);
+    let slowest = add_latencies(&mut ticks, scope, false)?;
     let line = RequestsLine {
         came: scope.count(arrivals),
         dropped,
         taken: scope.count(takes),
-        answered: answered_in(scope),
+        answered: ticks.len() as u64,
     };
     text.line(&line);
     text.words("\n");
-    put_latencies(alloc, text, FIRST, scope, false);
-    put_latencies(alloc, text, LAST, scope, true)
+    put_latencies(text, FIRST, ticks.as_mut_slice(), slowest);
+    drop(ticks);
+    put_lasts(alloc, text, scope)
 }
 
-/// How many requests were answered.
-fn answered_in(scope: Scope) -> u64 {
-    let mut answered: u64 = 0;
-    for request in 0..scope.numbers.answers.len() {
-        if latency_of(scope, request, false).is_some() {
-            answered = answered.saturating_add(1);
-        }
+/// Appends the line on latencies to the last answer. The answer is the request that took longest, the earliest of such.
+fn put_lasts(alloc: Global, text: &mut Text, scope: Scope) -> Result<Option<Asked>, AllocError> {
+    let mut ticks = Vec::new(alloc);
+    let slowest = add_latencies(&mut ticks, scope, true)?;
+    put_latencies(text, LAST, ticks.as_mut_slice(), slowest);
+    match slowest {
+        Some(latency) => Ok(Some(Asked {
+            request: latency.request as u64,
+            is_slowest: true,
+            until: Some(latency.arrived.saturating_add(latency.ticks)),
+        })),
+        None => Ok(None),
     }
-    answered
-}
-
-/// The request that took longest to its last answer, the earliest of such, and the clock of that answer.
-pub fn slowest_of(scope: Scope) -> Option<Asked> {
-    let mut slowest: Option<Latency> = None;
-    for request in 0..scope.numbers.answers.len() {
-        if let Some(latency) = latency_of(scope, request, true) {
-            slowest = slower_of(slowest, latency);
-        }
-    }
-    let latency = slowest?;
-    Some(Asked {
-        request: latency.request as u64,
-        is_slowest: true,
-        until: Some(latency.arrived.saturating_add(latency.ticks)),
-    })
 }
 
 /// The slower of two requests, the first where they took as long.
@@ -111,26 +108,19 @@ const LAST: &str =
     "latency to the last answer: least $, median $, 90th $, 99th $, greatest $ (arrived $, thread $)\n";
 
 /// Appends the line on latencies of that form, in ticks; nothing where there are none.
-fn put_latencies(alloc: Global, text: &mut Text, form: &str, scope: Scope, to_last: bool) {
-    let mut ticks = Vec::new(alloc);
-    match add_latencies(&mut ticks, scope, to_last) {
-        Ok(Some(slowest)) => {
-            if let Some(spread) = spread_of(ticks.as_mut_slice()) {
-                text.form(
-                    form,
-                    &[
-                        spread.least,
-                        spread.median,
-                        spread.ninetieth,
-                        spread.ninety_ninth,
-                        spread.greatest,
-                        slowest.arrived,
-                        u64::from(slowest.thread),
-                    ],
-                )
-            }
-        }
-        Ok(None) => (),
-        Err(AllocError) => text.lack(),
+fn put_latencies(text: &mut Text, form: &str, ticks: &mut [u64], slowest: Option<Latency>) {
+    if let (Some(spread), Some(slowest)) = (spread_of(ticks), slowest) {
+        text.form(
+            form,
+            &[
+                spread.least,
+                spread.median,
+                spread.ninetieth,
+                spread.ninety_ninth,
+                spread.greatest,
+                slowest.arrived,
+                u64::from(slowest.thread),
+            ],
+        )
     }
 }

@@ -17,7 +17,7 @@ mod unasked;
 mod waits;
 
 pub use counts::{Closed, Counts};
-pub use latencies::{put_requests, slowest_of};
+pub use latencies::put_requests;
 pub use lines::{ChunksLine, RequestsLine, WaitsPart};
 pub use queues::put_queue;
 pub use requests::{Asked, put_parts};

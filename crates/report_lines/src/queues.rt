@@ -1,6 +1,5 @@
-use crate::lines::WaitsPart;
 use crate::scopes::Scope;
-use report_figures::{spread_of, total_of};
+use crate::waits::put_part;
 use report_text::Text;
 use run_history::{Queued, queued_of};
 use std::alloc::{AllocError, Global};
@@ -14,11 +13,8 @@ struct Longest {
 
 /// Appends the row on how long requests were queued, from their arrival to the `accept` that took them; nothing where none was taken.
 pub fn put_queue(alloc: Global, text: &mut Text, scope: Scope) {
-    let mut ticks = Vec::new(alloc);
-    match add_queued(&mut ticks, scope) {
-        Ok(Some(longest)) => put_row(text, ticks.as_mut_slice(), longest),
-        Ok(None) => (),
-        Err(AllocError) => text.lack(),
+    if put_row(alloc, text, scope).is_err() {
+        text.lack()
     }
 }
 
@@ -52,25 +48,21 @@ pub(crate) fn ticks_of(queued: Queued) -> u64 {
     queued.taken.saturating_sub(queued.arrived)
 }
 
-/// Appends the row of these ticks.
-fn put_row(text: &mut Text, ticks: &mut [u64], longest: Longest) {
-    let total = total_of(ticks).unwrap_or(u128::MAX);
-    if let Some(spread) = spread_of(ticks) {
-        text.words("  queue, from arrival to accept: ");
-        text.line(&WaitsPart {
-            count: spread.count,
-            total,
-            median: spread.median,
-            ninety_ninth: spread.ninety_ninth,
-            greatest: spread.greatest,
-        });
-        text.form(
-            " (request $, thread $, until $)\n",
-            &[
-                (longest.request as u64).saturating_add(1),
-                u64::from(longest.queued.thread),
-                longest.queued.taken,
-            ],
-        )
-    }
+/// Appends the row.
+fn put_row(alloc: Global, text: &mut Text, scope: Scope) -> Result<(), AllocError> {
+    let mut ticks = Vec::new(alloc);
+    let Some(longest) = add_queued(&mut ticks, scope)? else {
+        return Ok(());
+    };
+    text.words("  queue, from arrival to accept: ");
+    put_part(text, ticks.as_mut_slice());
+    text.form(
+        " (request $, thread $, until $)\n",
+        &[
+            (longest.request as u64).saturating_add(1),
+            u64::from(longest.queued.thread),
+            longest.queued.taken,
+        ],
+    );
+    Ok(())
 }

@@ -1,11 +1,12 @@
 use report_figures::Window;
 use run_history::Numbers;
+use tick_lists::TickList;
 
 /// The numbers of a run and the times of its trace's events, in order, and of which clocks they are told: of all, if there is no window.
 #[derive(Clone, Copy)]
 pub struct Scope<'a> {
     pub numbers: &'a Numbers,
-    pub times: &'a [u64],
+    pub times: &'a TickList,
     pub window: Option<Window>,
 }
 
@@ -21,7 +22,7 @@ impl<'a> Scope<'a> {
     /// The time of the request of that number, from 0 in the order in which requests came, if it is told of.
     pub(crate) fn arrived(&self, request: usize) -> Option<u64> {
         let line = self.numbers.arrivals.get(request)?;
-        let time = *self.times.get(line as usize)?;
+        let time = self.times.get(line as usize)?;
         if self.has(time) { Some(time) } else { None }
     }
 

@@ -1,5 +1,10 @@
 -- The answers that are kept are those that are asked for.
-use Rattle.std.proofs.Common.{◌≡◌, ◌∙◌, ℕ, List, ap}
+use Rattle.std.proofs.Common.{◌≡◌, ◌∙◌, ℕ, List, Option, ap}
+use Rattle.std.specs.BTreeMap.{get}
+use Rattle.std.specs.Ordering.{nat_cmp}
+use Rattle.report_figures.specs.declared.windows.Window.{Window}
+use Rattle.run_history.specs.declared.waits.WaitLists.{WaitLists}
+use Rattle.run_history.specs.Waits.{ticks_kept, longest_kept}
 use Rattle.run_history.specs.declared.answering.Answerer.TheVariants.{OfPairs, OfSpawned}
 use Rattle.run_history.specs.declared.answering.Answering.{Answering}
 use Rattle.run_history.specs.declared.answering.Answering.TheVariants.{ByThread, ByPairing, BySpawn}
@@ -29,14 +34,15 @@ of-spawned (ByPairing Value) told followed numbers same kept = absurd kept
 of-spawned (BySpawn spawned) told followed numbers same kept = λ request. ap (λ v. answers_at v request) same ∙ kept.answers request
 
 -- the numbers of what was told, with these answers
-pub with-answers : (answering : Answering) (chunks : ℕ) (told : List Happening) (old new : Numbers) → IsNumbersOf ByThread chunks told old → KeepsOthers old new → ShowAnswers answering told new → IsNumbersOf answering chunks told new
-with-answers answering chunks told old new was keeps answers = record {
+pub with-answers : (answering : Answering) (window : Option Window) (chunks : ℕ) (told : List Happening) (old new : Numbers) → IsNumbersOf ByThread window chunks told old → KeepsOthers old new → ShowAnswers answering told new → IsNumbersOf answering window chunks told new
+with-answers answering window chunks told old new was keeps answers = record {
   events = keeps.events ∙ was.events;
   arrivals = keeps.arrivals ∙ was.arrivals;
   dropped = keeps.dropped ∙ was.dropped;
   takers = keeps.takers ∙ was.takers;
   taken = keeps.taken ∙ was.taken;
   answers = answers;
-  waits = keeps.waits ∙ was.waits;
+  waits = λ site. ap (λ (w : WaitLists). ticks_kept (get nat_cmp w.sites site)) keeps.waits ∙ was.waits site;
+  longest = λ site. ap (λ (w : WaitLists). longest_kept (get nat_cmp w.sites site)) keeps.waits ∙ was.longest site;
   held = keeps.held ∙ was.held;
 }

@@ -4,12 +4,16 @@ use Rattle.schedule_log.specs.declared.entries.Item.TheVariants.{Arrive, Data}
 use Rattle.run_history.specs.declared.happenings.Happening.{Happening}
 use Rattle.run_history.specs.declared.happenings.Happening.TheVariants.{Came, Lost, Started, Waited, Put, Ran, Nothing}
 use Rattle.run_history.specs.Happenings.{answered_at, clocks_in, most_held, arrivals_from, requests_dropped, drops_request}
-use Rattle.std.specs.Prelude.{count_by, cond}
+use Rattle.std.specs.Prelude.{count_by, cond, fold}
 use Rattle.std.proofs.lemmas.List.{map-append}
-use Rattle.std.proofs.lemmas.List.Sums.{sum_by-append}
+use Rattle.std.proofs.lemmas.List.Elements.{filter-append}
+use Rattle.std.proofs.lemmas.List.Sums.{sum_by-append, fold-append}
+use Rattle.report_figures.specs.declared.windows.Window.{Window}
+use Rattle.run_history.specs.Longest.{longer_at}
+use Rattle.run_history.specs.Waits.{is_told, told_of, with_ticks}
 use Rattle.run_history.specs.declared.answers.Answers.{Answers}
 use Rattle.run_history.specs.declared.happenings.Wait.{Wait}
-use Rattle.run_history.specs.declared.numbers.WaitLength.{WaitLength}
+use Rattle.run_history.specs.declared.waits.WaitLength.{WaitLength}
 use Rattle.run_history.specs.Answers.{with_answer, answers_from}
 use Rattle.run_history.specs.declared.answering.Answering.TheVariants.{ByThread}
 use Rattle.run_history.specs.declared.numbers.Numbers.{Numbers}
@@ -82,9 +86,17 @@ arrivals_from-append line (Put thread value ∷ told) more = arrivals_from-appen
 arrivals_from-append line (Ran segment free ∷ told) more = arrivals_from-append line told more
 arrivals_from-append line (Nothing ∷ told) more = arrivals_from-append line told more
 
+-- what is folded over the waits in a window, and over those of what is told next
+folded-on : {B : Type 0} (f : B → WaitLength → B) (start : B) (window : Option Window) (told more : List Happening) →
+    fold f start (told_of window (wait_lengths (told ++ more))) ≡ fold f (fold f start (told_of window (wait_lengths told))) (told_of window (wait_lengths more))
+folded-on f start window told more =
+    ap (λ l. fold f start (told_of window l)) (wait_lengths-append told more)
+    ∙ (ap (fold f start) (filter-append (λ (wait : WaitLength). is_told window wait.until) (wait_lengths told) (wait_lengths more))
+    ∙ fold-append f start (told_of window (wait_lengths told)) (told_of window (wait_lengths more)))
+
 -- what a log tells and one entry more
-pub numbers_more : (chunks : ℕ) (before : List Happening) (told : Happening) (old new : Numbers) → IsNumbersOf ByThread chunks before old → IsOneMore chunks told old new → IsNumbersOf ByThread chunks (before ++ told ∷ []) new
-numbers_more chunks before told old new was more = record {
+pub numbers_more : (window : Option Window) (chunks : ℕ) (before : List Happening) (told : Happening) (old new : Numbers) → IsNumbersOf ByThread window chunks before old → IsOneMore window chunks told old new → IsNumbersOf ByThread window chunks (before ++ told ∷ []) new
+numbers_more window chunks before told old new was more = record {
   events = more.events ∙ (ap (λ n. n + count_by is_event (told ∷ [])) was.events ∙ sym (sum_by-append (λ x. cond (is_event x) 1 0) before (told ∷ [])));
   arrivals = more.arrivals ∙ (ap (λ l. l ++ arrivals_from old.events (told ∷ [])) was.arrivals ∙ (ap (λ n. arrivals_from 0 before ++ arrivals_from n (told ∷ [])) (let at : old.events ≡ 0 + count_by is_event before = omega (arith, was.events) in at) ∙ sym (arrivals_from-append 0 before (told ∷ []))));
   dropped = more.dropped ∙ (ap (λ n. n + requests_dropped (told ∷ [])) was.dropped ∙ sym (sum_by-append (λ x. cond (drops_request x) 1 0) before (told ∷ [])));
@@ -94,6 +106,9 @@ numbers_more chunks before told old new was more = record {
       ∙ (ap (λ a. answers_from a (answered_at request (told ∷ []))) (was.answers request)
       ∙ (sym (answers_from-append None (answered_at request before) (answered_at request (told ∷ [])))
       ∙ ap (answers_from None) (sym (answered_at-append request before (told ∷ [])))));
-  waits = more.waits ∙ (ap (λ l. l ++ wait_lengths (told ∷ [])) was.waits ∙ sym (wait_lengths-append before (told ∷ [])));
+  waits = λ site. more.waits site ∙ (ap (λ l. fold (with_ticks site) l (told_of window (wait_lengths (told ∷ [])))) (was.waits site)
+      ∙ sym (folded-on (with_ticks site) [] window before (told ∷ [])));
+  longest = λ site. more.longest site ∙ (ap (λ l. fold (longer_at site) l (told_of window (wait_lengths (told ∷ [])))) (was.longest site)
+      ∙ sym (folded-on (longer_at site) None window before (told ∷ [])));
   held = more.held ∙ (ap (λ n. max n (most_held chunks (told ∷ []))) was.held ∙ sym (most_held-append chunks before (told ∷ [])));
 }

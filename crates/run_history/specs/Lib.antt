@@ -15,3 +15,4 @@ pub mod Queues
 pub mod Spells
 pub mod Takes
 pub mod Unasked
+pub mod Waits

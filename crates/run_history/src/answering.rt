@@ -31,7 +31,8 @@ pub(crate) enum Answerer<'a> {
 }
 
 impl<'a> Answerer<'a> {
-    ghost use Rattle.std.specs.Prelude.{◌≡◌, ℕ, List, [], ◌∷◌, ◌++◌, OnOk};
+    ghost use Rattle.std.specs.Prelude.{◌≡◌, ℕ, List, [], ◌∷◌, ◌++◌, OnOk, Option};
+    ghost use Rattle.report_figures.specs.declared.windows.Window.{Window};
     ghost use Rattle.run_history.specs.declared.answering.Answering.{Answering};
     ghost use Rattle.run_history.specs.declared.answering.Answering.TheVariants.{ByThread};
     ghost use Rattle.run_history.specs.declared.happenings.Happening.{Happening};
@@ -73,7 +74,7 @@ impl<'a> Answerer<'a> {
 
     /// The numbers of a run take these answers in place of those of the threads that took the requests.
     pub(crate) fn hand_over(&mut self, alloc: Global, numbers: &mut Numbers)
-        ensures { (answering : Answering) → (chunks : ℕ) → (told : List Happening) → Keeps answering told self.old → IsNumbersOf ByThread chunks told numbers.old → IsNumbersOf answering chunks told numbers.new }
+        ensures { (answering : Answering) → (window : Option Window) → (chunks : ℕ) → (told : List Happening) → Keeps answering told self.old → IsNumbersOf ByThread window chunks told numbers.old → IsNumbersOf answering window chunks told numbers.new }
     {
         match self {
             Answerer::OfThreads => (),

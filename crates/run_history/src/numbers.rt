@@ -1,21 +1,11 @@
 use crate::answers::AnswerList;
 use crate::happenings::{Happening, Segment, Wait};
 use crate::history::HistoryError;
+use crate::waits::{WaitLength, WaitLists, is_told};
+use report_figures::Window;
 use schedule_log::Item;
 use std::alloc::Global;
 use tick_lists::TickList;
-
-/// How long a wait at a site was.
-#[derive(Clone, Copy)]
-pub struct WaitLength {
-    pub site: u32,
-    /// The thread that waited.
-    pub thread: u32,
-    /// In ticks.
-    pub ticks: u64,
-    /// The clock at which it ended.
-    pub until: u64,
-}
 
 /// The numbers of a run so far.
 #[derive(Drop)]
@@ -32,14 +22,15 @@ pub struct Numbers {
     pub taken: TickList,
     /// When requests were answered.
     pub answers: AnswerList,
-    /// All waits, in order.
-    pub waits: Vec<WaitLength>,
+    /// The waits, by their sites: those that ended in the window, if there is one.
+    pub waits: WaitLists,
     /// The most chunks that were held after a segment.
     pub most_held: u32,
 }
 
 impl Numbers {
-    ghost use Rattle.std.specs.Prelude.{◌≡◌, ℕ, ◌++◌, ◌∷◌, [], List, OnOk};
+    ghost use Rattle.std.specs.Prelude.{◌≡◌, ℕ, ◌++◌, ◌∷◌, [], List, OnOk, Option};
+    ghost use Rattle.report_figures.specs.declared.windows.Window.{Window};
     ghost use Rattle.run_history.specs.declared.answering.Answering.TheVariants.{ByThread};
     ghost use Rattle.run_history.specs.declared.happenings.Happening.{Happening};
     ghost use Rattle.run_history.specs.declared.happenings.Happening.TheVariants.{Came, Lost, Waited, Ran};
@@ -50,7 +41,7 @@ impl Numbers {
 
     /// The numbers before the first entry. It takes no memory.
     pub fn new(alloc: Global) -> Numbers
-        ensures { (chunks : ℕ) → IsNumbersOf ByThread chunks [] result }
+        ensures { (window : Option Window) → (chunks : ℕ) → IsNumbersOf ByThread window chunks [] result }
     {
         Numbers {
             events: 0,
@@ -59,20 +50,25 @@ impl Numbers {
             takers: Vec::new(alloc),
             taken: TickList::new(alloc),
             answers: AnswerList::new(alloc),
-            waits: Vec::new(alloc),
+            waits: WaitLists::new(alloc),
             most_held: 0,
         }
     }
 
-    /// What one entry more tells, of a run with so many chunks. After a refusal nothing is said of the numbers.
-    pub fn add(&mut self, told: Happening, chunks: u32) -> Result<(), HistoryError>
-        ensures { OnOk result (IsOneMore chunks told self.old self.new) }
+    /// What one entry more tells, of a run with so many chunks; a wait counts if it ended in the window. After a refusal nothing is said of the numbers.
+    pub fn add(
+        &mut self,
+        told: Happening,
+        window: Option<Window>,
+        chunks: u32,
+    ) -> Result<(), HistoryError>
+        ensures { OnOk result (IsOneMore window chunks told self.old self.new) }
     {
         match told {
             Happening::Came { item, .. } => self.come(item),
             Happening::Lost { item, .. } => self.lose(item),
             Happening::Started { .. } => Ok(()),
-            Happening::Waited(wait) => self.wait(wait),
+            Happening::Waited(wait) => self.wait(wait, window),
             Happening::Put { .. } => Ok(()),
             Happening::Ran { segment, free } => self.rest(segment, chunks, free),
             Happening::Nothing => Ok(()),
@@ -81,7 +77,7 @@ impl Numbers {
 
     /// An event came.
     fn come(&mut self, item: Item) -> Result<(), HistoryError>
-        ensures { (chunks clock : ℕ) → OnOk result (IsOneMore chunks (Came clock item) self.old self.new) }
+        ensures { (window : Option Window) → (chunks clock : ℕ) → OnOk result (IsOneMore window chunks (Came clock item) self.old self.new) }
     {
         let line = self.events;
         let Some(events) = line.checked_add(1) else {
@@ -99,7 +95,7 @@ impl Numbers {
 
     /// An event was dropped.
     fn lose(&mut self, item: Item) -> Result<(), HistoryError>
-        ensures { (chunks clock : ℕ) → OnOk result (IsOneMore chunks (Lost clock item) self.old self.new) }
+        ensures { (window : Option Window) → (chunks clock : ℕ) → OnOk result (IsOneMore window chunks (Lost clock item) self.old self.new) }
     {
         let Some(events) = self.events.checked_add(1) else {
             return Err(HistoryError::Count);
@@ -118,8 +114,8 @@ impl Numbers {
     }
 
     /// A wait is over.
-    fn wait(&mut self, wait: Wait) -> Result<(), HistoryError>
-        ensures { (chunks : ℕ) → OnOk result (IsOneMore chunks (Waited wait) self.old self.new) }
+    fn wait(&mut self, wait: Wait, window: Option<Window>) -> Result<(), HistoryError>
+        ensures { (chunks : ℕ) → OnOk result (IsOneMore window chunks (Waited wait) self.old self.new) }
     {
         let Some(ticks) = wait.until.checked_sub(wait.since) else {
             return Err(HistoryError::Count);
@@ -130,9 +126,9 @@ impl Numbers {
             ticks,
             until: wait.until,
         };
-        let Ok(()) = self.waits.push(length) else {
-            return Err(HistoryError::Memory);
-        };
+        if is_told(window, wait.until) {
+            self.waits.add(length)?;
+        }
         match wait.request {
             None => Ok(()),
             Some(_) => self.take(wait),
@@ -156,7 +152,7 @@ impl Numbers {
 
     /// A segment is over, with so many chunks free.
     fn rest(&mut self, segment: Segment, chunks: u32, free: u32) -> Result<(), HistoryError>
-        ensures { OnOk result (IsOneMore chunks (Ran segment free) self.old self.new) }
+        ensures { (window : Option Window) → OnOk result (IsOneMore window chunks (Ran segment free) self.old self.new) }
     {
         match self.answer(segment) {
             Ok(()) => {

@@ -3,6 +3,7 @@ ghost use Rattle.run_history.specs.Queues.{queued_by, queued_in};
 ghost use Rattle.tick_lists.specs.Ticks.{ticks_in};
 
 use crate::numbers::Numbers;
+use tick_lists::TickList;
 
 /// How a request was queued before it was taken.
 #[derive(Clone, Copy)]
@@ -16,14 +17,14 @@ pub struct Queued {
 }
 
 /// How the request of that number was queued, where it was taken. `times` are the times of the trace's events, in order.
-pub fn queued_of(numbers: &Numbers, times: &[u64], request: usize) -> Option<Queued>
-    ensures { result ≡ queued_in times.now (ticks_in numbers.now.arrivals) numbers.now.takers.items (ticks_in numbers.now.taken) request }
+pub fn queued_of(numbers: &Numbers, times: &TickList, request: usize) -> Option<Queued>
+    ensures { result ≡ queued_in (ticks_in times.now) (ticks_in numbers.now.arrivals) numbers.now.takers.items (ticks_in numbers.now.taken) request }
 {
     let thread = numbers.takers.as_slice().get(request).copied();
     let clock = numbers.taken.get(request);
     match numbers.arrivals.get(request) {
         None => None,
-        Some(line) => queued_by(times.get(line as usize).copied(), thread, clock),
+        Some(line) => queued_by(times.get(line as usize), thread, clock),
     }
 }
 

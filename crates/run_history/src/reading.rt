@@ -12,6 +12,7 @@ use crate::happenings::Happening;
 use crate::history::{History, HistoryError};
 use crate::numbers::Numbers;
 use cap_text::Lines;
+use report_figures::Window;
 use schedule_log::{Entry, LogError, read_entry};
 use std::alloc::Global;
 
@@ -50,16 +51,17 @@ struct Course<'a> {
 }
 
 /// The numbers of the run that has this log, with so many chunks, where these outputs are the answers. At the number of each site
-/// stands in `accepts` whether its call is `accept`. It keeps no entry: the log is read once, line by line, and `watch` sees each entry.
+/// stands in `accepts` whether its call is `accept`. With a window the waits are those that ended in it. It keeps no entry: the log is read once, line by line, and `watch` sees each entry.
 pub fn numbers_of<W: Watch>(
     alloc: Global,
     log: &[u8],
     accepts: &[bool],
+    window: Option<Window>,
     chunks: u32,
     answering: Answering,
     watch: &mut W,
 ) -> Result<Reading, ReadError>
-    ensures numbers { (entries : List Entry) → AllByRecursion FitsEntry entries → log.now ≡ log_text entries → IfOk result (λ reading. IsNumbersOf answering.entry chunks (happenings accepts.now entries) reading.numbers) }
+    ensures numbers { (entries : List Entry) → AllByRecursion FitsEntry entries → log.now ≡ log_text entries → IfOk result (λ reading. IsNumbersOf answering.entry window chunks (happenings accepts.now entries) reading.numbers) }
     ensures line { result ≡ Err ReadError.Line → (entries : List Entry) → AllByRecursion FitsEntry entries → log.now ≡ log_text entries → ⊥ }
 {
     let history = History::new(alloc);
@@ -73,7 +75,7 @@ pub fn numbers_of<W: Watch>(
     for line in Lines::new(log) {
         match read_entry(line) {
             Ok(entry) => {
-                course.take(&entry, accepts, chunks, watch)?;
+                course.take(&entry, accepts, window, chunks, watch)?;
             }
             Err(LogError::Line) => return Err(ReadError::Line),
         }
@@ -101,16 +103,17 @@ impl<'a> Course<'a> {
         &mut self,
         entry: &Entry,
         accepts: &[bool],
+        window: Option<Window>,
         chunks: u32,
         watch: &mut W,
     ) -> Result<(), ReadError>
         ensures known { OnOk result (self.new.history ≡ with_entry accepts.now entry.now self.old.history) }
-        ensures more { OnOk result (IsOneMore chunks (happening accepts.now entry.now self.old.history) self.old.numbers self.new.numbers) }
+        ensures more { OnOk result (IsOneMore window chunks (happening accepts.now entry.now self.old.history) self.old.numbers self.new.numbers) }
         ensures kept { (answering : Answering) → (before : List Happening) → Keeps answering before self.old.answerer → OnOk result (Keeps answering (before ++ happening accepts.now entry.now self.old.history ∷ []) self.new.answerer) }
         ensures line { result ≡ Err ReadError.Line → ⊥ }
     {
         match self.history.tell(entry, accepts) {
-            Ok(told) => self.take_told(entry, told, chunks, watch),
+            Ok(told) => self.take_told(entry, told, window, chunks, watch),
             Err(error) => Err(of_history(error)),
         }
     }
@@ -120,16 +123,17 @@ impl<'a> Course<'a> {
         &mut self,
         entry: &Entry,
         told: Happening,
+        window: Option<Window>,
         chunks: u32,
         watch: &mut W,
     ) -> Result<(), ReadError>
         ensures known { self.new.history ≡ self.old.history }
-        ensures more { OnOk result (IsOneMore chunks told self.old.numbers self.new.numbers) }
+        ensures more { OnOk result (IsOneMore window chunks told self.old.numbers self.new.numbers) }
         ensures kept { (answering : Answering) → (before : List Happening) → Keeps answering before self.old.answerer → OnOk result (Keeps answering (before ++ told ∷ []) self.new.answerer) }
         ensures line { result ≡ Err ReadError.Line → ⊥ }
     {
         let named = self.answerer.named(told);
-        match self.numbers.add(told, chunks) {
+        match self.numbers.add(told, window, chunks) {
             Ok(()) => match self.answerer.add(told) {
                 Ok(()) => match watch.see(entry, told, named) {
                     Ok(()) => Ok(()),

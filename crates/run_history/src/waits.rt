@@ -1,0 +1,127 @@
+// The waits of a run, by the sites at which threads waited.
+ghost use Rattle.std.specs.Prelude.{◌≡◌, Some};
+ghost use Rattle.run_history.specs.Longest.{longer_of};
+ghost use Rattle.run_history.specs.Waits.{is_told};
+
+use crate::history::HistoryError;
+use report_figures::Window;
+use std::alloc::Global;
+use std::collections::BTreeMap;
+use tick_lists::TickList;
+
+/// How long a wait at a site was.
+#[derive(Clone, Copy)]
+pub struct WaitLength {
+    pub site: u32,
+    /// The thread that waited.
+    pub thread: u32,
+    /// In ticks.
+    pub ticks: u64,
+    /// The clock at which it ended.
+    pub until: u64,
+}
+
+/// The waits at a site.
+#[derive(Drop)]
+pub struct SiteWaits {
+    /// For how many ticks each was, in order.
+    pub ticks: TickList,
+    /// The longest, the earliest of such.
+    pub longest: WaitLength,
+}
+
+/// Waits, by their sites: at a site with none stands nothing.
+#[derive(Drop)]
+pub struct WaitLists {
+    alloc: Global,
+    pub sites: BTreeMap<u32, SiteWaits>,
+}
+
+impl SiteWaits {
+    ghost use Rattle.std.specs.Prelude.{◌≡◌, ◌++◌, ◌∷◌, [], Some, OnOk, IfOk};
+    ghost use Rattle.run_history.specs.Longest.{longer_of};
+    ghost use Rattle.tick_lists.specs.Ticks.{ticks_in};
+
+    /// The first wait at a site.
+    fn first(alloc: Global, wait: WaitLength) -> Result<SiteWaits, HistoryError>
+        ensures ticks { IfOk result (λ waits. ticks_in waits.ticks ≡ wait.ticks ∷ []) }
+        ensures longest { IfOk result (λ waits. waits.longest ≡ wait) }
+    {
+        let mut ticks = TickList::new(alloc);
+        let Ok(()) = ticks.push(wait.ticks) else {
+            return Err(HistoryError::Memory);
+        };
+        Ok(SiteWaits {
+            ticks,
+            longest: wait,
+        })
+    }
+
+    /// One wait more.
+    fn add(&mut self, wait: WaitLength) -> Result<(), HistoryError>
+        ensures ticks { OnOk result (ticks_in self.new.ticks ≡ ticks_in self.old.ticks ++ wait.ticks ∷ []) }
+        ensures longest { OnOk result (self.new.longest ≡ longer_of (Some self.old.longest) wait) }
+    {
+        self.longest = longer_of(self.longest, wait);
+        match self.ticks.push(wait.ticks) {
+            Ok(()) => Ok(()),
+            Err(_) => Err(HistoryError::Memory),
+        }
+    }
+}
+
+impl WaitLists {
+    ghost use Rattle.std.specs.Prelude.{◌≡◌, ℕ, None, OnOk};
+    ghost use Rattle.std.specs.BTreeMap.{get};
+    ghost use Rattle.std.specs.Ordering.{nat_cmp};
+    ghost use Rattle.run_history.specs.Longest.{longer_at};
+    ghost use Rattle.run_history.specs.Waits.{ticks_kept, longest_kept, with_ticks};
+
+    /// No waits. It takes no memory.
+    pub fn new(alloc: Global) -> WaitLists
+        ensures { (site : ℕ) → get nat_cmp result.sites site ≡ None }
+    {
+        WaitLists {
+            alloc,
+            sites: BTreeMap::new(alloc),
+        }
+    }
+
+    /// One wait more. After a refusal nothing is said.
+    pub fn add(&mut self, wait: WaitLength) -> Result<(), HistoryError>
+        ensures ticks { (site : ℕ) → OnOk result (ticks_kept (get nat_cmp self.new.sites site) ≡ with_ticks site (ticks_kept (get nat_cmp self.old.sites site)) wait) }
+        ensures longest { (site : ℕ) → OnOk result (longest_kept (get nat_cmp self.new.sites site) ≡ longer_at site (longest_kept (get nat_cmp self.old.sites site)) wait) }
+    {
+        if let Some(waits) = self.sites.get_mut(&wait.site) {
+            return waits.add(wait);
+        }
+        match SiteWaits::first(self.alloc, wait) {
+            Ok(waits) => match self.sites.insert(wait.site, waits) {
+                Ok(_) => Ok(()),
+                Err(_) => Err(HistoryError::Memory),
+            },
+            Err(error) => Err(error),
+        }
+    }
+}
+
+/// The longer of two waits, the first where they are as long.
+fn longer_of(before: WaitLength, wait: WaitLength) -> WaitLength
+    ensures { result ≡ longer_of (Some before) wait }
+{
+    if before.ticks < wait.ticks {
+        wait
+    } else {
+        before
+    }
+}
+
+/// Whether a clock is in the window, if there is one.
+pub(crate) fn is_told(window: Option<Window>, clock: u64) -> bool
+    ensures { result ≡ is_told window clock }
+{
+    match window {
+        Some(window) => window.has(clock),
+        None => true,
+    }
+}
