@@ -11,8 +11,9 @@
 // the spreads of latencies and waits need: a few numbers for each request and each wait. Their clauses are over `IsNumbersOf` and
 // `IsOneMore` (specs/Numbers.antt). `numbers_of` reads a whole log once for them, and a `Watch` looks on, as with the wait at `take`
 // that each thread went past last (`Takes`, over specs/Takes.antt), and with what threads put that took no request (`Unasked`, over
-// specs/Unasked.antt). How long a request was queued is read off the numbers (`queued_of`, over specs/Queues.antt), and so is the
-// longest wait at a site (`longest_at`, over specs/Longest.antt). The parts of one request's time (`Parts`) are over specs/Parts.antt.
+// specs/Unasked.antt). How long a request was queued is read off the numbers (`queued_of`, over specs/Queues.antt). The waits stand
+// by their sites (`WaitLists`, over specs/Waits.antt), each site with its longest (specs/Longest.antt). The parts of one request's
+// time (`Parts`) are over specs/Parts.antt.
 //
 // Which outputs are the answers to a request (`Answering`) is over `answers_by` (specs/AnsweredBy.antt): those of the thread that
 // took it, those that a user says (specs/PairedRuns.antt), or also those of the threads that work for it (specs/FollowedRuns.antt).

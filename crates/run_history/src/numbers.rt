@@ -55,7 +55,8 @@ impl Numbers {
         }
     }
 
-    /// What one entry more tells, of a run with so many chunks; a wait counts if it ended in the window. After a refusal nothing is said of the numbers.
+    /// What one entry more tells, of a run with so many chunks; a wait counts if it ended in the window. After a refusal nothing
+    /// is said of the numbers.
     pub fn add(
         &mut self,
         told: Happening,
