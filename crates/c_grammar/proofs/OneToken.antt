@@ -8,7 +8,7 @@ use Rattle.c_lex.specs.declared.tokens.TokenKind.TheVariants as kinds
 use Rattle.c_grammar.specs.declared.errors.ParseError.{ParseError}
 use Rattle.c_grammar.specs.declared.errors.ParseError.TheVariants.{Unexpected, TooDeep}
 use Rattle.c_grammar.specs.declared.signs.Sign.TheVariants as signs
-use Rattle.c_grammar.specs.Signs.{sign_of_lem}
+use Rattle.c_grammar.specs.Signs.{sign_of_token}
 use Rattle.c_grammar.specs.Machine.{Task, step, open_tasks}
 use Rattle.c_grammar.specs.Reading.{sign_at, finishes, run}
 use Rattle.c_grammar.specs.Tokens.{Passes, PassesNumber}
@@ -59,8 +59,8 @@ run_deep end todo token tokens {after = a} e h =
 kind_of : {a b : TokenKind} → Some a ≡ Some b → a ≡ b
 kind_of e = cc
 
-kind_number : (kind : TokenKind) (v : ℕ) → kind ≡ kinds.Number v → sign_of_lem kind ≡ signs.Number
-kind_number kind v e = ap sign_of_lem e
+kind_number : (kind : TokenKind) (v : ℕ) → kind ≡ kinds.Number v → sign_of_token kind ≡ signs.Number
+kind_number kind v e = ap sign_of_token e
 
 pub number_passes : (before : List Token) {value : ℕ} {after : List Token} → PassesNumber before value after → Passes signs.Number before after
 number_passes [] p = let e = p.is_next in cc

@@ -7,17 +7,17 @@ use Rattle.c_tree.specs.declared.operators.UnaryOperator.{UnaryOperator}
 use Rattle.c_tree.specs.RawTrees.{NameTree, RawExprTree, RawExprTrees, RawNumber, RawName, RawElement, RawUnary, RawParenthesized, RawConditional, RawCall, RawTableCall, NoExprs, And, RawSimpleTree, RawDeclareScalar, RawDeclareArray, RawDeclareWith, RawSet, RawSetElement, RawCalling, RawTableCalling, RawStmtTree, RawStmtTrees, RawDo, RawEmpty, RawBlock, RawIf, RawIfElse, RawWhile, RawFor, RawBreak, RawContinue, RawReturn, NoRawStmts, RawThen, RawItemTree, RawGlobal, RawGlobalArray, RawTableItem, RawPrototypeItem, RawFunctionItem}
 use Rattle.c_tree.specs.RawViews.{raw_joined}
 use Rattle.c_grammar.specs.declared.signs.Sign.TheVariants as signs
-use Rattle.c_grammar.specs.Operators.{unary_of_lem, infix_of_lem, level_of_lem}
+use Rattle.c_grammar.specs.Operators.{unary_operator_of, infix_operator_of, level_of_infix}
 use Rattle.c_grammar.specs.Tokens.{next_sign, next_kind, next_at, rest_of, Passes, PassesName, PassesNumber}
 
 -- the next token is this operator before an operand, or between two
 pub record PassesPrefix (before : List Token) (operator : UnaryOperator) (after : List Token) : Type 0 where
-  pub is_next : unary_of_lem (next_kind before) ≡ Some operator
+  pub is_next : unary_operator_of (next_kind before) ≡ Some operator
   pub behind : after ≡ rest_of before
 
 pub record PassesInfix (level : ℕ) (before : List Token) (operator : Infix) (after : List Token) : Type 0 where
-  pub is_next : infix_of_lem (next_kind before) ≡ Some operator
-  pub of_level : level_of_lem operator ≡ level
+  pub is_next : infix_operator_of (next_kind before) ≡ Some operator
+  pub of_level : level_of_infix operator ≡ level
   pub behind : after ≡ rest_of before
 
 mutual

@@ -4,13 +4,13 @@ use Rattle.c_lex.specs.declared.tokens.Token.{Token}
 use Rattle.c_grammar.specs.declared.errors.ParseError.{ParseError}
 use Rattle.c_grammar.specs.declared.errors.ParseError.TheVariants.{Unexpected, TooDeep}
 use Rattle.c_grammar.specs.declared.signs.Sign.{Sign}
-use Rattle.c_grammar.specs.Signs.{sign_of_lem}
+use Rattle.c_grammar.specs.Signs.{sign_of_token}
 use Rattle.c_grammar.specs.Machine as tasks
 use Rattle.c_grammar.specs.Machine.{Task, step, open_tasks}
 
 -- what a token is to the grammar
 abbrev pub sign_at : Token → Sign
-sign_at token = sign_of_lem token.kind
+sign_at token = sign_of_token token.kind
 
 abbrev pub signs_of : List Token → List Sign
 signs_of [] = []

@@ -16,57 +16,57 @@ pub data Level : Type 0 where
 abbrev pub Loosest : Level
 Loosest = Looser (Looser (Looser (Looser (Looser (Looser (Looser (Looser (Looser Tightest))))))))
 
-abbrev pub keyword_sign_lem : Keyword → Sign
-keyword_sign_lem keywords.Int = signs.Int
-keyword_sign_lem keywords.Void = signs.Void
-keyword_sign_lem keywords.If = signs.If
-keyword_sign_lem keywords.Else = signs.Else
-keyword_sign_lem keywords.While = signs.While
-keyword_sign_lem keywords.For = signs.For
-keyword_sign_lem keywords.Break = signs.Break
-keyword_sign_lem keywords.Continue = signs.Continue
-keyword_sign_lem keywords.Return = signs.Return
-keyword_sign_lem _ = signs.Unused
+abbrev pub sign_of_keyword : Keyword → Sign
+sign_of_keyword keywords.Int = signs.Int
+sign_of_keyword keywords.Void = signs.Void
+sign_of_keyword keywords.If = signs.If
+sign_of_keyword keywords.Else = signs.Else
+sign_of_keyword keywords.While = signs.While
+sign_of_keyword keywords.For = signs.For
+sign_of_keyword keywords.Break = signs.Break
+sign_of_keyword keywords.Continue = signs.Continue
+sign_of_keyword keywords.Return = signs.Return
+sign_of_keyword _ = signs.Unused
 
-abbrev pub mark_sign_lem : Mark → Sign
-mark_sign_lem marks.LeftParenthesis = signs.LeftParenthesis
-mark_sign_lem marks.RightParenthesis = signs.RightParenthesis
-mark_sign_lem marks.LeftBracket = signs.LeftBracket
-mark_sign_lem marks.RightBracket = signs.RightBracket
-mark_sign_lem marks.LeftBrace = signs.LeftBrace
-mark_sign_lem marks.RightBrace = signs.RightBrace
-mark_sign_lem marks.Comma = signs.Comma
-mark_sign_lem marks.Semicolon = signs.Semicolon
-mark_sign_lem marks.Question = signs.Question
-mark_sign_lem marks.Colon = signs.Colon
-mark_sign_lem marks.Assign = signs.Assign
-mark_sign_lem marks.Plus = signs.Plus
-mark_sign_lem marks.Minus = signs.Minus
-mark_sign_lem marks.Star = signs.Star
-mark_sign_lem marks.Exclamation = signs.Prefix
-mark_sign_lem marks.Tilde = signs.Prefix
-mark_sign_lem marks.Slash = signs.Multiplicative
-mark_sign_lem marks.Percent = signs.Multiplicative
-mark_sign_lem marks.ShiftLeft = signs.Shift
-mark_sign_lem marks.ShiftRight = signs.Shift
-mark_sign_lem marks.Less = signs.Relational
-mark_sign_lem marks.LessEqual = signs.Relational
-mark_sign_lem marks.Greater = signs.Relational
-mark_sign_lem marks.GreaterEqual = signs.Relational
-mark_sign_lem marks.Equal = signs.Equality
-mark_sign_lem marks.NotEqual = signs.Equality
-mark_sign_lem marks.Ampersand = signs.BitAnd
-mark_sign_lem marks.Caret = signs.BitXor
-mark_sign_lem marks.Bar = signs.BitOr
-mark_sign_lem marks.AndAnd = signs.LogicalAnd
-mark_sign_lem marks.OrOr = signs.LogicalOr
-mark_sign_lem _ = signs.Unused
+abbrev pub sign_of_mark : Mark → Sign
+sign_of_mark marks.LeftParenthesis = signs.LeftParenthesis
+sign_of_mark marks.RightParenthesis = signs.RightParenthesis
+sign_of_mark marks.LeftBracket = signs.LeftBracket
+sign_of_mark marks.RightBracket = signs.RightBracket
+sign_of_mark marks.LeftBrace = signs.LeftBrace
+sign_of_mark marks.RightBrace = signs.RightBrace
+sign_of_mark marks.Comma = signs.Comma
+sign_of_mark marks.Semicolon = signs.Semicolon
+sign_of_mark marks.Question = signs.Question
+sign_of_mark marks.Colon = signs.Colon
+sign_of_mark marks.Assign = signs.Assign
+sign_of_mark marks.Plus = signs.Plus
+sign_of_mark marks.Minus = signs.Minus
+sign_of_mark marks.Star = signs.Star
+sign_of_mark marks.Exclamation = signs.Prefix
+sign_of_mark marks.Tilde = signs.Prefix
+sign_of_mark marks.Slash = signs.Multiplicative
+sign_of_mark marks.Percent = signs.Multiplicative
+sign_of_mark marks.ShiftLeft = signs.Shift
+sign_of_mark marks.ShiftRight = signs.Shift
+sign_of_mark marks.Less = signs.Relational
+sign_of_mark marks.LessEqual = signs.Relational
+sign_of_mark marks.Greater = signs.Relational
+sign_of_mark marks.GreaterEqual = signs.Relational
+sign_of_mark marks.Equal = signs.Equality
+sign_of_mark marks.NotEqual = signs.Equality
+sign_of_mark marks.Ampersand = signs.BitAnd
+sign_of_mark marks.Caret = signs.BitXor
+sign_of_mark marks.Bar = signs.BitOr
+sign_of_mark marks.AndAnd = signs.LogicalAnd
+sign_of_mark marks.OrOr = signs.LogicalOr
+sign_of_mark _ = signs.Unused
 
-abbrev pub sign_of_lem : TokenKind → Sign
-sign_of_lem kinds.Name = signs.Name
-sign_of_lem (kinds.Number value) = signs.Number
-sign_of_lem (kinds.Keyword keyword) = keyword_sign_lem keyword
-sign_of_lem (kinds.Mark mark) = mark_sign_lem mark
+abbrev pub sign_of_token : TokenKind → Sign
+sign_of_token kinds.Name = signs.Name
+sign_of_token (kinds.Number value) = signs.Number
+sign_of_token (kinds.Keyword keyword) = sign_of_keyword keyword
+sign_of_token (kinds.Mark mark) = sign_of_mark mark
 
 -- the sign is an operator between operands, of this level
 pub data IsOperator : Level → Sign → Type 0 where

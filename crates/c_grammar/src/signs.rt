@@ -1,6 +1,6 @@
 // What the grammar tells tokens apart by.
 ghost use Rattle.std.specs.Prelude.{◌≡◌};
-ghost use Rattle.c_grammar.specs.Signs.{sign_of_lem, keyword_sign_lem, mark_sign_lem};
+ghost use Rattle.c_grammar.specs.Signs.{sign_of_token, sign_of_keyword, sign_of_mark};
 
 use c_lex::{Keyword, Mark, TokenKind};
 
@@ -57,7 +57,7 @@ pub enum Sign {
 
 /// What a token of this kind is to the grammar.
 pub fn sign_of(kind: TokenKind) -> Sign
-    ensures { result ≡ sign_of_lem kind }
+    ensures { result ≡ sign_of_token kind }
 {
     match kind {
         TokenKind::Name => Sign::Name,
@@ -68,7 +68,7 @@ pub fn sign_of(kind: TokenKind) -> Sign
 }
 
 fn keyword_sign(keyword: Keyword) -> Sign
-    ensures { result ≡ keyword_sign_lem keyword }
+    ensures { result ≡ sign_of_keyword keyword }
 {
     match keyword {
         Keyword::Int => Sign::Int,
@@ -85,7 +85,7 @@ fn keyword_sign(keyword: Keyword) -> Sign
 }
 
 fn mark_sign(mark: Mark) -> Sign
-    ensures { result ≡ mark_sign_lem mark }
+    ensures { result ≡ sign_of_mark mark }
 {
     match mark {
         Mark::LeftParenthesis => Sign::LeftParenthesis,

@@ -9,8 +9,8 @@ use Rattle.c_tree.specs.declared.operators.Infix.{Infix}
 use Rattle.c_tree.specs.declared.operators.UnaryOperator.{UnaryOperator}
 use Rattle.c_grammar.specs.declared.signs.Sign.{Sign}
 use Rattle.c_grammar.specs.declared.signs.Sign.TheVariants as signs
-use Rattle.c_grammar.specs.Signs.{Level, Tightest, Looser, IsOperator, IsPrefix, sign_of_lem}
-use Rattle.c_grammar.specs.Operators.{unary_of_lem, infix_of_lem, level_of_lem}
+use Rattle.c_grammar.specs.Signs.{Level, Tightest, Looser, IsOperator, IsPrefix, sign_of_token}
+use Rattle.c_grammar.specs.Operators.{unary_operator_of, infix_operator_of, level_of_infix}
 use Rattle.c_grammar.specs.Tokens.{next_name, Passes, PassesName, PassesNumber}
 use Rattle.c_grammar.specs.Grammar.{PassesPrefix, PassesInfix}
 use Rattle.c_grammar.specs.Reading.{sign_at}
@@ -39,9 +39,9 @@ level_of_sign _ = None
 
 abbrev level_in : Option Infix → Option ℕ
 level_in None = None
-level_in (Some operator) = Some (level_of_lem operator)
+level_in (Some operator) = Some (level_of_infix operator)
 
-kind_level : (kind : TokenKind) → level_of_sign (sign_of_lem kind) ≡ level_in (infix_of_lem (Some kind))
+kind_level : (kind : TokenKind) → level_of_sign (sign_of_token kind) ≡ level_in (infix_operator_of (Some kind))
 kind_level kinds.Name = refl
 kind_level (kinds.Number value) = refl
 kind_level (kinds.Keyword keywords.Int) = refl
@@ -63,13 +63,13 @@ sign_level _ _ IsOperator.bit_or = refl
 sign_level _ _ IsOperator.logical_and = refl
 sign_level _ _ IsOperator.logical_or = refl
 
-operator_in : (found : Option Infix) (n : ℕ) → level_in found ≡ Some n → (operator : Infix) × ((found ≡ Some operator) × (level_of_lem operator ≡ n))
+operator_in : (found : Option Infix) (n : ℕ) → level_in found ≡ Some n → (operator : Infix) × ((found ≡ Some operator) × (level_of_infix operator ≡ n))
 operator_in None n e = absurd cc
 operator_in (Some operator) n e = (operator, (refl, (cc)))
 
 pub operator_passed : (level : Level) (token : Token) (tokens : List Token) → IsOperator level (sign_at token) → (operator : Infix) × PassesInfix (9 - depth_of level) (token ∷ tokens) operator tokens
 operator_passed level token tokens is =
-    let o = operator_in (infix_of_lem (Some token.kind)) (9 - depth_of level) (sym (kind_level token.kind) ∙ sign_level level (sign_at token) is) in
+    let o = operator_in (infix_operator_of (Some token.kind)) (9 - depth_of level) (sym (kind_level token.kind) ∙ sign_level level (sign_at token) is) in
     (o.0, record { is_next = o.1.0; of_level = o.1.1; behind = refl })
 
 -- ---- operators before an operand
@@ -84,7 +84,7 @@ abbrev is_there : Option UnaryOperator → Bool
 is_there None = false
 is_there (Some operator) = true
 
-kind_prefix : (kind : TokenKind) → prefix_of_sign (sign_of_lem kind) ≡ is_there (unary_of_lem (Some kind))
+kind_prefix : (kind : TokenKind) → prefix_of_sign (sign_of_token kind) ≡ is_there (unary_operator_of (Some kind))
 kind_prefix kinds.Name = refl
 kind_prefix (kinds.Number value) = refl
 kind_prefix (kinds.Keyword keywords.Int) = refl
@@ -103,7 +103,7 @@ prefix_in (Some operator) e = (operator, refl)
 
 pub prefix_passed : (token : Token) (tokens : List Token) → IsPrefix (sign_at token) → (operator : UnaryOperator) × PassesPrefix (token ∷ tokens) operator tokens
 prefix_passed token tokens is =
-    let o = prefix_in (unary_of_lem (Some token.kind)) (sym (kind_prefix token.kind) ∙ sign_prefix (sign_at token) is) in
+    let o = prefix_in (unary_operator_of (Some token.kind)) (sym (kind_prefix token.kind) ∙ sign_prefix (sign_at token) is) in
     (o.0, record { is_next = o.1; behind = refl })
 
 -- ---- numbers and names
@@ -116,7 +116,7 @@ abbrev holds_number : TokenKind → Bool
 holds_number (kinds.Number value) = true
 holds_number _ = false
 
-kind_number : (kind : TokenKind) → number_sign (sign_of_lem kind) ≡ holds_number kind
+kind_number : (kind : TokenKind) → number_sign (sign_of_token kind) ≡ holds_number kind
 kind_number kinds.Name = refl
 kind_number (kinds.Number value) = refl
 kind_number (kinds.Keyword keywords.Int) = refl

@@ -9,8 +9,8 @@ use Rattle.c_tree.specs.declared.operators.UnaryOperator.{UnaryOperator}
 use Rattle.c_tree.specs.RawTrees.{NameTree, RawExprTree, RawExprTrees, RawSimpleTree, RawStmtTree, RawStmtTrees, RawItemTree}
 use Rattle.c_grammar.specs.declared.signs.Sign.{Sign}
 use Rattle.c_grammar.specs.declared.signs.Sign.TheVariants as signs
-use Rattle.c_grammar.specs.Signs.{Level, Tightest, Looser, IsOperator, IsPrefix, sign_of_lem}
-use Rattle.c_grammar.specs.Operators.{unary_of_lem, infix_of_lem, level_of_lem}
+use Rattle.c_grammar.specs.Signs.{Level, Tightest, Looser, IsOperator, IsPrefix, sign_of_token}
+use Rattle.c_grammar.specs.Operators.{unary_operator_of, infix_operator_of, level_of_infix}
 use Rattle.c_grammar.specs.Rests as symbols
 use Rattle.c_grammar.specs.Rests.{Symbol, Nearest, Takes, TakesAll, CanBeNothing, Alternative}
 use Rattle.c_grammar.specs.Reading.{signs_of}
@@ -117,9 +117,9 @@ ends = ten_cases Ends (λ rest ss h. accepts_by Alternative.no_more_looser h) (�
 -- what a token that is an operator is to the grammar
 abbrev InfixFact : TokenKind → Option Infix → Type 0
 InfixFact kind None = Unit {0}
-InfixFact kind (Some operator) = IsOperator (level_symbol (level_of_lem operator)) (sign_of_lem kind) × (level_of_lem operator < 10) × (sign_of_lem kind ≢ signs.Finish)
+InfixFact kind (Some operator) = IsOperator (level_symbol (level_of_infix operator)) (sign_of_token kind) × (level_of_infix operator < 10) × (sign_of_token kind ≢ signs.Finish)
 
-infix_fact : (kind : TokenKind) → InfixFact kind (infix_of_lem (Some kind))
+infix_fact : (kind : TokenKind) → InfixFact kind (infix_operator_of (Some kind))
 infix_fact (kinds.Mark marks.Star) = (IsOperator.star, lit< tt, λ e. cc)
 infix_fact (kinds.Mark marks.Slash) = (IsOperator.multiplicative, lit< tt, λ e. cc)
 infix_fact (kinds.Mark marks.Percent) = (IsOperator.multiplicative, lit< tt, λ e. cc)
@@ -142,9 +142,9 @@ infix_fact _ = tt
 
 abbrev PrefixFact : TokenKind → Option UnaryOperator → Type 0
 PrefixFact kind None = Unit {0}
-PrefixFact kind (Some operator) = IsPrefix (sign_of_lem kind) × (sign_of_lem kind ≢ signs.Finish)
+PrefixFact kind (Some operator) = IsPrefix (sign_of_token kind) × (sign_of_token kind ≢ signs.Finish)
 
-prefix_fact : (kind : TokenKind) → PrefixFact kind (unary_of_lem (Some kind))
+prefix_fact : (kind : TokenKind) → PrefixFact kind (unary_operator_of (Some kind))
 prefix_fact (kinds.Mark marks.Minus) = (IsPrefix.minus, λ e. cc)
 prefix_fact (kinds.Mark marks.Plus) = (IsPrefix.plus, λ e. cc)
 prefix_fact (kinds.Mark marks.Exclamation) = (IsPrefix.prefix_sign, λ e. cc)
@@ -163,9 +163,9 @@ infix_sign level [] after operator p = let e = p.is_next in cc
 infix_sign level (t ∷ tokens) after operator p =
     let P : Option Infix → Type 0 = InfixFact t.kind in
     let f = subst P p.is_next (infix_fact t.kind) in
-    let Q : ℕ → Type 0 = λ l. IsOperator (level_symbol l) (sign_of_lem t.kind) × (l < 10) × (sign_of_lem t.kind ≢ signs.Finish) in
+    let Q : ℕ → Type 0 = λ l. IsOperator (level_symbol l) (sign_of_token t.kind) × (l < 10) × (sign_of_token t.kind ≢ signs.Finish) in
     let g = subst Q p.of_level f in
-    record { sign = sign_of_lem t.kind; operator = g.0; low = g.1; some = g.2; passes = record { is_next = refl; behind = p.behind } }
+    record { sign = sign_of_token t.kind; operator = g.0; low = g.1; some = g.2; passes = record { is_next = refl; behind = p.behind } }
 
 pub record PrefixSign (before after : List Token) : Type 0 where
   pub sign : Sign
@@ -178,7 +178,7 @@ prefix_sign [] after operator p = let e = p.is_next in cc
 prefix_sign (t ∷ tokens) after operator p =
     let P : Option UnaryOperator → Type 0 = PrefixFact t.kind in
     let f = subst P p.is_next (prefix_fact t.kind) in
-    record { sign = sign_of_lem t.kind; operator = f.0; some = f.1; passes = record { is_next = refl; behind = p.behind } }
+    record { sign = sign_of_token t.kind; operator = f.0; some = f.1; passes = record { is_next = refl; behind = p.behind } }
 
 parts_in_place : (s : Sign) {before after : List Token} {rest : List Symbol} → IsPrefix s → s ≢ signs.Finish → Passes s before after → Accepts rest (signs_of after) → Accepts (symbols.APrefix ∷ rest) (signs_of before)
 parts_in_place s o some p h = accepts_sign s symbols.APrefix (Takes.prefix o) some p h

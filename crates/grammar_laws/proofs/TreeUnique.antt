@@ -9,7 +9,7 @@ use Rattle.c_tree.specs.RawViews.{raw_joined}
 use Rattle.c_grammar.specs.declared.signs.Sign.{Sign}
 use Rattle.c_grammar.specs.declared.signs.Sign.TheVariants as signs
 use Rattle.c_grammar.specs.Signs.{Level, IsOperator, IsPrefix}
-use Rattle.c_grammar.specs.Operators.{unary_of_lem, infix_of_lem, level_of_lem}
+use Rattle.c_grammar.specs.Operators.{unary_operator_of, infix_operator_of, level_of_infix}
 use Rattle.c_grammar.specs.Tokens.{next_sign, next_kind, next_at, next_name, rest_of, Passes, PassesName, PassesNumber}
 use Rattle.c_grammar.specs.Grammar.{PassesPrefix, PassesInfix, IsExpr, IsBinary, IsRepeated, IsUnary, IsPrimary, IsIndex, IsParenthesized, AreArguments, AreMoreArguments, IsSize, IsSimple, IsLocal, AreMoreLocals, AreLocals, IsUpToSemicolon, IsForInit, IsForStep, declared_before, IsBody, IsBlock, AreStmts, IsStart, IsGlobal, AreMoreGlobals, AreMoreMembers, IsNameOption, AreMoreParameters, AreMoreNamed, AreParameters, AreNamed, IsResult, AreItem, AreItems}
 use Rattle.c_grammar.proofs.OneToken.{number_passes}
@@ -39,13 +39,13 @@ some_infix : {v w : Infix} → Some v ≡ Some w → v ≡ w
 some_infix e = cc
 
 same_infix : {l m : ℕ} {a b c d : List Token} {v w : Infix} → PassesInfix l a v c → PassesInfix m b w d → a ≡ b → Same v w c d
-same_infix p q e = record { tree = some_infix (sym p.is_next ∙ (ap (λ l. infix_of_lem (next_kind l)) e ∙ q.is_next)); rest = p.behind ∙ (ap rest_of e ∙ sym q.behind) }
+same_infix p q e = record { tree = some_infix (sym p.is_next ∙ (ap (λ l. infix_operator_of (next_kind l)) e ∙ q.is_next)); rest = p.behind ∙ (ap rest_of e ∙ sym q.behind) }
 
 some_prefix : {v w : UnaryOperator} → Some v ≡ Some w → v ≡ w
 some_prefix e = cc
 
 same_prefix : {a b c d : List Token} {v w : UnaryOperator} → PassesPrefix a v c → PassesPrefix b w d → a ≡ b → Same v w c d
-same_prefix p q e = record { tree = some_prefix (sym p.is_next ∙ (ap (λ l. unary_of_lem (next_kind l)) e ∙ q.is_next)); rest = p.behind ∙ (ap rest_of e ∙ sym q.behind) }
+same_prefix p q e = record { tree = some_prefix (sym p.is_next ∙ (ap (λ l. unary_operator_of (next_kind l)) e ∙ q.is_next)); rest = p.behind ∙ (ap rest_of e ∙ sym q.behind) }
 
 -- how an operand begins
 data Opens : Sign → Type 0 where
@@ -182,8 +182,8 @@ stops_at level {s = s} {after = a} k p =
 closes_at : {s : Sign} {after b : List Token} → Plain s → (s ≡ signs.Question → ⊥) → Passes s after b → Closes after
 closes_at k q p = record { stops = stops_at 0 k p; question = λ e. q (sym p.is_next ∙ e) }
 
-level_same : (l m : ℕ) {v w : Infix} → level_of_lem v ≡ l → level_of_lem w ≡ m → v ≡ w → l ≡ m
-level_same l m p q e = sym p ∙ (ap level_of_lem e ∙ q)
+level_same : (l m : ℕ) {v w : Infix} → level_of_infix v ≡ l → level_of_infix w ≡ m → v ≡ w → l ≡ m
+level_same l m p q e = sym p ∙ (ap level_of_infix e ∙ q)
 
 operator_parenthesis : {level : Level} {s : Sign} → IsOperator level s → s ≡ signs.LeftParenthesis → ⊥
 operator_parenthesis IsOperator.star e = cc

@@ -16,11 +16,11 @@ use Rattle.c_grammar.specs.declared.errors.ParseError.{ParseError}
 use Rattle.c_grammar.specs.declared.errors.ParseError.TheVariants.{Unexpected, TooDeep, Memory}
 use Rattle.c_grammar.specs.declared.signs.Sign.{Sign}
 use Rattle.c_grammar.specs.declared.signs.Sign.TheVariants as signs
-use Rattle.c_grammar.specs.Signs.{sign_of_lem, keyword_sign_lem}
+use Rattle.c_grammar.specs.Signs.{sign_of_token, sign_of_keyword}
 use Rattle.c_grammar.specs.Machine as tasks
 use Rattle.c_grammar.specs.Machine.{Task, Move, step, after_move, open_tasks}
 use Rattle.c_grammar.specs.Reading.{sign_at, finishes, run}
-use Rattle.c_grammar.specs.Operators.{infix_of_lem, level_of_lem}
+use Rattle.c_grammar.specs.Operators.{infix_operator_of, level_of_infix}
 use Rattle.c_grammar.specs.Tokens.{next_sign, next_place, rest_of, Passes}
 use Rattle.c_grammar.specs.Grammar.{IsExpr, IsBinary, IsRepeated}
 use Rattle.grammar_reader.specs.Steps.{Refused, NoneFrom, IsNextOperator, IsNoNextOperator, ReadsExpr, ReadsConditional, ReadsBinary, ReadsRepeated, ReadsUnary, ReadingRepeated}
@@ -55,14 +55,14 @@ expr_refused end depth before error h n rest o = expr_run end rest before ∙ h 
 
 -- what a token that is no operator is to the tail of an expression
 abbrev TailFact : TokenKind → Option Infix → Type 0
-TailFact kind None = sign_of_lem kind ≢ signs.Question → tasks.tail_move (sign_of_lem kind) ≡ tasks.Pass
-TailFact kind (Some operator) = tasks.tail_move (sign_of_lem kind) ≡ tasks.Take (tasks.Operand ∷ tasks.Tail ∷ [])
+TailFact kind None = sign_of_token kind ≢ signs.Question → tasks.tail_move (sign_of_token kind) ≡ tasks.Pass
+TailFact kind (Some operator) = tasks.tail_move (sign_of_token kind) ≡ tasks.Take (tasks.Operand ∷ tasks.Tail ∷ [])
 
-keyword_passes : (keyword : Keyword) → tasks.tail_move (keyword_sign_lem keyword) ≡ tasks.Pass
+keyword_passes : (keyword : Keyword) → tasks.tail_move (sign_of_keyword keyword) ≡ tasks.Pass
 keyword_passes keywords.Int = refl
 keyword_passes _ = refl
 
-tail_fact : (kind : TokenKind) → TailFact kind (infix_of_lem (Some kind))
+tail_fact : (kind : TokenKind) → TailFact kind (infix_operator_of (Some kind))
 tail_fact (kinds.Mark marks.OrOr) = refl
 tail_fact (kinds.Mark marks.AndAnd) = refl
 tail_fact (kinds.Mark marks.Bar) = refl
@@ -85,14 +85,14 @@ tail_fact (kinds.Mark marks.Question) = λ no. absurd (no refl)
 tail_fact (kinds.Keyword keyword) = λ no. keyword_passes keyword
 tail_fact _ = λ no. refl
 
-none_found : (kind : TokenKind) (made : Option Infix) → infix_of_lem (Some kind) ≡ made → ((operator : Infix) → infix_of_lem (Some kind) ≡ Some operator → level_of_lem operator < 0) → made ≡ None
+none_found : (kind : TokenKind) (made : Option Infix) → infix_operator_of (Some kind) ≡ made → ((operator : Infix) → infix_operator_of (Some kind) ≡ Some operator → level_of_infix operator < 0) → made ≡ None
 none_found kind None e low = refl
 none_found kind (Some operator) e low = let l = low operator e in absurd (omega arith)
 
-tail_at : (kind : TokenKind) → ((operator : Infix) → infix_of_lem (Some kind) ≡ Some operator → level_of_lem operator < 0) → sign_of_lem kind ≢ signs.Question → tasks.tail_move (sign_of_lem kind) ≡ tasks.Pass
+tail_at : (kind : TokenKind) → ((operator : Infix) → infix_operator_of (Some kind) ≡ Some operator → level_of_infix operator < 0) → sign_of_token kind ≢ signs.Question → tasks.tail_move (sign_of_token kind) ≡ tasks.Pass
 tail_at kind low other =
     let P : Option Infix → Type 0 = TailFact kind in
-    let none : infix_of_lem (Some kind) ≡ None = none_found kind (infix_of_lem (Some kind)) refl low in
+    let none : infix_operator_of (Some kind) ≡ None = none_found kind (infix_operator_of (Some kind)) refl low in
     subst P none (tail_fact kind) other
 
 -- the tail of an expression is passed where neither an operator nor a `?` comes
@@ -171,7 +171,7 @@ conditional_read source end depth inside b c d f g first x y q opening low h col
     }
 
 -- levels
-level_low : (operator : Infix) → level_of_lem operator < 10
+level_low : (operator : Infix) → level_of_infix operator < 10
 level_low Infix.LogicalOr = lit< tt
 level_low Infix.LogicalAnd = lit< tt
 level_low (Infix.Binary BinaryOperator.Add) = lit< tt
@@ -228,7 +228,7 @@ raw_chained_append : (left : RawExprTree) (rest : List (Infix × RawExprTree)) (
 raw_chained_append left [] operator operand = refl
 raw_chained_append left (p ∷ rest) operator operand = raw_chained_append (raw_joined left p.0 p.1) rest operator operand
 
-operator_move : (kind : TokenKind) (operator : Infix) → infix_of_lem (Some kind) ≡ Some operator → tasks.tail_move (sign_of_lem kind) ≡ tasks.Take (tasks.Operand ∷ tasks.Tail ∷ [])
+operator_move : (kind : TokenKind) (operator : Infix) → infix_operator_of (Some kind) ≡ Some operator → tasks.tail_move (sign_of_token kind) ≡ tasks.Take (tasks.Operand ∷ tasks.Tail ∷ [])
 operator_move kind operator e = let P : Option Infix → Type 0 = TailFact kind in subst P e (tail_fact kind)
 
 operator_run : (end depth level : ℕ) (now b : List Token) (operator : Infix) → IsNextOperator level now operator → b ≡ rest_of now → depth ≤ 64 → (rest : List Task) → open_tasks rest ≡ depth → run end (tasks.Tail ∷ rest) now ≡ run end (tasks.Operand ∷ tasks.Tail ∷ rest) b

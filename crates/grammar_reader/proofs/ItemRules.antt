@@ -12,7 +12,7 @@ use Rattle.c_grammar.specs.declared.errors.ParseError.{ParseError}
 use Rattle.c_grammar.specs.declared.errors.ParseError.TheVariants.{Unexpected, Memory}
 use Rattle.c_grammar.specs.declared.signs.Sign.{Sign}
 use Rattle.c_grammar.specs.declared.signs.Sign.TheVariants as signs
-use Rattle.c_grammar.specs.Signs.{sign_of_lem, keyword_sign_lem, mark_sign_lem}
+use Rattle.c_grammar.specs.Signs.{sign_of_token, sign_of_keyword, sign_of_mark}
 use Rattle.c_grammar.specs.Machine as tasks
 use Rattle.c_grammar.specs.Machine.{Task, step, after_move, open_tasks}
 use Rattle.c_grammar.specs.Reading.{sign_at}
@@ -168,15 +168,15 @@ items_more source end a now b old new h k =
 pub items_refused : (source : List ℕ) (end : ℕ) (a now : List Token) (is : List RawItemTree) (error : ParseError) → ReadingItems source end a is now → RefusedItems end now error → RefusedItems end a error
 items_refused source end a now is error h r other = h.leads ∙ r other
 
-keyword_some : (keyword : Keyword) → keyword_sign_lem keyword ≢ signs.Finish
+keyword_some : (keyword : Keyword) → sign_of_keyword keyword ≢ signs.Finish
 keyword_some keywords.Int e = cc
 keyword_some _ e = cc
 
-mark_some : (mark : Mark) → mark_sign_lem mark ≢ signs.Finish
+mark_some : (mark : Mark) → sign_of_mark mark ≢ signs.Finish
 mark_some marks.Comma e = cc
 mark_some _ e = cc
 
-some_sign : (kind : TokenKind) → sign_of_lem kind ≢ signs.Finish
+some_sign : (kind : TokenKind) → sign_of_token kind ≢ signs.Finish
 some_sign (kinds.Mark mark) e = mark_some mark e
 some_sign (kinds.Keyword keyword) e = keyword_some keyword e
 some_sign kinds.Name e = cc

@@ -13,11 +13,11 @@ use Rattle.c_grammar.specs.declared.errors.ParseError.{ParseError}
 use Rattle.c_grammar.specs.declared.errors.ParseError.TheVariants.{Unexpected, TooDeep}
 use Rattle.c_grammar.specs.declared.signs.Sign.{Sign}
 use Rattle.c_grammar.specs.declared.signs.Sign.TheVariants as signs
-use Rattle.c_grammar.specs.Signs.{sign_of_lem}
+use Rattle.c_grammar.specs.Signs.{sign_of_token}
 use Rattle.c_grammar.specs.Machine as tasks
 use Rattle.c_grammar.specs.Machine.{Task, Move, step, after_move, open_tasks}
 use Rattle.c_grammar.specs.Reading.{sign_at, run}
-use Rattle.c_grammar.specs.Operators.{unary_of_lem}
+use Rattle.c_grammar.specs.Operators.{unary_operator_of}
 use Rattle.c_grammar.specs.Tokens.{next_sign, next_kind, next_place, rest_of, Passes, PassesName, PassesNumber}
 use Rattle.c_grammar.specs.Grammar.{IsUnary, IsPrimary}
 use Rattle.grammar_reader.specs.Steps.{Refused, NoPrefix, ReadsUnary, ReadsPrimary, ReadsNamed, ReadsElement, ReadsParenthesized, ReadsIndex, ReadsArguments}
@@ -28,9 +28,9 @@ use Rattle.c_grammar.proofs.OneToken.{number_passes}
 -- an operator before its operand
 abbrev UnaryFact : TokenKind → Option UnaryOperator → Type 0
 UnaryFact kind None = Unit {0}
-UnaryFact kind (Some operator) = (tasks.operand_move (sign_of_lem kind) ≡ tasks.Take (tasks.Operand ∷ tasks.Done ∷ [])) × (sign_of_lem kind ≢ signs.Finish)
+UnaryFact kind (Some operator) = (tasks.operand_move (sign_of_token kind) ≡ tasks.Take (tasks.Operand ∷ tasks.Done ∷ [])) × (sign_of_token kind ≢ signs.Finish)
 
-unary_fact : (kind : TokenKind) → UnaryFact kind (unary_of_lem (Some kind))
+unary_fact : (kind : TokenKind) → UnaryFact kind (unary_operator_of (Some kind))
 unary_fact (kinds.Mark marks.Minus) = (refl, λ e. cc)
 unary_fact (kinds.Mark marks.Plus) = (refl, λ e. cc)
 unary_fact (kinds.Mark marks.Exclamation) = (refl, λ e. cc)
@@ -39,7 +39,7 @@ unary_fact _ = tt
 
 -- the first token is this operator
 abbrev IsUnaryNext : List Token → UnaryOperator → Type 0
-IsUnaryNext tokens operator = unary_of_lem (next_kind tokens) ≡ Some operator
+IsUnaryNext tokens operator = unary_operator_of (next_kind tokens) ≡ Some operator
 
 unary_step : (a : List Token) (operator : UnaryOperator) (rest : List Task) → IsUnaryNext a operator → (step (tasks.Operand ∷ rest) (next_sign a) ≡ Some (tasks.Operand ∷ tasks.Done ∷ rest)) × (next_sign a ≢ signs.Finish)
 unary_step [] operator rest e = cc
@@ -129,21 +129,21 @@ operand_refuses _ a b c d e f = refl
 
 -- a token that is no operator before an operand has none of these signs
 abbrev PrefixFree : TokenKind → Option UnaryOperator → Type 0
-PrefixFree kind None = (sign_of_lem kind ≢ signs.Plus) × (sign_of_lem kind ≢ signs.Minus) × (sign_of_lem kind ≢ signs.Prefix)
+PrefixFree kind None = (sign_of_token kind ≢ signs.Plus) × (sign_of_token kind ≢ signs.Minus) × (sign_of_token kind ≢ signs.Prefix)
 PrefixFree kind (Some operator) = Unit {0}
 
 keyword_free : (keyword : Keyword) → PrefixFree (kinds.Keyword keyword) None
 keyword_free keywords.Int = (λ e. cc, λ e. cc, λ e. cc)
 keyword_free _ = (λ e. cc, λ e. cc, λ e. cc)
 
-mark_free : (mark : Mark) → PrefixFree (kinds.Mark mark) (unary_of_lem (Some (kinds.Mark mark)))
+mark_free : (mark : Mark) → PrefixFree (kinds.Mark mark) (unary_operator_of (Some (kinds.Mark mark)))
 mark_free marks.Minus = tt
 mark_free marks.Plus = tt
 mark_free marks.Exclamation = tt
 mark_free marks.Tilde = tt
 mark_free _ = (λ e. cc, λ e. cc, λ e. cc)
 
-prefix_free : (kind : TokenKind) → PrefixFree kind (unary_of_lem (Some kind))
+prefix_free : (kind : TokenKind) → PrefixFree kind (unary_operator_of (Some kind))
 prefix_free (kinds.Mark mark) = mark_free mark
 prefix_free (kinds.Keyword keyword) = keyword_free keyword
 prefix_free kinds.Name = (λ e. cc, λ e. cc, λ e. cc)

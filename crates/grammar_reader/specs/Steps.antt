@@ -11,7 +11,7 @@ use Rattle.c_grammar.specs.declared.signs.Sign.TheVariants as signs
 use Rattle.c_grammar.specs.Machine as tasks
 use Rattle.c_grammar.specs.Machine.{Task, open_tasks}
 use Rattle.c_grammar.specs.Reading.{run}
-use Rattle.c_grammar.specs.Operators.{unary_of_lem, infix_of_lem, level_of_lem}
+use Rattle.c_grammar.specs.Operators.{unary_operator_of, infix_operator_of, level_of_infix}
 use Rattle.c_grammar.specs.Tokens.{next_sign, next_kind, PassesName}
 use Rattle.c_grammar.specs.Grammar.{IsExpr, IsBinary, IsRepeated, IsUnary, IsPrimary, IsIndex, IsParenthesized, AreArguments, AreMoreArguments}
 
@@ -25,19 +25,19 @@ Refused end depth todo before error = error ≢ Memory → (rest : List Task) �
 
 -- no operator of this level or a tighter one comes next
 abbrev pub NoneFrom : ℕ → List Token → Type 0
-NoneFrom level tokens = (operator : Infix) → infix_of_lem (next_kind tokens) ≡ Some operator → level_of_lem operator < level
+NoneFrom level tokens = (operator : Infix) → infix_operator_of (next_kind tokens) ≡ Some operator → level_of_infix operator < level
 
 -- the next token is this operator, of this level
 abbrev pub IsNextOperator : ℕ → List Token → Infix → Type 0
-IsNextOperator level tokens operator = (infix_of_lem (next_kind tokens) ≡ Some operator) × (level_of_lem operator ≡ level)
+IsNextOperator level tokens operator = (infix_operator_of (next_kind tokens) ≡ Some operator) × (level_of_infix operator ≡ level)
 
 -- the next token is no operator of this level
 abbrev pub IsNoNextOperator : ℕ → List Token → Type 0
-IsNoNextOperator level tokens = (operator : Infix) → infix_of_lem (next_kind tokens) ≡ Some operator → level_of_lem operator ≢ level
+IsNoNextOperator level tokens = (operator : Infix) → infix_operator_of (next_kind tokens) ≡ Some operator → level_of_infix operator ≢ level
 
 -- the next token is no operator before an operand
 abbrev pub NoPrefix : List Token → Type 0
-NoPrefix tokens = unary_of_lem (next_kind tokens) ≡ None
+NoPrefix tokens = unary_operator_of (next_kind tokens) ≡ None
 
 pub record ReadsExpr (source : List ℕ) (end depth : ℕ) (before : List Token) (e : RawExprTree) (after : List Token) : Type 0 where
   pub tree : IsExpr source before e after

@@ -1,6 +1,6 @@
 // Which tokens are operators, and how tightly the binary ones bind.
 ghost use Rattle.std.specs.Prelude.{◌≡◌, Some};
-ghost use Rattle.c_grammar.specs.Operators.{unary_of_lem, infix_of_lem, level_of_lem};
+ghost use Rattle.c_grammar.specs.Operators.{unary_operator_of, infix_operator_of, level_of_infix};
 
 use c_lex::{Mark, TokenKind};
 use c_tree::{BinaryOperator, Infix, UnaryOperator};
@@ -10,7 +10,7 @@ pub(crate) const LEVELS: u32 = 10;
 
 /// The operator before an operand that the token is, if it is one (ISO/IEC 9899:2018, 6.5.3).
 pub(crate) fn unary_of(kind: TokenKind) -> Option<UnaryOperator>
-    ensures { result ≡ unary_of_lem (Some kind) }
+    ensures { result ≡ unary_operator_of (Some kind) }
 {
     match kind {
         TokenKind::Mark(Mark::Minus) => Some(UnaryOperator::Negate),
@@ -23,7 +23,7 @@ pub(crate) fn unary_of(kind: TokenKind) -> Option<UnaryOperator>
 
 /// The operator between two operands that the token is, if it is one (ISO/IEC 9899:2018, 6.5.5 to 6.5.14).
 pub(crate) fn infix_of(kind: TokenKind) -> Option<Infix>
-    ensures { result ≡ infix_of_lem (Some kind) }
+    ensures { result ≡ infix_operator_of (Some kind) }
 {
     match kind {
         TokenKind::Mark(Mark::OrOr) => Some(Infix::LogicalOr),
@@ -50,7 +50,7 @@ pub(crate) fn infix_of(kind: TokenKind) -> Option<Infix>
 
 /// The level of an operator, from 0 for `||` to 9 for `*`, `/` and `%`.
 pub(crate) fn level_of(operator: Infix) -> u32
-    ensures { result ≡ level_of_lem operator }
+    ensures { result ≡ level_of_infix operator }
 {
     match operator {
         Infix::LogicalOr => 0,

@@ -19,7 +19,7 @@ use Rattle.c_tree.specs.RawTrees.{NameTree, RawExprTree, RawExprTrees, RawSimple
 use Rattle.c_tree.specs.RawViews.{raw_joined}
 use Rattle.c_grammar.specs.declared.signs.Sign.{Sign}
 use Rattle.c_grammar.specs.declared.signs.Sign.TheVariants as signs
-use Rattle.c_grammar.specs.Signs.{keyword_sign_lem, mark_sign_lem, sign_of_lem}
+use Rattle.c_grammar.specs.Signs.{sign_of_keyword, sign_of_mark, sign_of_token}
 use Rattle.c_grammar.specs.Tokens.{rest_of, Passes, PassesName, PassesNumber}
 use Rattle.c_grammar.specs.Grammar as grammar
 use Rattle.c_grammar.specs.Grammar.{IsExpr, IsBinary, IsRepeated, IsUnary, IsPrimary, IsIndex, IsParenthesized, AreArguments, AreMoreArguments, IsSize, IsSimple, IsLocal, AreMoreLocals, AreLocals, IsUpToSemicolon, IsForInit, IsForStep, declared_before, IsBody, IsBlock, AreStmts, IsStart, IsGlobal, AreMoreGlobals, AreMoreMembers, IsNameOption, AreMoreParameters, AreMoreNamed, AreParameters, IsResult, AreItem, AreItems, IsProgram}
@@ -31,7 +31,7 @@ abbrev IsOther : Sign → Type 0
 IsOther signs.Name = ⊥
 IsOther _ = Unit {0}
 
-keyword_other : (keyword : Keyword) → IsOther (keyword_sign_lem keyword)
+keyword_other : (keyword : Keyword) → IsOther (sign_of_keyword keyword)
 keyword_other keywords.Int = tt
 keyword_other keywords.Void = tt
 keyword_other keywords.If = tt
@@ -43,7 +43,7 @@ keyword_other keywords.Continue = tt
 keyword_other keywords.Return = tt
 keyword_other _ = tt
 
-mark_other : (mark : Mark) → IsOther (mark_sign_lem mark)
+mark_other : (mark : Mark) → IsOther (sign_of_mark mark)
 mark_other marks.LeftParenthesis = tt
 mark_other marks.RightParenthesis = tt
 mark_other marks.LeftBracket = tt
@@ -67,7 +67,7 @@ identifier_named : (text : List ℕ) → IsIdentifier text → IsSourceName text
 identifier_named [] h = absurd h
 identifier_named (b ∷ bs) h = inr (letter_high b h.0)
 
-token_named : (text : List ℕ) (kind : TokenKind) → sign_of_lem kind ≡ signs.Name → IsOfKind text kind → IsSourceName text
+token_named : (text : List ℕ) (kind : TokenKind) → sign_of_token kind ≡ signs.Name → IsOfKind text kind → IsSourceName text
 token_named text kinds.Name e h = identifier_named text h.0
 token_named text (kinds.Number value) e h = absurd (subst IsOther e tt)
 token_named text (kinds.Keyword keyword) e h = absurd (subst IsOther e (keyword_other keyword))

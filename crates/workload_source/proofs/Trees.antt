@@ -7,8 +7,8 @@ use Rattle.c_tree.specs.declared.operators.BinaryOperator.{BinaryOperator}
 use Rattle.c_tree.specs.declared.operators.Infix.{Infix}
 use Rattle.c_tree.specs.RawTrees.{RawExprTree, RawBinary, RawDeclareScalar, RawItemTree}
 use Rattle.c_grammar.specs.declared.signs.Sign.{Sign}
-use Rattle.c_grammar.specs.Signs.{sign_of_lem}
-use Rattle.c_grammar.specs.Operators.{infix_of_lem, level_of_lem}
+use Rattle.c_grammar.specs.Signs.{sign_of_token}
+use Rattle.c_grammar.specs.Operators.{infix_operator_of, level_of_infix}
 use Rattle.c_grammar.specs.Tokens.{Passes, PassesName, PassesNumber}
 use Rattle.c_grammar.specs.Grammar.{PassesInfix, IsExpr, IsBinary, IsRepeated, IsUnary, IsPrimary, AreArguments, AreMoreArguments, IsSimple, IsLocal, AreMoreLocals, AreLocals, IsUpToSemicolon, IsForInit, IsForStep, IsBody, IsBlock, AreStmts, AreMoreNamed, AreNamed, IsResult, AreItem, AreItems, IsProgram}
 use Rattle.workload_source.specs.Programs.{link_line, chain_text, worker_line, main_line, program_text}
@@ -18,21 +18,21 @@ use Rattle.workload_source.proofs.Lexed.{chain_tokens, worker_place, main_place,
 use Rattle.workload_source.proofs.Items.{named, first_item, link_item, worker_item, main_item, first_places, link_places, worker_places, main_places, chain_items, program_items}
 
 -- the next token is taken
-pass : {token : Token} {tokens : List Token} {sign : Sign} → sign_of_lem token.kind ≡ sign → Passes sign (token ∷ tokens) tokens
+pass : {token : Token} {tokens : List Token} {sign : Sign} → sign_of_token token.kind ≡ sign → Passes sign (token ∷ tokens) tokens
 pass is = record { is_next = is; behind = refl }
 
 -- a name is the one that was written
 passes_name : {source : List ℕ} {at : ℕ} {w : Written} {ws : List Written} {after : List ℕ} (more : List Token) → Stands source at (w ∷ ws) after → w.kind ≡ kinds.Name
     → PassesName source (token_of at w ∷ tokens_of (past at w) ws more) (named (at + length w.gap) w.lexeme) (tokens_of (past at w) ws more)
 passes_name {source = source} {at = at} {w = w} {ws = ws} {after = after} more s is = record {
-  passes = pass (ap sign_of_lem is);
+  passes = pass (ap sign_of_token is);
   named = ap (named (at + length w.gap)) (sym (lexeme_is source at w ws after s));
 }
 
 number : {token : Token} {tokens : List Token} {value : ℕ} → token.kind ≡ kinds.Number value → PassesNumber (token ∷ tokens) value tokens
 number is = record { is_next = ap (λ kind. Some kind) is; behind = refl }
 
-operator : {level : ℕ} {token : Token} {tokens : List Token} {op : Infix} → infix_of_lem (Some token.kind) ≡ Some op → level_of_lem op ≡ level → PassesInfix level (token ∷ tokens) op tokens
+operator : {level : ℕ} {token : Token} {tokens : List Token} {op : Infix} → infix_operator_of (Some token.kind) ≡ Some op → level_of_infix op ≡ level → PassesInfix level (token ∷ tokens) op tokens
 operator is of_level = record { is_next = is; of_level = of_level; behind = refl }
 
 -- an operand, or an operation of some level, stands for all of a looser one
