@@ -1,6 +1,6 @@
 -- The operations of calls and of what is assigned or returned.
 use Rattle.std.specs.Prelude.{ℕ, ◌+◌, List, [], ◌∷◌, ◌++◌, Option, Some}
-use Rattle.c_tree.specs.Modelled.{number_of}
+use Rattle.cap_word.specs.ModelledCalls.{number_of}
 use Rattle.c_tree.specs.Trees.{ExprTree, CallTree, CallFunction, CallTable, CallSpawn, CallModelled, RightTree, Computed, Called}
 use Rattle.flat_code.specs.declared.operations.Op.{Op}
 use Rattle.c_lower.specs.ExprCode.{expr_size, expr_code}

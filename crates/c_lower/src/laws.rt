@@ -1,6 +1,6 @@
 ghost use Rattle.std.specs.Prelude.{◌≡◌, true, false, [], ◌∷◌, map, Some, None};
 ghost use Rattle.c_tree.specs.declared.operators.BinaryOperator.{BinaryOperator};
-ghost use Rattle.c_tree.specs.declared.operators.ModelledCall.{ModelledCall};
+ghost use Rattle.cap_word.specs.declared.modelled_calls.ModelledCall.{ModelledCall};
 ghost use Rattle.c_tree.specs.declared.operators.UnaryOperator.{UnaryOperator};
 ghost use Rattle.c_tree.specs.Trees.{Number, Local, Global, LocalElement, GlobalElement, Unary, Parenthesized, Binary, LogicalAnd, LogicalOr, Conditional, CallFunction, CallTable, CallSpawn, CallModelled, Computed, Called, DeclareScalar, DeclareArray, DeclareWith, SetLocal, SetGlobal, SetLocalElement, SetGlobalElement, Calling, Do, Empty, Block, If, IfElse, While, For, Break, Continue, Return, NoStmts, Then};
 ghost use Rattle.c_mean.specs.Examples.{one_call, recursion, index_beyond, table_calls};

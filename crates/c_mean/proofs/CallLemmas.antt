@@ -4,9 +4,9 @@ use Rattle.std.specs.Prelude.{IsSome, Result, Ok, Err}
 use Rattle.cap_word.specs.Calls.{call_of}
 use Rattle.cap_word.specs.declared.calls.Block.{Block}
 use Rattle.cap_word.specs.declared.traps.TrapKind.{TrapKind}
-use Rattle.c_tree.specs.Modelled.{number_of, parameters_of}
+use Rattle.cap_word.specs.ModelledCalls.{number_of, parameters_of}
 use Rattle.c_tree.specs.Trees.{ExprTree}
-use Rattle.c_tree.specs.declared.operators.ModelledCall.{ModelledCall}
+use Rattle.cap_word.specs.declared.modelled_calls.ModelledCall.{ModelledCall}
 use Rattle.c_mean.specs.ModelledCalls.{Exchange, blocking_row, wake_of, wakes_at}
 use Rattle.c_mean.specs.Values.{Value, value, values, with_first}
 

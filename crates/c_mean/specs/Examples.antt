@@ -4,7 +4,7 @@ use Rattle.cap_word.specs.Runs.{Goes, moves}
 use Rattle.cap_word.specs.declared.calls.Block as block
 use Rattle.c_tree.specs.declared.operators.BinaryOperator.{BinaryOperator}
 use Rattle.c_tree.specs.declared.operators.UnaryOperator.{UnaryOperator}
-use Rattle.c_tree.specs.declared.operators.ModelledCall.{ModelledCall}
+use Rattle.cap_word.specs.declared.modelled_calls.ModelledCall.{ModelledCall}
 use Rattle.c_tree.specs.Trees.{ExprTree, Number, Local, Unary, Binary, CallFunction, CallTable, CallSpawn, CallModelled, Computed, Called, DeclareScalar, DeclareArray, DeclareWith, SetLocal, SetLocalElement, Calling, StmtTree, StmtTrees, Do, Block, If, While, For, Break, Continue, Return, NoStmts, Then, FunctionTree, ProgramTree}
 use Rattle.c_mean.specs.Frames.{Place, Running, key_of}
 use Rattle.c_mean.specs.Steps.{source_machine, started}

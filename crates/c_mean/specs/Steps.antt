@@ -6,7 +6,7 @@ use Rattle.cap_word.specs.Rows.{width, with_word, with_zeros}
 use Rattle.cap_word.specs.Calls.{Call, Question, Answer, Finish, call_of, spawn_of}
 use Rattle.cap_word.specs.Runs.{Move, Goes, Asks, Stops, Machine}
 use Rattle.cap_word.specs.declared.traps.TrapKind.{TrapKind}
-use Rattle.c_tree.specs.Modelled.{number_of}
+use Rattle.cap_word.specs.ModelledCalls.{number_of}
 use Rattle.c_tree.specs.Trees.{ExprTree, CallTree, CallFunction, CallTable, CallSpawn, CallModelled, RightTree, Computed, Called, SimpleTree, DeclareScalar, DeclareArray, DeclareWith, SetLocal, SetGlobal, SetLocalElement, SetGlobalElement, Calling, ProgramTree}
 use Rattle.c_mean.specs.Values.{Value, value, values}
 use Rattle.c_mean.specs.ToDo.{Item, Simply, Choose, Test, Enter, Back, Leave, Skip, GiveBack, GiveBackWord, Fail, before, body_before, turn_before, after_leave, after_skip}

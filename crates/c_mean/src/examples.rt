@@ -6,7 +6,7 @@ ghost use Rattle.cap_word.specs.declared.calls.Block.{Block};
 ghost use Rattle.cap_word.specs.declared.traps.TrapKind.{TrapKind};
 ghost use Rattle.c_tree.specs.Trees.{Conditional, LocalElement, LogicalAnd, LogicalOr, Number, Unary};
 ghost use Rattle.c_tree.specs.declared.operators.BinaryOperator.{BinaryOperator};
-ghost use Rattle.c_tree.specs.declared.operators.ModelledCall.{ModelledCall};
+ghost use Rattle.cap_word.specs.declared.modelled_calls.ModelledCall.{ModelledCall};
 ghost use Rattle.c_tree.specs.declared.operators.UnaryOperator.{UnaryOperator};
 ghost use Rattle.c_mean.specs.Examples.{divisions, one_call, recursion, index_beyond, table_calls, deep_yield, server, loop_jumps, while_jumps, leave_before_turns, skip_before_turns, turns_without_condition, one_turn, late_range_test, one_modelled, HasFrames, rests_in};
 ghost use Rattle.c_mean.specs.Frames.{InLocal};

@@ -1,4 +1,3 @@
-pub mod Modelled
 pub mod Trees
 pub mod Views
 pub mod Temporaries

@@ -1,7 +1,7 @@
 -- When a program is well scoped: all that the layers above rely on, so that they index without a test.
 use Rattle.std.specs.Prelude.{ℕ, ◌^◌, ◌<◌, ◌≤◌, ◌≡◌, Bool, true, false, IsTrue, eqb, ◌||◌, List, [], ◌∷◌, length, map, sum, slice_index, slice_index_or, Option, Some, None}
 use Rattle.std.specs.List.{IsDistinct, AllByRecursion}
-use Rattle.c_tree.specs.Modelled.{parameters_of, gives_result}
+use Rattle.cap_word.specs.ModelledCalls.{parameters_of, gives_result}
 use Rattle.c_tree.specs.Trees.{ExprTree, Number, Local, Global, LocalElement, GlobalElement, Unary, Parenthesized, Binary, LogicalAnd, LogicalOr, Conditional, CallTree, CallFunction, CallTable, CallSpawn, CallModelled, RightTree, Computed, Called, SimpleTree, DeclareScalar, DeclareArray, DeclareWith, SetLocal, SetGlobal, SetLocalElement, SetGlobalElement, Calling, StmtTree, StmtTrees, Do, Empty, Block, If, IfElse, While, For, Break, Continue, Return, NoStmts, Then, FunctionTree, ProgramTree}
 use Rattle.c_tree.specs.TextOrder.{Declared, simple_names, stmts_names, program_sites, counting}
 use Rattle.c_tree.specs.Sizes.{below, declared_words, sizes_of}

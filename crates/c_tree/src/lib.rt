@@ -21,9 +21,10 @@ mod sites;
 mod statements;
 mod temporaries;
 
+pub use cap_word::ModelledCall;
 pub use expressions::Expr;
 pub use facts::{Function, GlobalFact, Site, SiteKind, TableFact};
-pub use operators::{BinaryOperator, Infix, ModelledCall, UnaryOperator};
+pub use operators::{BinaryOperator, Infix, UnaryOperator};
 pub use programs::Program;
 pub use raw_expressions::{Name, RawExpr};
 pub use raw_items::{RawFunction, RawItem, RawPrototype, RawTable};

@@ -1,7 +1,7 @@
 // Calls and statements whose names have become numbers.
 
 use crate::expressions::Expr;
-use crate::operators::ModelledCall;
+use cap_word::ModelledCall;
 
 /// A call, with the number of its site. Its arguments have no calls in them.
 #[derive(Drop)]

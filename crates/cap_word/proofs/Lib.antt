@@ -2,3 +2,4 @@ pub mod WordLemmas
 pub mod WordRange
 pub mod RunLemmas
 pub mod Following
+pub mod CallLemmas

@@ -1,8 +1,10 @@
 -- The calls that the thread package answers, and what a thread of a program shares with its world. Source, flat
 -- code and machine mean them alike.
-use Rattle.std.specs.Prelude.{ℕ, List, [], ◌∷◌, Option, Some, None, if◌then◌else◌, nat_eq}
+use Rattle.std.specs.Prelude.{ℕ, Bool, true, false, List, length, Option, Some, None, option_and_then, if◌then◌else◌, nat_eq, slice_index_or}
 use Rattle.cap_word.specs.declared.calls.Ask.{Ask}
 use Rattle.cap_word.specs.declared.calls.Block.{Block}
+use Rattle.cap_word.specs.ModelledCalls.{call_numbered, parameters_of}
+use Rattle.cap_word.specs.declared.modelled_calls.ModelledCall.{ModelledCall}
 use Rattle.cap_word.specs.declared.traps.TrapKind.{TrapKind}
 
 -- a modelled call with its arguments: one that blocks the thread, or one that is answered at once
@@ -10,33 +12,30 @@ pub data Call : Type 0 where
   Blocking : (block : Block) → Call
   Immediate : (ask : Ask) → Call
 
--- the calls without arguments, by their numbers
-abbrev pub call_of_none : ℕ → Option Call
-call_of_none number =
-    if nat_eq number 6 then Some (Immediate Ask.SelfNumber) else
-    if nat_eq number 16 then Some (Blocking Block.Accept) else
-    if nat_eq number 19 then Some (Blocking Block.Yield) else None
+abbrev pub is_blocking : Call → Bool
+is_blocking (Blocking block) = true
+is_blocking (Immediate ask) = false
 
--- the calls with one argument
-abbrev pub call_of_one : ℕ → ℕ → Option Call
-call_of_one number a =
-    if nat_eq number 3 then Some (Immediate (Ask.Put a)) else
-    if nat_eq number 17 then Some (Blocking (Block.Wait a)) else
-    if nat_eq number 18 then Some (Blocking (Block.Sleep a)) else None
+-- a call of the table with its first and its second argument; a call that takes fewer doesn't look at the rest
+abbrev pub call_with : ModelledCall → ℕ → ℕ → Call
+call_with ModelledCall.Accept a b = Blocking Block.Accept
+call_with ModelledCall.Wait a b = Blocking (Block.Wait a)
+call_with ModelledCall.Sleep a b = Blocking (Block.Sleep a)
+call_with ModelledCall.Yield a b = Blocking Block.Yield
+call_with ModelledCall.Take a b = Blocking (Block.Take a b)
+call_with ModelledCall.WaitFor a b = Blocking (Block.WaitFor a b)
+call_with ModelledCall.Put a b = Immediate (Ask.Put a)
+call_with ModelledCall.Give a b = Immediate (Ask.Give a b)
+call_with ModelledCall.SelfNumber a b = Immediate Ask.SelfNumber
 
--- the calls with two arguments
-abbrev pub call_of_two : ℕ → ℕ → ℕ → Option Call
-call_of_two number a b =
-    if nat_eq number 5 then Some (Immediate (Ask.Give a b)) else
-    if nat_eq number 20 then Some (Blocking (Block.Take a b)) else
-    if nat_eq number 21 then Some (Blocking (Block.WaitFor a b)) else None
+-- a call of the table with these arguments, where they are as many as it takes
+abbrev pub call_on : List ℕ → ModelledCall → Option Call
+call_on arguments call =
+    if nat_eq (length arguments) (parameters_of call) then Some (call_with call (slice_index_or arguments 0 0) (slice_index_or arguments 1 0)) else None
 
 -- the modelled call of a number with these arguments; `spawn` is none of them, since it names a function
 abbrev pub call_of : ℕ → List ℕ → Option Call
-call_of number [] = call_of_none number
-call_of number (a ∷ []) = call_of_one number a
-call_of number (a ∷ b ∷ []) = call_of_two number a b
-call_of number (a ∷ b ∷ c ∷ rest) = None
+call_of number arguments = option_and_then (call_on arguments) (call_numbered number)
 
 -- the start of a thread that runs a function, by its number, with an argument
 abbrev pub spawn_of : ℕ → ℕ → Call

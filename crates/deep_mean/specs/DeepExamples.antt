@@ -1,7 +1,7 @@
 -- Small programs, as trees, on which the definitions are computed.
 use Rattle.std.specs.Prelude.{ℕ, true, List, [], ◌∷◌, Some, None, codes}
 use Rattle.c_tree.specs.declared.operators.BinaryOperator.{BinaryOperator}
-use Rattle.c_tree.specs.declared.operators.ModelledCall.{ModelledCall}
+use Rattle.cap_word.specs.declared.modelled_calls.ModelledCall.{ModelledCall}
 use Rattle.c_tree.specs.RawTrees.{NameTree, RawNumber, RawName, RawBinary, RawCall, RawDeclareWith, RawDo, RawReturn, NoRawStmts, RawThen, RawItemTree, RawFunctionItem}
 use Rattle.c_tree.specs.RawTrees as raw
 use Rattle.c_mean.specs.World.{empty_exchange}

@@ -5,7 +5,7 @@ use Rattle.cap_word.specs.Rows.{width, with_word, with_zeros}
 use Rattle.cap_word.specs.Calls.{Call, Question, Answer, Finish, call_of, spawn_of}
 use Rattle.cap_word.specs.Runs.{Move, Goes, Asks, Stops, Machine}
 use Rattle.cap_word.specs.declared.traps.TrapKind.{TrapKind}
-use Rattle.c_tree.specs.Modelled.{number_of}
+use Rattle.cap_word.specs.ModelledCalls.{number_of}
 use Rattle.c_mean.specs.Frames.{Place, Nowhere, InLocal, InGlobal, InLocalElement, InGlobalElement, Returned}
 use Rattle.deep_mean.specs.DeepTrees.{Function, Modelled, Spawned, DeepExpr, DeepSimple, DeclareScalar, DeclareArray, DeclareWith, SetLocal, SetGlobal, SetLocalElement, SetGlobalElement, Calling, DeepProgram}
 use Rattle.deep_mean.specs.Evaluation.{Around, Ready, ReadyCall, ReadyTableCall, Evaluation, Done, Trapped, Calls, evaluate, go_on}

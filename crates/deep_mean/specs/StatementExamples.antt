@@ -1,7 +1,7 @@
 -- Small programs with loops, arrays, tables and modelled calls, on which the definitions are computed.
 use Rattle.std.specs.Prelude.{[], ◌∷◌, Some, None}
 use Rattle.c_tree.specs.declared.operators.BinaryOperator.{BinaryOperator}
-use Rattle.c_tree.specs.declared.operators.ModelledCall.{ModelledCall}
+use Rattle.cap_word.specs.declared.modelled_calls.ModelledCall.{ModelledCall}
 use Rattle.deep_mean.specs.DeepTrees.{Modelled, DeepExpr, Number, Local, LocalElement, Binary, Call, TableCall, NoExprs, DeclareScalar, SetLocal, SetLocalElement, Do, Block, If, While, For, Break, Continue, DeepProgram}
 use Rattle.deep_mean.specs.DeepExamples.{in_order, returns, calls, puts, sum_of, function, printing, prints}
 

@@ -7,7 +7,7 @@ use Rattle.cap_word.specs.Calls.{Call, call_of, spawn_of}
 use Rattle.cap_word.specs.Runs.{Goes, Asks, Stops, and_then, moves, IsAnswered}
 use Rattle.cap_word.specs.declared.traps.TrapKind.{TrapKind}
 use Rattle.cap_word.proofs.RunLemmas.{goes_on}
-use Rattle.c_tree.specs.Modelled.{number_of}
+use Rattle.cap_word.specs.ModelledCalls.{number_of}
 use Rattle.c_tree.specs.Trees.{CallTree, CallFunction, CallTable, CallSpawn, CallModelled, ProgramTree}
 use Rattle.c_mean.specs.Values.{Value, value, with_first}
 use Rattle.c_mean.specs.ToDo.{Item, GiveBackWord}

@@ -9,7 +9,7 @@ use Rattle.cap_word.specs.Runs.{Goes, Asks, Stops}
 use Rattle.cap_word.specs.declared.calls.Ask.{Ask}
 use Rattle.cap_word.specs.declared.calls.Block.{Block as BlockingCall}
 use Rattle.cap_word.specs.declared.traps.TrapKind.{TrapKind}
-use Rattle.c_tree.specs.Modelled.{number_of}
+use Rattle.cap_word.specs.ModelledCalls.{number_of}
 use Rattle.c_tree.specs.Sizes.{below}
 use Rattle.c_tree.specs.TextOrder.{simple_names}
 use Rattle.c_tree.specs.Trees.{CallTree, CallFunction, CallTable, CallSpawn, CallModelled, RightTree, Computed, Called, SimpleTree, DeclareScalar, DeclareArray, DeclareWith, SetLocal, SetGlobal, SetLocalElement, SetGlobalElement, Calling, StmtTree, StmtTrees, Do, Empty, Block, If, IfElse, While, For, Break, Continue, Return, NoStmts, Then, FunctionTree, ProgramTree}

@@ -4,7 +4,7 @@ use Rattle.std.specs.Prelude.{Ok, Err, slice_index, slice_index_or}
 use Rattle.cap_word.specs.Calls.{call_of, spawn_of}
 use Rattle.cap_word.specs.Runs.{Stops, and_then, moves}
 use Rattle.cap_word.specs.declared.traps.TrapKind.{TrapKind}
-use Rattle.c_tree.specs.Modelled.{number_of}
+use Rattle.cap_word.specs.ModelledCalls.{number_of}
 use Rattle.c_tree.specs.RawTrees.{RawExprTree}
 use Rattle.c_tree.specs.Trees.{ExprTree, CallTree, CallFunction, CallTable, CallSpawn, CallModelled, RightTree, Computed, Called, SimpleTree, StmtTree, ProgramTree}
 use Rattle.c_tree.specs.Trees as tree

@@ -7,7 +7,7 @@ use Rattle.cap_word.specs.Calls.{Finish, call_of, spawn_of}
 use Rattle.cap_word.specs.Runs.{Goes, Stops, and_then, moves}
 use Rattle.cap_word.specs.declared.traps.TrapKind.{TrapKind}
 use Rattle.cap_word.proofs.RunLemmas.{goes_on}
-use Rattle.c_tree.specs.Modelled.{number_of}
+use Rattle.cap_word.specs.ModelledCalls.{number_of}
 use Rattle.c_tree.specs.RawTrees.{RawStmtTree}
 use Rattle.c_tree.specs.Trees.{ExprTree, CallTree, CallFunction, CallTable, CallSpawn, CallModelled, Computed, Called, DeclareScalar, DeclareWith, SetLocal, StmtTree, ProgramTree}
 use Rattle.c_mean.specs.Values.{Value, value, values, with_first}

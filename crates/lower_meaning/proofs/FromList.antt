@@ -1,7 +1,7 @@
 -- The lists of operations that lowering gives stand where they are put.
 use Rattle.std.proofs.Common.{◌≡◌, ℕ, ◌+◌, Bool, true, false, List, [], ◌∷◌, ◌++◌, length, Option, Some, None, refl, sym, ap, ◌∙◌, subst, arith, length-append}
 use Rattle.c_tree.specs.declared.operators.UnaryOperator.{UnaryOperator}
-use Rattle.c_tree.specs.Modelled.{number_of}
+use Rattle.cap_word.specs.ModelledCalls.{number_of}
 use Rattle.c_tree.specs.Trees.{ExprTree, Number, Local, Global, LocalElement, GlobalElement, Unary, Parenthesized, Binary, LogicalAnd, LogicalOr, Conditional, CallTree, CallFunction, CallTable, CallSpawn, CallModelled, RightTree, Computed, Called, SimpleTree, DeclareScalar, DeclareArray, DeclareWith, SetLocal, SetGlobal, SetLocalElement, SetGlobalElement, Calling, StmtTree, StmtTrees, Do, Empty, Block, If, IfElse, While, For, Break, Continue, Return, NoStmts, Then}
 use Rattle.c_mean.specs.Sites.{Target, ToLocal, ToGlobal, ToLocalElement, ToGlobalElement, ToCaller}
 use Rattle.flat_code.specs.declared.operations.Op.{Op}

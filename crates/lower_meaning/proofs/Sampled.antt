@@ -1,7 +1,7 @@
 -- The premises of the law hold of a small program and of a thread of it.
 use Rattle.std.proofs.Common.{zero, suc, [], ◌∷◌, Some, refl, arith, lit≤, lit<, eqb}
 use Rattle.std.specs.List.{IsDistinct}
-use Rattle.c_tree.specs.declared.operators.ModelledCall.{ModelledCall}
+use Rattle.cap_word.specs.declared.modelled_calls.ModelledCall.{ModelledCall}
 use Rattle.c_tree.specs.Trees.{Number, Local, CallFunction, CallModelled}
 use Rattle.c_tree.specs.WellScoped.{IsFunctionScoped, IsWellScoped}
 use Rattle.c_mean.specs.Sites.{ToNowhere, ToLocal}

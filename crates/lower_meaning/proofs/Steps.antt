@@ -8,7 +8,7 @@ use Rattle.cap_word.specs.Calls.{Call, Question, Finish, call_of, spawn_of}
 use Rattle.cap_word.specs.Runs.{Goes, Asks, Stops, and_then, moves, IsAnswered}
 use Rattle.cap_word.specs.declared.traps.TrapKind.{TrapKind}
 use Rattle.cap_word.proofs.RunLemmas.{goes_on}
-use Rattle.c_tree.specs.Modelled.{number_of}
+use Rattle.cap_word.specs.ModelledCalls.{number_of}
 use Rattle.c_tree.specs.Temporaries.{expr_temporaries, arguments_temporaries, call_temporaries}
 use Rattle.c_tree.specs.TextOrder.{call_site}
 use Rattle.c_tree.specs.Trees.{ExprTree, CallTree, CallFunction, CallTable, CallSpawn, CallModelled, FunctionTree, ProgramTree, NoStmts}

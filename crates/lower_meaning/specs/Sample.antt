@@ -1,7 +1,7 @@
 -- A small program, and a thread of it at a modelled call, in the source and in flat code:
 -- `int g(int x) { put(x); return x; } int main() { int a; a = g(1); return a; }`
 use Rattle.std.specs.Prelude.{true, List, [], ◌∷◌, Some}
-use Rattle.c_tree.specs.declared.operators.ModelledCall.{ModelledCall}
+use Rattle.cap_word.specs.declared.modelled_calls.ModelledCall.{ModelledCall}
 use Rattle.c_tree.specs.Trees.{Number, Local, CallFunction, CallModelled, Computed, Called, DeclareScalar, SetLocal, Calling, Do, Return, NoStmts, Then, FunctionTree, ProgramTree}
 use Rattle.c_mean.specs.Frames.{Nowhere, InLocal, Waiting}
 use Rattle.c_mean.specs.ToDo.{Item, GiveBack}

@@ -2,7 +2,7 @@
 use Rattle.std.proofs.Common.{ℕ, ◌≡◌, ◌<◌, refl, sym, ◌∙◌, Bool, true, false, not, List, [], ◌∷◌, ◌++◌, length, Option, Some, None, arith}
 use Rattle.std.specs.Prelude.{nat_eq, ◌||◌, ◌&&◌}
 use Rattle.std.proofs.lemmas.List.{length-map}
-use Rattle.c_tree.specs.Modelled.{parameters_of, gives_result}
+use Rattle.cap_word.specs.ModelledCalls.{parameters_of, gives_result}
 use Rattle.c_tree.specs.RawTrees.{NameTree, RawExprTree, RawNumber, RawName, RawElement, RawUnary, RawParenthesized, RawBinary, RawLogicalAnd, RawLogicalOr, RawConditional, RawCall, RawTableCall}
 use Rattle.c_tree.specs.WellScoped.{Context, signature_at, IsCallScoped, call_gives, IsRightScoped}
 use Rattle.scope_rules.specs.declared.faults.Rule.{Rule}

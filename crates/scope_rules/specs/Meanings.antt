@@ -1,6 +1,6 @@
 -- What each kind of name may be used for.
 use Rattle.std.specs.Prelude.{ℕ, Bool, true, false, not, nat_eq, ◌&&◌, Option, Some, None}
-use Rattle.c_tree.specs.Modelled.{parameters_of, gives_result}
+use Rattle.cap_word.specs.ModelledCalls.{parameters_of, gives_result}
 use Rattle.scope_rules.specs.declared.meanings.Meaning.{Meaning}
 use Rattle.scope_rules.specs.declared.meanings.Variable.{Variable}
 use Rattle.scope_rules.specs.declared.meanings.Callee.{Callee}

@@ -155,7 +155,7 @@ impl Meaning {
     {
         match self {
             Meaning::Function { gives, .. } => !gives,
-            Meaning::Modelled(call) => !call.gives(),
+            Meaning::Modelled(call) => !call.gives_result(),
             Meaning::Local { .. }
             | Meaning::Global { .. }
             | Meaning::Table { .. }

@@ -7,12 +7,12 @@ use Rattle.cap_word.specs.Calls.{call_of, Immediate}
 use Rattle.cap_word.specs.declared.calls.Ask.{Ask}
 use Rattle.cap_word.specs.declared.traps.TrapKind.{TrapKind}
 use Rattle.c_tree.proofs.Cuts.{drop_at}
-use Rattle.c_tree.specs.Modelled.{number_of, parameters_of}
+use Rattle.cap_word.specs.ModelledCalls.{number_of, parameters_of}
 use Rattle.c_tree.specs.Trees.{ExprTree}
 use Rattle.c_tree.specs.Views.{expr_tree}
 use Rattle.c_tree.specs.WellScoped.{Context, AreExprsScoped}
 use Rattle.c_tree.specs.declared.expressions.Expr.{Expr}
-use Rattle.c_tree.specs.declared.operators.ModelledCall.{ModelledCall}
+use Rattle.cap_word.specs.declared.modelled_calls.ModelledCall.{ModelledCall}
 use Rattle.c_mean.specs.Layout.{IsInRange}
 use Rattle.c_mean.specs.Values.{Value, value, values, with_first}
 use Rattle.c_mean.proofs.WorldLemmas.{scoped_in_range}

@@ -2,7 +2,7 @@
 ghost use Rattle.std.specs.Prelude.{◌≡◌, ◌∷◌, [], ◌<◌, ℕ, List, Ok, Err, IfOk, MatchResult, OnOk, length, map, sum};
 ghost use Rattle.std.specs.List.{AllByRecursion};
 ghost use Rattle.cap_word.specs.Calls.{call_of};
-ghost use Rattle.c_tree.specs.Modelled.{number_of, parameters_of};
+ghost use Rattle.cap_word.specs.ModelledCalls.{number_of, parameters_of};
 ghost use Rattle.c_tree.specs.Views.{call_tree, expr_tree};
 ghost use Rattle.c_tree.specs.WellScoped.{IsCallScoped};
 ghost use Rattle.c_mean.specs.Frames.{pushed};

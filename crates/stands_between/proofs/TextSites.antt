@@ -106,7 +106,7 @@ module _ (calls : List CallInText) where
       (sited (Op.CallTable s d f k (k + 1)) (record { call = CallTable s f i e; target = target; scope = scope; rest = rest }) refl h, tt)
   call_all (CallSpawn s f e) target scope rest p k d h = both (expr_code e p k) _ (all_plain (expr_code e p k) (expr_none e p k)) (sited (Op.Spawn s d f k) (record { call = CallSpawn s f e; target = target; scope = scope; rest = rest }) refl h, tt)
   call_all (CallModelled s m es) target scope rest p k d h =
-      both (arguments_code es p k) _ (all_plain (arguments_code es p k) (arguments_none es p k)) (sited (Op.Model s d (Rattle.c_tree.specs.Modelled.number_of m) (arguments_in es k)) (record { call = CallModelled s m es; target = target; scope = scope; rest = rest }) refl h, tt)
+      both (arguments_code es p k) _ (all_plain (arguments_code es p k) (arguments_none es p k)) (sited (Op.Model s d (Rattle.cap_word.specs.ModelledCalls.number_of m) (arguments_in es k)) (record { call = CallModelled s m es; target = target; scope = scope; rest = rest }) refl h, tt)
 
   set_all : (v : RightTree) (target : Target) (scope : List ℕ) (rest : List Item) (p k x : ℕ) → AllIn calls (right_calls v target scope rest) → All (set_code v p k x)
   set_all (Computed e) target scope rest p k x h = both (expr_code e p k) _ (all_plain (expr_code e p k) (expr_none e p k)) (plain (Op.Copy x k) refl, tt)

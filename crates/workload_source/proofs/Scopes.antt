@@ -6,7 +6,7 @@ use Rattle.std.proofs.lemmas.Slice.Eq.{bytes_eq-Decides}
 use Rattle.cap_text.specs.Decimals.{canonical_decimal}
 use Rattle.cap_text.proofs.DecimalLaws.{decimal_unique}
 use Rattle.c_tree.specs.declared.operators.BinaryOperator.{BinaryOperator}
-use Rattle.c_tree.specs.declared.operators.ModelledCall.{ModelledCall}
+use Rattle.cap_word.specs.declared.modelled_calls.ModelledCall.{ModelledCall}
 use Rattle.c_tree.specs.Trees.{Number, Local, Binary, CallFunction, CallSpawn, CallModelled, Computed, Called, DeclareScalar, SetLocal, Calling, Do, For, Return, NoStmts, Then, FunctionTree}
 use Rattle.scope_rules.specs.declared.meanings.Meaning.{Meaning}
 use Rattle.scope_rules.specs.declared.meanings.Found.{Found}

@@ -5,7 +5,7 @@ use Rattle.std.specs.List.{AllByRecursion}
 use Rattle.cap_word.specs.Calls.{call_of, spawn_of}
 use Rattle.cap_word.specs.declared.calls.Ask.{Ask}
 use Rattle.cap_word.specs.declared.traps.TrapKind.{TrapKind}
-use Rattle.c_tree.specs.Modelled.{number_of}
+use Rattle.cap_word.specs.ModelledCalls.{number_of}
 use Rattle.c_tree.specs.Views.{call_tree, expr_tree}
 use Rattle.c_tree.specs.declared.statements.Call.{Call}
 use Rattle.c_tree.specs.declared.expressions.Expr.{Expr}
