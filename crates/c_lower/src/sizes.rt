@@ -189,14 +189,9 @@ fn size_of_stmt(sizes: &mut Vec<u32>, stmt: &Stmt) -> Result<u32, AllocError>
             let side = size_of_passed(sizes, body)?;
             add_more(side, 2, condition)
         }
-        Stmt::For {
-            init,
-            condition,
-            step,
-            body,
-        } => {
+        Stmt::For { parts, body } => {
             let side = size_of_passed(sizes, body)?;
-            size_of_for(init, condition, step, side)
+            size_of_for(&parts.init, &parts.condition, &parts.step, side)
         }
         Stmt::Break | Stmt::Continue => Ok(1),
         Stmt::Return(value) => add_return(0, value),

@@ -130,13 +130,12 @@ pub(crate) fn call_of(
 pub(crate) fn table_call_of(
     alloc: Global,
     name: &Name,
-    index: RawExpr,
-    argument: RawExpr,
+    index: Box<RawExpr>,
+    argument: Box<RawExpr>,
 ) -> Result<RawExpr, AllocError>
-    ensures { IfOk result (λ e. raw_expr_tree e ≡ RawTableCall (name_tree name.now) (raw_expr_tree index) (raw_expr_tree argument)) }
+    ensures { IfOk result (λ e. raw_expr_tree e ≡ RawTableCall (name_tree name.now) (raw_expr_tree index.value) (raw_expr_tree argument.value)) }
 {
-    let pair = boxed_pair(alloc, index, argument)?;
-    let (name, pair) = named(alloc, name, pair)?;
+    let (name, pair) = named(alloc, name, (index, argument))?;
     let (index, argument) = pair;
     Ok(RawExpr::TableCall {
         name,

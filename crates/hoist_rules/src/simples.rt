@@ -6,7 +6,7 @@ ghost use Rattle.hoist_parts.specs.Calls.{holds_call, holds_nested, is_named};
 ghost use Rattle.hoist_parts.specs.Expressions.{names_in, part_after, part_or, part_named, left_of, before, index_left, argument_left};
 ghost use Rattle.hoist_parts.specs.Statements.{returned_names, returned_before, returned_left, value_names, value_left, value_before, table_before, simple_names, simple_left, simple_before};
 
-use crate::built::{both, copied, table_call_of};
+use crate::built::{both, boxed_pair, copied, table_call_of};
 use crate::hoisting::Hoisting;
 use c_tree::{RawExpr, RawSimple, RawStmt};
 use hoist_parts::{holds_call, holds_nested, is_spawn};
@@ -46,13 +46,14 @@ impl Hoisting {
         &mut self,
         index: &RawExpr,
         value: &RawExpr,
-    ) -> Result<(RawExpr, RawExpr), AllocError>
-        ensures index { IfOk result (λ p. raw_expr_tree p.0 ≡ part_or (is_named (holds_nested (raw_expr_tree value.now)) (raw_expr_tree index.now)) (self.old.next + names_in (raw_expr_tree index.now)) (left_of self.old.next (raw_expr_tree index.now))) }
+    ) -> Result<(Box<RawExpr>, RawExpr), AllocError>
+        ensures index { IfOk result (λ p. raw_expr_tree p.0.value ≡ part_or (is_named (holds_nested (raw_expr_tree value.now)) (raw_expr_tree index.now)) (self.old.next + names_in (raw_expr_tree index.now)) (left_of self.old.next (raw_expr_tree index.now))) }
         ensures value { IfOk result (λ p. raw_expr_tree p.1 ≡ value_left (part_after self.old.next (holds_nested (raw_expr_tree value.now)) (raw_expr_tree index.now)) (raw_expr_tree value.now)) }
         ensures before { OnOk result (map raw_stmt_tree self.new.statements.items ≡ map raw_stmt_tree self.old.statements.items ++ (before self.old.next (raw_expr_tree index.now) ++ part_named (is_named (holds_nested (raw_expr_tree value.now)) (raw_expr_tree index.now)) (self.old.next + names_in (raw_expr_tree index.now)) (left_of self.old.next (raw_expr_tree index.now)) ++ value_before (part_after self.old.next (holds_nested (raw_expr_tree value.now)) (raw_expr_tree index.now)) (raw_expr_tree value.now))) }
         ensures next { OnOk result (self.new.next ≡ part_after self.old.next (holds_nested (raw_expr_tree value.now)) (raw_expr_tree index.now) + value_names (raw_expr_tree value.now)) }
     {
         let index = self.part(holds_nested(value), index)?;
+        let index = Box::new(self.alloc, index)?;
         both(index, self.value(value))
     }
 
@@ -61,14 +62,15 @@ impl Hoisting {
         &mut self,
         index: &RawExpr,
         argument: &RawExpr,
-    ) -> Result<(RawExpr, RawExpr), AllocError>
-        ensures index { IfOk result (λ p. raw_expr_tree p.0 ≡ index_left self.old.next (raw_expr_tree index.now) (raw_expr_tree argument.now)) }
-        ensures argument { IfOk result (λ p. raw_expr_tree p.1 ≡ argument_left self.old.next (raw_expr_tree index.now) (raw_expr_tree argument.now)) }
+    ) -> Result<(Box<RawExpr>, Box<RawExpr>), AllocError>
+        ensures index { IfOk result (λ p. raw_expr_tree p.0.value ≡ index_left self.old.next (raw_expr_tree index.now) (raw_expr_tree argument.now)) }
+        ensures argument { IfOk result (λ p. raw_expr_tree p.1.value ≡ argument_left self.old.next (raw_expr_tree index.now) (raw_expr_tree argument.now)) }
         ensures before { OnOk result (map raw_stmt_tree self.new.statements.items ≡ map raw_stmt_tree self.old.statements.items ++ table_before self.old.next (raw_expr_tree index.now) (raw_expr_tree argument.now)) }
         ensures next { OnOk result (self.new.next ≡ part_after self.old.next (holds_call (raw_expr_tree argument.now)) (raw_expr_tree index.now) + names_in (raw_expr_tree argument.now)) }
     {
         let index = self.part(holds_call(argument), index)?;
-        both(index, self.expression(argument))
+        let (index, argument) = both(index, self.expression(argument))?;
+        boxed_pair(self.alloc, index, argument)
     }
 
     /// What is left of a declaration, an assignment or a call.
