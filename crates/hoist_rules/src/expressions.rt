@@ -7,7 +7,7 @@ ghost use Rattle.hoist_parts.specs.Chains.{chain_tree, operand_trees, operand_le
 ghost use Rattle.hoist_parts.specs.Arguments.{passed_left, passed_before, passed_after};
 ghost use Rattle.hoist_parts.specs.Expressions.{one_if, names_in, arguments_names, in_block, part_after, part_or, part_named, left_of, arguments_left, call_left, before, arguments_before};
 
-use crate::built::{boxed_pair, call_of, choice, copied, element, parenthesized, table_call_of};
+use crate::built::{call_of, choice, copied, element, parenthesized, table_call_of};
 use crate::hoisting::Hoisting;
 use c_tree::{Infix, Name, RawExpr, RawStmt};
 use hoist_parts::{
@@ -136,7 +136,6 @@ impl Hoisting {
                 let index = self.part(holds_call(argument), index)?;
                 match self.expression(argument) {
                     Ok(argument) => {
-                        let (index, argument) = boxed_pair(alloc, index, argument)?;
                         let call = table_call_of(alloc, name, index, argument)?;
                         Ok(self.name_part(call)?)
                     }

@@ -24,6 +24,7 @@ impl Hoisting {
         Ok(Box::new(self.alloc, parts)?)
     }
 
+    // A copy of the parts.
     fn kept_parts(&mut self, raw: &RawForParts) -> Result<RawForParts, AllocError>
         requires init { AreSimplesWhole (map raw_simple_tree raw.now.init.items) }
         requires condition { IsConditionWhole (option_map raw_expr_tree raw.now.condition) }

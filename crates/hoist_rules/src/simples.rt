@@ -6,7 +6,7 @@ ghost use Rattle.hoist_parts.specs.Calls.{holds_call, holds_nested, is_named};
 ghost use Rattle.hoist_parts.specs.Expressions.{names_in, part_after, part_or, part_named, left_of, before, index_left, argument_left};
 ghost use Rattle.hoist_parts.specs.Statements.{returned_names, returned_before, returned_left, value_names, value_left, value_before, table_before, simple_names, simple_left, simple_before};
 
-use crate::built::{both, boxed_pair, copied, table_call_of};
+use crate::built::{both, copied, table_call_of, table_calling};
 use crate::hoisting::Hoisting;
 use c_tree::{RawExpr, RawSimple, RawStmt};
 use hoist_parts::{holds_call, holds_nested, is_spawn};
@@ -62,15 +62,14 @@ impl Hoisting {
         &mut self,
         index: &RawExpr,
         argument: &RawExpr,
-    ) -> Result<(Box<RawExpr>, Box<RawExpr>), AllocError>
-        ensures index { IfOk result (λ p. raw_expr_tree p.0.value ≡ index_left self.old.next (raw_expr_tree index.now) (raw_expr_tree argument.now)) }
-        ensures argument { IfOk result (λ p. raw_expr_tree p.1.value ≡ argument_left self.old.next (raw_expr_tree index.now) (raw_expr_tree argument.now)) }
+    ) -> Result<(RawExpr, RawExpr), AllocError>
+        ensures index { IfOk result (λ p. raw_expr_tree p.0 ≡ index_left self.old.next (raw_expr_tree index.now) (raw_expr_tree argument.now)) }
+        ensures argument { IfOk result (λ p. raw_expr_tree p.1 ≡ argument_left self.old.next (raw_expr_tree index.now) (raw_expr_tree argument.now)) }
         ensures before { OnOk result (map raw_stmt_tree self.new.statements.items ≡ map raw_stmt_tree self.old.statements.items ++ table_before self.old.next (raw_expr_tree index.now) (raw_expr_tree argument.now)) }
         ensures next { OnOk result (self.new.next ≡ part_after self.old.next (holds_call (raw_expr_tree argument.now)) (raw_expr_tree index.now) + names_in (raw_expr_tree argument.now)) }
     {
         let index = self.part(holds_call(argument), index)?;
-        let (index, argument) = both(index, self.expression(argument))?;
-        boxed_pair(self.alloc, index, argument)
+        both(index, self.expression(argument))
     }
 
     /// What is left of a declaration, an assignment or a call.
@@ -121,15 +120,8 @@ impl Hoisting {
                 index,
                 argument,
             } => {
-                let name = copied(alloc, name)?;
-                match both(name, self.index_and_argument(index, argument)) {
-                    Ok((name, (index, argument))) => Ok(RawSimple::TableCall {
-                        name,
-                        index,
-                        argument,
-                    }),
-                    Err(error) => Err(error),
-                }
+                let (index, argument) = self.index_and_argument(index, argument)?;
+                table_calling(alloc, name, index, argument)
             }
         }
     }
