@@ -10,7 +10,7 @@ ghost use Rattle.c_lower.specs.StmtSizes.{stmt_sizes, stmts_sizes};
 
 use crate::operators::{size_of_infix, size_of_unary};
 use crate::places::sum;
-use c_tree::{Call, Expr, RightSide, Simple, Stmt};
+use c_tree::{Call, Expr, ForParts, RightSide, Simple, Stmt};
 use std::alloc::AllocError;
 
 // `size` and the number of operations of an expression. The functions after it add what they are named after in the
@@ -149,16 +149,11 @@ fn add_return(size: u32, value: &Option<RightSide>) -> Result<u32, AllocError>
 }
 
 // The size of a `for` whose body has `size` operations.
-fn size_of_for(
-    init: &[Simple],
-    condition: &Option<Expr>,
-    step: &Option<Simple>,
-    size: u32,
-) -> Result<u32, AllocError>
-    ensures { IfOk result (λ n. n ≡ simples_size (map simple_tree init.now) + test_size (option_map expr_tree condition.now) + size + step_size (option_map simple_tree step.now) + 1) }
+fn size_of_for(parts: &ForParts, size: u32) -> Result<u32, AllocError>
+    ensures { IfOk result (λ n. n ≡ simples_size (map simple_tree parts.now.init.items) + test_size (option_map expr_tree parts.now.condition) + size + step_size (option_map simple_tree parts.now.step) + 1) }
 {
-    let turn = add_step(add_test(sum(size, 1)?, condition)?, step)?;
-    add_simples(turn, init)
+    let turn = add_step(add_test(sum(size, 1)?, &parts.condition)?, &parts.step)?;
+    add_simples(turn, &parts.init)
 }
 
 // The size of a statement. The sizes of those in it that jumps pass over are put at the end of `sizes`, from the last
@@ -189,14 +184,9 @@ fn size_of_stmt(sizes: &mut Vec<u32>, stmt: &Stmt) -> Result<u32, AllocError>
             let side = size_of_passed(sizes, body)?;
             add_more(side, 2, condition)
         }
-        Stmt::For {
-            init,
-            condition,
-            step,
-            body,
-        } => {
+        Stmt::For { parts, body } => {
             let side = size_of_passed(sizes, body)?;
-            size_of_for(init, condition, step, side)
+            size_of_for(parts, side)
         }
         Stmt::Break | Stmt::Continue => Ok(1),
         Stmt::Return(value) => add_return(0, value),

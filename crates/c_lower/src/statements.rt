@@ -106,18 +106,13 @@ fn put_stmt(
             put_stmt(alloc, code, sizes, Context { t, leave, skip }, body)?;
             put(code, Op::Jump { to: skip })
         }
-        Stmt::For {
-            init,
-            condition,
-            step,
-            body,
-        } => {
-            put_simples(alloc, code, t, init)?;
+        Stmt::For { parts, body } => {
+            put_simples(alloc, code, t, &parts.init)?;
             let turn = place_after(code, 0, 0)?;
-            let inside = in_turn(code, t, condition, last_size(sizes), step)?;
-            put_test(code, t, inside.leave, condition)?;
+            let inside = in_turn(code, t, &parts.condition, last_size(sizes), &parts.step)?;
+            put_test(code, t, inside.leave, &parts.condition)?;
             put_stmt(alloc, code, sizes, inside, body)?;
-            put_step(alloc, code, t, step)?;
+            put_step(alloc, code, t, &parts.step)?;
             put(code, Op::Jump { to: turn })
         }
         Stmt::Break => put(code, Op::Jump { to: context.leave }),

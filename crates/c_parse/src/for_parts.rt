@@ -58,17 +58,12 @@ fn nested_in_for(stmt: &RawStmt) -> Option<u32>
             ..
         } => first(nested_in_for(then), nested_in_for(otherwise)),
         RawStmt::While { body, .. } => nested_in_for(body),
-        RawStmt::For {
-            init,
-            condition,
-            step,
-            body,
-        } => {
+        RawStmt::For { parts, body } => {
             first(
-                nested_in_simples(init),
+                nested_in_simples(&parts.init),
                 first(
-                    nested_in_condition(condition),
-                    first(nested_in_step(step), nested_in_for(body)),
+                    nested_in_condition(&parts.condition),
+                    first(nested_in_step(&parts.step), nested_in_for(body)),
                 ),
             )
         }

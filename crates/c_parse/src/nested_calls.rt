@@ -59,17 +59,12 @@ fn nested_in_stmt(stmt: &RawStmt) -> Option<u32>
             )
         }
         RawStmt::While { condition, body } => first(first_call(condition), nested_in_stmt(body)),
-        RawStmt::For {
-            init,
-            condition,
-            step,
-            body,
-        } => {
+        RawStmt::For { parts, body } => {
             first(
-                nested_in_simples(init),
+                nested_in_simples(&parts.init),
                 first(
-                    nested_in_condition(condition),
-                    first(nested_in_step(step), nested_in_stmt(body)),
+                    nested_in_condition(&parts.condition),
+                    first(nested_in_step(&parts.step), nested_in_stmt(body)),
                 ),
             )
         }

@@ -3,6 +3,7 @@ use Rattle.std.proofs.Common.{◌≡◌, ℕ, map, sym, ap, ◌∙◌}
 use Rattle.std.specs.Prelude.{Box, Vec, Option, option_map}
 use Rattle.std.specs.declared.alloc.Global.{Global}
 use Rattle.c_tree.specs.declared.raw_expressions.RawExpr.{RawExpr}
+use Rattle.c_tree.specs.declared.raw_statements.RawForParts.{RawForParts}
 use Rattle.c_tree.specs.declared.raw_statements.RawSimple.{RawSimple}
 use Rattle.c_tree.specs.declared.raw_statements.RawStmt.{RawStmt}
 use Rattle.c_tree.specs.declared.raw_statements.RawStmt.TheViews as code
@@ -29,8 +30,8 @@ raw_stmt_tree-IfElse c s r = ap raw_stmt_tree (sym (rolls-IfElse c s r)) ∙ fol
 pub raw_stmt_tree-While : (c : RawExpr) (s : Box RawStmt Global) → raw_stmt_tree (code.While c s) ≡ RawWhile (raw_expr_tree c) (raw_stmt_tree s.value)
 raw_stmt_tree-While c s = ap raw_stmt_tree (sym (rolls-While c s)) ∙ fold-roll-RawStmt RawStmtTree raw_stmt_step _
 
-pub raw_stmt_tree-For : (init : Vec RawSimple Global) (c : Option RawExpr) (step : Option RawSimple) (s : Box RawStmt Global) → raw_stmt_tree (code.For init c step s) ≡ RawFor (map raw_simple_tree init.items) (option_map raw_expr_tree c) (option_map raw_simple_tree step) (raw_stmt_tree s.value)
-raw_stmt_tree-For init c step s = ap raw_stmt_tree (sym (rolls-For init c step s)) ∙ fold-roll-RawStmt RawStmtTree raw_stmt_step _
+pub raw_stmt_tree-For : (parts : Box RawForParts Global) (s : Box RawStmt Global) → raw_stmt_tree (code.For parts s) ≡ RawFor (map raw_simple_tree parts.value.init.items) (option_map raw_expr_tree parts.value.condition) (option_map raw_simple_tree parts.value.step) (raw_stmt_tree s.value)
+raw_stmt_tree-For parts s = ap raw_stmt_tree (sym (rolls-For parts s)) ∙ fold-roll-RawStmt RawStmtTree raw_stmt_step _
 
 pub raw_stmt_tree-Break : (at : ℕ) → raw_stmt_tree (RawStmt.Break at) ≡ RawBreak at
 raw_stmt_tree-Break at = ap raw_stmt_tree (sym (rolls-Break at)) ∙ fold-roll-RawStmt RawStmtTree raw_stmt_step _

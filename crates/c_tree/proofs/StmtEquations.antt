@@ -3,6 +3,7 @@ use Rattle.std.proofs.Common.{◌≡◌, map, sym, ap, ◌∙◌}
 use Rattle.std.specs.Prelude.{Box, Vec, Option, option_map}
 use Rattle.std.specs.declared.alloc.Global.{Global}
 use Rattle.c_tree.specs.declared.expressions.Expr.{Expr}
+use Rattle.c_tree.specs.declared.statements.ForParts.{ForParts}
 use Rattle.c_tree.specs.declared.statements.RightSide.{RightSide}
 use Rattle.c_tree.specs.declared.statements.Simple.{Simple}
 use Rattle.c_tree.specs.declared.statements.Stmt.{Stmt}
@@ -31,8 +32,8 @@ stmt_tree-IfElse c s r = ap stmt_tree (sym (rolls-IfElse c s r)) ∙ fold-roll-S
 pub stmt_tree-While : (c : Expr) (s : Box Stmt Global) → stmt_tree (code.While c s) ≡ plain.While (expr_tree c) (stmt_tree s.value)
 stmt_tree-While c s = ap stmt_tree (sym (rolls-While c s)) ∙ fold-roll-Stmt StmtTree stmt_step _
 
-pub stmt_tree-For : (init : Vec Simple Global) (c : Option Expr) (step : Option Simple) (s : Box Stmt Global) → stmt_tree (code.For init c step s) ≡ plain.For (map simple_tree init.items) (option_map expr_tree c) (option_map simple_tree step) (stmt_tree s.value)
-stmt_tree-For init c step s = ap stmt_tree (sym (rolls-For init c step s)) ∙ fold-roll-Stmt StmtTree stmt_step _
+pub stmt_tree-For : (parts : Box ForParts Global) (s : Box Stmt Global) → stmt_tree (code.For parts s) ≡ plain.For (map simple_tree parts.value.init.items) (option_map expr_tree parts.value.condition) (option_map simple_tree parts.value.step) (stmt_tree s.value)
+stmt_tree-For parts s = ap stmt_tree (sym (rolls-For parts s)) ∙ fold-roll-Stmt StmtTree stmt_step _
 
 pub stmt_tree-Break : stmt_tree Stmt.Break ≡ plain.Break
 stmt_tree-Break = ap stmt_tree (sym rolls-Break) ∙ fold-roll-Stmt StmtTree stmt_step _

@@ -54,9 +54,9 @@ raw_simple_tree (RawSimple.DeclareScalar n) = RawDeclareScalar (name_tree n)
 raw_simple_tree (RawSimple.DeclareArray n size) = RawDeclareArray (name_tree n) size
 raw_simple_tree (RawSimple.DeclareWith n v) = RawDeclareWith (name_tree n) (raw_expr_tree v)
 raw_simple_tree (RawSimple.Set n v) = RawSet (name_tree n) (raw_expr_tree v)
-raw_simple_tree (RawSimple.SetElement n i v) = RawSetElement (name_tree n) (raw_expr_tree i) (raw_expr_tree v)
+raw_simple_tree (RawSimple.SetElement n i v) = RawSetElement (name_tree n) (raw_expr_tree i.value) (raw_expr_tree v)
 raw_simple_tree (RawSimple.Call n es) = RawCalling (name_tree n) (raw_expr_trees es.items)
-raw_simple_tree (RawSimple.TableCall n i e) = RawTableCalling (name_tree n) (raw_expr_tree i) (raw_expr_tree e)
+raw_simple_tree (RawSimple.TableCall n i e) = RawTableCalling (name_tree n) (raw_expr_tree i.value) (raw_expr_tree e.value)
 
 -- a list of statements as statements one after another
 abbrev pub raw_in_order : List RawStmtTree → RawStmtTrees
@@ -71,7 +71,7 @@ raw_stmt_step (RawStmt-F.Block ss) = RawBlock (raw_in_order ss.items)
 raw_stmt_step (RawStmt-F.If c s) = RawIf (raw_expr_tree c) s.value
 raw_stmt_step (RawStmt-F.IfElse c s r) = RawIfElse (raw_expr_tree c) s.value r.value
 raw_stmt_step (RawStmt-F.While c s) = RawWhile (raw_expr_tree c) s.value
-raw_stmt_step (RawStmt-F.For init c step s) = RawFor (map raw_simple_tree init.items) (option_map raw_expr_tree c) (option_map raw_simple_tree step) s.value
+raw_stmt_step (RawStmt-F.For parts s) = RawFor (map raw_simple_tree parts.value.init.items) (option_map raw_expr_tree parts.value.condition) (option_map raw_simple_tree parts.value.step) s.value
 raw_stmt_step (RawStmt-F.Break at) = RawBreak at
 raw_stmt_step (RawStmt-F.Continue at) = RawContinue at
 raw_stmt_step (RawStmt-F.Return at v) = RawReturn at (option_map raw_expr_tree v)

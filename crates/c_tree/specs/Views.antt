@@ -42,7 +42,7 @@ expr_tree = fold-Expr ExprTree expr_step
 
 abbrev pub call_tree : Call → CallTree
 call_tree (Call.Function s f es) = CallFunction s f (map expr_tree es.items)
-call_tree (Call.Table s t i e) = CallTable s t (expr_tree i) (expr_tree e)
+call_tree (Call.Table s t i e) = CallTable s t (expr_tree i.value) (expr_tree e.value)
 call_tree (Call.Spawn s f e) = CallSpawn s f (expr_tree e)
 call_tree (Call.Modelled s m es) = CallModelled s m (map expr_tree es.items)
 
@@ -56,8 +56,8 @@ simple_tree (Simple.DeclareArray x n) = DeclareArray x n
 simple_tree (Simple.DeclareWith x v) = DeclareWith x (right_tree v)
 simple_tree (Simple.SetLocal x v) = SetLocal x (right_tree v)
 simple_tree (Simple.SetGlobal g v) = SetGlobal g (right_tree v)
-simple_tree (Simple.SetLocalElement a i v) = SetLocalElement a (expr_tree i) (right_tree v)
-simple_tree (Simple.SetGlobalElement a i v) = SetGlobalElement a (expr_tree i) (right_tree v)
+simple_tree (Simple.SetLocalElement a i v) = SetLocalElement a (expr_tree i.value) (right_tree v)
+simple_tree (Simple.SetGlobalElement a i v) = SetGlobalElement a (expr_tree i.value) (right_tree v)
 simple_tree (Simple.Call c) = Calling (call_tree c)
 
 -- a list of statements as statements one after another
@@ -73,7 +73,7 @@ stmt_step (Stmt-F.Block ss) = Block (in_order ss.items)
 stmt_step (Stmt-F.If c s) = If (expr_tree c) s.value
 stmt_step (Stmt-F.IfElse c s r) = IfElse (expr_tree c) s.value r.value
 stmt_step (Stmt-F.While c s) = While (expr_tree c) s.value
-stmt_step (Stmt-F.For init c step s) = For (map simple_tree init.items) (option_map expr_tree c) (option_map simple_tree step) s.value
+stmt_step (Stmt-F.For parts s) = For (map simple_tree parts.value.init.items) (option_map expr_tree parts.value.condition) (option_map simple_tree parts.value.step) s.value
 stmt_step Stmt-F.Break = Break
 stmt_step Stmt-F.Continue = Continue
 stmt_step (Stmt-F.Return v) = Return (option_map right_tree v)

@@ -29,5 +29,5 @@ pub use programs::Program;
 pub use raw_expressions::{Name, RawExpr};
 pub use raw_items::{RawFunction, RawItem, RawPrototype, RawTable};
 pub use raw_programs::RawProgram;
-pub use raw_statements::{RawSimple, RawStmt};
-pub use statements::{Call, RightSide, Simple, Stmt};
+pub use raw_statements::{RawForParts, RawSimple, RawStmt};
+pub use statements::{Call, ForParts, RightSide, Simple, Stmt};

@@ -27,7 +27,7 @@ pub enum RawSimple {
     /// `name[index] = value`
     SetElement {
         name: Name,
-        index: RawExpr,
+        index: Box<RawExpr>,
         value: RawExpr,
     },
     /// `name(arguments)`
@@ -38,9 +38,17 @@ pub enum RawSimple {
     /// `name[index](argument)`
     TableCall {
         name: Name,
-        index: RawExpr,
-        argument: RawExpr,
+        index: Box<RawExpr>,
+        argument: Box<RawExpr>,
     },
+}
+
+/// What stands in the parentheses of a `for`.
+#[derive(Drop)]
+pub struct RawForParts {
+    pub init: Vec<RawSimple>,
+    pub condition: Option<RawExpr>,
+    pub step: Option<RawSimple>,
 }
 
 /// A statement with names. `at` is the place of the statement's keyword.
@@ -65,9 +73,7 @@ pub enum RawStmt {
     },
     /// `for (init; condition; step) body`. Declarations of several names are several entries of `init`.
     For {
-        init: Vec<RawSimple>,
-        condition: Option<RawExpr>,
-        step: Option<RawSimple>,
+        parts: Box<RawForParts>,
         body: Box<RawStmt>,
     },
     Break {

@@ -100,14 +100,9 @@ fn list_stmt(sites: &mut Vec<Site>, stmt: &Stmt) -> Result<(), AllocError>
             list_stmt(sites, otherwise)
         }
         Stmt::While { body, .. } => list_stmt(sites, body),
-        Stmt::For {
-            init,
-            step,
-            body,
-            ..
-        } => {
-            list_simples(sites, init)?;
-            list_step(sites, step)?;
+        Stmt::For { parts, body } => {
+            list_simples(sites, &parts.init)?;
+            list_step(sites, &parts.step)?;
             list_stmt(sites, body)
         }
         Stmt::Return(Some(value)) => list_right(sites, value),

@@ -15,8 +15,8 @@ pub enum Call {
     Table {
         site: u32,
         table: u32,
-        index: Expr,
-        argument: Expr,
+        index: Box<Expr>,
+        argument: Box<Expr>,
     },
     /// `spawn(function, argument)`, which starts a thread. `function` is the function's number.
     Spawn {
@@ -66,16 +66,24 @@ pub enum Simple {
     },
     SetLocalElement {
         array: u32,
-        index: Expr,
+        index: Box<Expr>,
         value: RightSide,
     },
     SetGlobalElement {
         array: u32,
-        index: Expr,
+        index: Box<Expr>,
         value: RightSide,
     },
     /// A call whose result, if it gives one, is dropped.
     Call(Call),
+}
+
+/// What stands in the parentheses of a `for`.
+#[derive(Drop)]
+pub struct ForParts {
+    pub init: Vec<Simple>,
+    pub condition: Option<Expr>,
+    pub step: Option<Simple>,
 }
 
 /// A statement (ISO/IEC 9899:2018, 6.8).
@@ -100,9 +108,7 @@ pub enum Stmt {
     },
     /// `for (init; condition; step) body`. Declarations of several names are several entries of `init`.
     For {
-        init: Vec<Simple>,
-        condition: Option<Expr>,
-        step: Option<Simple>,
+        parts: Box<ForParts>,
         body: Box<Stmt>,
     },
     Break,

@@ -196,17 +196,12 @@ fn stmt_of(stmt: &Stmt) -> u32
             )
         }
         Stmt::While { condition, body } => larger(condition.temporaries(), stmt_of(body)),
-        Stmt::For {
-            init,
-            condition,
-            step,
-            body,
-        } => {
+        Stmt::For { parts, body } => {
             larger(
-                simples_of(init),
+                simples_of(&parts.init),
                 larger(
-                    condition_of(condition),
-                    larger(step_of(step), stmt_of(body)),
+                    condition_of(&parts.condition),
+                    larger(step_of(&parts.step), stmt_of(body)),
                 ),
             )
         }

@@ -175,15 +175,10 @@ fn add_stmt(places: &mut Vec<u32>, stmt: &RawStmt) -> Result<(), AllocError>
             add_expr(places, condition)?;
             add_stmt(places, body)
         }
-        RawStmt::For {
-            init,
-            condition,
-            step,
-            body,
-        } => {
-            add_simples(places, init)?;
-            add_optional(places, condition)?;
-            add_step(places, step)?;
+        RawStmt::For { parts, body } => {
+            add_simples(places, &parts.init)?;
+            add_optional(places, &parts.condition)?;
+            add_step(places, &parts.step)?;
             add_stmt(places, body)
         }
         RawStmt::Return { value, .. } => add_optional(places, value),

@@ -12,18 +12,14 @@ use crate::held::{alone, before_sign};
 use crate::plain_statements::up_to_semicolon;
 use crate::simples::{locals, simple};
 use c_grammar::{ParseError, Sign};
-use c_tree::{RawExpr, RawSimple};
-
-/// What stands between the parentheses of a `for`.
-#[derive(Drop)]
-pub(crate) struct Parts {
-    pub(crate) init: Vec<RawSimple>,
-    pub(crate) condition: Option<RawExpr>,
-    pub(crate) step: Option<RawSimple>,
-}
+use c_tree::{RawForParts, RawSimple};
 
 /// The parts of a `for`, with their parentheses.
-pub(crate) fn for_parts(text: Text, cursor: &mut Cursor, depth: u32) -> Result<Parts, ParseError>
+pub(crate) fn for_parts(
+    text: Text,
+    cursor: &mut Cursor,
+    depth: u32,
+) -> Result<RawForParts, ParseError>
     requires { depth ≤ 64 }
     ensures read { IfOk result (λ parts. ReadsForParts text.entry.bytes.now text.entry.end depth cursor.old.tokens.now (map raw_simple_tree parts.init.items) (option_map raw_expr_tree parts.condition) (option_map raw_simple_tree parts.step) cursor.new.tokens.now) }
     ensures refused { IfErr result (λ error. Refused text.entry.end depth (ForParts ∷ []) cursor.old.tokens.now error) }
@@ -32,7 +28,7 @@ pub(crate) fn for_parts(text: Text, cursor: &mut Cursor, depth: u32) -> Result<P
     let init = for_init(text, cursor, inside)?;
     let condition = up_to_semicolon(text, cursor, inside)?;
     let step = for_step(text, cursor, inside)?;
-    Ok(Parts {
+    Ok(RawForParts {
         init,
         condition,
         step,

@@ -49,8 +49,10 @@ fn indexed(
     ensures read { IfOk result (λ s. ReadsIndexed text.entry.bytes.now text.entry.end depth (name_tree name) (raw_expr_tree index) cursor.old.tokens.now (raw_simple_tree s) cursor.new.tokens.now) }
     ensures refused { IfErr result (λ error. Refused text.entry.end depth (AfterSimpleIndex ∷ []) cursor.old.tokens.now error) }
 {
+    let index = Box::new(text.alloc, index)?;
     if cursor.sign() == Sign::LeftParenthesis {
         let (called, argument) = both((name, index), parenthesized(text, cursor, depth))?;
+        let argument = Box::new(text.alloc, argument)?;
         let (name, index) = called;
         return Ok(RawSimple::TableCall {
             name,

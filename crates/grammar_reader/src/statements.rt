@@ -10,7 +10,7 @@ ghost use Rattle.grammar_reader.specs.BodySteps.{RefusedInside, ReadsBody, Reads
 use crate::cursor::{Cursor, Text};
 use crate::expressions::parenthesized;
 use crate::held::{boxed, push_next};
-use crate::loops::{Parts, for_parts};
+use crate::loops::for_parts;
 use crate::plain_statements::{
     break_statement, continue_statement, declarations, return_statement, simple_statement,
 };
@@ -160,20 +160,9 @@ fn for_statement(text: Text, cursor: &mut Cursor, depth: u32) -> Result<RawStmt,
 {
     let inside = cursor.open(text, depth)?;
     let parts = for_parts(text, cursor, inside)?;
+    let parts = Box::new(text.alloc, parts)?;
     match boxed_statement(text, cursor, inside) {
-        Ok(body) => {
-            let Parts {
-                init,
-                condition,
-                step,
-            } = parts;
-            Ok(RawStmt::For {
-                init,
-                condition,
-                step,
-                body,
-            })
-        }
+        Ok(body) => Ok(RawStmt::For { parts, body }),
         Err(error) => {
             drop(parts);
             Err(error)

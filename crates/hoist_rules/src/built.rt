@@ -1,9 +1,9 @@
 // Expressions that are built again from their parts, and values that are held while memory may run out.
 ghost use Rattle.std.specs.Prelude.{◌≡◌, [], ◌∷◌, ◌++◌, Ok, IfOk, MatchResult};
-ghost use Rattle.c_tree.specs.RawTrees.{RawElement, RawParenthesized, RawConditional, RawCall, RawTableCall};
-ghost use Rattle.c_tree.specs.RawViews.{name_tree, raw_expr_tree, raw_expr_trees};
+ghost use Rattle.c_tree.specs.RawTrees.{RawElement, RawParenthesized, RawConditional, RawCall, RawTableCall, RawTableCalling};
+ghost use Rattle.c_tree.specs.RawViews.{name_tree, raw_expr_tree, raw_expr_trees, raw_simple_tree};
 
-use c_tree::{Name, RawExpr};
+use c_tree::{Name, RawExpr, RawSimple};
 use std::alloc::{AllocError, Global};
 
 /// A copy of a name.
@@ -139,6 +139,25 @@ pub(crate) fn table_call_of(
     let (name, pair) = named(alloc, name, pair)?;
     let (index, argument) = pair;
     Ok(RawExpr::TableCall {
+        name,
+        index,
+        argument,
+    })
+}
+
+/// `name[index](argument);`
+pub(crate) fn table_calling(
+    alloc: Global,
+    name: &Name,
+    index: RawExpr,
+    argument: RawExpr,
+) -> Result<RawSimple, AllocError>
+    ensures { IfOk result (λ s. raw_simple_tree s ≡ RawTableCalling (name_tree name.now) (raw_expr_tree index) (raw_expr_tree argument)) }
+{
+    let pair = boxed_pair(alloc, index, argument)?;
+    let (name, pair) = named(alloc, name, pair)?;
+    let (index, argument) = pair;
+    Ok(RawSimple::TableCall {
         name,
         index,
         argument,

@@ -1,68 +1,50 @@
 // The parts in the parentheses of a `for`, whose calls are whole: they stay as they are.
 ghost use Rattle.std.specs.Prelude.{◌≡◌, map, option_map, IfOk, OnOk};
-ghost use Rattle.c_tree.specs.RawTrees.{RawFor};
 ghost use Rattle.c_tree.specs.RawViews.{raw_expr_tree, raw_simple_tree, raw_stmt_tree};
 ghost use Rattle.c_tree.specs.WholeCalls.{IsSimpleWhole, AreSimplesWhole, IsConditionWhole, IsStepWhole};
 
 use crate::built::with_next;
 use crate::hoisting::Hoisting;
-use c_tree::{RawExpr, RawSimple, RawStmt};
+use c_tree::{RawExpr, RawForParts, RawSimple};
 use std::alloc::AllocError;
 
-/// What stands in the parentheses of a `for`.
-#[derive(Drop)]
-pub(crate) struct ForParts {
-    init: Vec<RawSimple>,
-    condition: Option<RawExpr>,
-    step: Option<RawSimple>,
-}
-
-impl ForParts {
-    /// The `for` of these parts and a body.
-    pub(crate) fn with(self, body: Box<RawStmt>) -> RawStmt
-        ensures { raw_stmt_tree result ≡ RawFor (map raw_simple_tree self.init.items) (option_map raw_expr_tree self.condition) (option_map raw_simple_tree self.step) (raw_stmt_tree body.value) }
-    {
-        let ForParts {
-            init,
-            condition,
-            step,
-        } = self;
-        RawStmt::For {
-            init,
-            condition,
-            step,
-            body,
-        }
-    }
-}
-
 impl Hoisting {
-    /// A copy of the parts.
-    pub(crate) fn kept_parts(
-        &mut self,
-        init: &[RawSimple],
-        condition: &Option<RawExpr>,
-        step: &Option<RawSimple>,
-    ) -> Result<ForParts, AllocError>
-        requires init { AreSimplesWhole (map raw_simple_tree init.now) }
-        requires condition { IsConditionWhole (option_map raw_expr_tree condition.now) }
-        requires step { IsStepWhole (option_map raw_simple_tree step.now) }
-        ensures init { IfOk result (λ p. map raw_simple_tree p.init.items ≡ map raw_simple_tree init.now) }
-        ensures condition { IfOk result (λ p. option_map raw_expr_tree p.condition ≡ option_map raw_expr_tree condition.now) }
-        ensures step { IfOk result (λ p. option_map raw_simple_tree p.step ≡ option_map raw_simple_tree step.now) }
+    /// A copy of the parts, in a box.
+    pub(crate) fn boxed_parts(&mut self, raw: &RawForParts) -> Result<Box<RawForParts>, AllocError>
+        requires init { AreSimplesWhole (map raw_simple_tree raw.now.init.items) }
+        requires condition { IsConditionWhole (option_map raw_expr_tree raw.now.condition) }
+        requires step { IsStepWhole (option_map raw_simple_tree raw.now.step) }
+        ensures init { IfOk result (λ p. map raw_simple_tree p.value.init.items ≡ map raw_simple_tree raw.now.init.items) }
+        ensures condition { IfOk result (λ p. option_map raw_expr_tree p.value.condition ≡ option_map raw_expr_tree raw.now.condition) }
+        ensures step { IfOk result (λ p. option_map raw_simple_tree p.value.step ≡ option_map raw_simple_tree raw.now.step) }
         ensures outer { OnOk result (map raw_stmt_tree self.new.statements.items ≡ map raw_stmt_tree self.old.statements.items) }
         ensures next { OnOk result (self.new.next ≡ self.old.next) }
     {
-        let init = self.kept_simples(init)?;
-        let condition = match self.kept_condition(condition) {
+        let parts = self.kept_parts(raw)?;
+        Ok(Box::new(self.alloc, parts)?)
+    }
+
+    // A copy of the parts.
+    fn kept_parts(&mut self, raw: &RawForParts) -> Result<RawForParts, AllocError>
+        requires init { AreSimplesWhole (map raw_simple_tree raw.now.init.items) }
+        requires condition { IsConditionWhole (option_map raw_expr_tree raw.now.condition) }
+        requires step { IsStepWhole (option_map raw_simple_tree raw.now.step) }
+        ensures init { IfOk result (λ p. map raw_simple_tree p.init.items ≡ map raw_simple_tree raw.now.init.items) }
+        ensures condition { IfOk result (λ p. option_map raw_expr_tree p.condition ≡ option_map raw_expr_tree raw.now.condition) }
+        ensures step { IfOk result (λ p. option_map raw_simple_tree p.step ≡ option_map raw_simple_tree raw.now.step) }
+        ensures outer { OnOk result (map raw_stmt_tree self.new.statements.items ≡ map raw_stmt_tree self.old.statements.items) }
+        ensures next { OnOk result (self.new.next ≡ self.old.next) }
+    {
+        let init = self.kept_simples(&raw.init)?;
+        let condition = match self.kept_condition(&raw.condition) {
             Ok(condition) => condition,
             Err(error) => {
                 drop(init);
                 return Err(error);
             }
         };
-        match self.kept_step(step) {
-            Ok(step) => Ok(ForParts {
+        match self.kept_step(&raw.step) {
+            Ok(step) => Ok(RawForParts {
                 init,
                 condition,
                 step,

@@ -6,7 +6,7 @@ ghost use Rattle.hoist_parts.specs.Calls.{holds_call, holds_nested, is_named};
 ghost use Rattle.hoist_parts.specs.Expressions.{names_in, part_after, part_or, part_named, left_of, before, index_left, argument_left};
 ghost use Rattle.hoist_parts.specs.Statements.{returned_names, returned_before, returned_left, value_names, value_left, value_before, table_before, simple_names, simple_left, simple_before};
 
-use crate::built::{both, copied, table_call_of};
+use crate::built::{both, copied, table_call_of, table_calling};
 use crate::hoisting::Hoisting;
 use c_tree::{RawExpr, RawSimple, RawStmt};
 use hoist_parts::{holds_call, holds_nested, is_spawn};
@@ -46,13 +46,14 @@ impl Hoisting {
         &mut self,
         index: &RawExpr,
         value: &RawExpr,
-    ) -> Result<(RawExpr, RawExpr), AllocError>
-        ensures index { IfOk result (λ p. raw_expr_tree p.0 ≡ part_or (is_named (holds_nested (raw_expr_tree value.now)) (raw_expr_tree index.now)) (self.old.next + names_in (raw_expr_tree index.now)) (left_of self.old.next (raw_expr_tree index.now))) }
+    ) -> Result<(Box<RawExpr>, RawExpr), AllocError>
+        ensures index { IfOk result (λ p. raw_expr_tree p.0.value ≡ part_or (is_named (holds_nested (raw_expr_tree value.now)) (raw_expr_tree index.now)) (self.old.next + names_in (raw_expr_tree index.now)) (left_of self.old.next (raw_expr_tree index.now))) }
         ensures value { IfOk result (λ p. raw_expr_tree p.1 ≡ value_left (part_after self.old.next (holds_nested (raw_expr_tree value.now)) (raw_expr_tree index.now)) (raw_expr_tree value.now)) }
         ensures before { OnOk result (map raw_stmt_tree self.new.statements.items ≡ map raw_stmt_tree self.old.statements.items ++ (before self.old.next (raw_expr_tree index.now) ++ part_named (is_named (holds_nested (raw_expr_tree value.now)) (raw_expr_tree index.now)) (self.old.next + names_in (raw_expr_tree index.now)) (left_of self.old.next (raw_expr_tree index.now)) ++ value_before (part_after self.old.next (holds_nested (raw_expr_tree value.now)) (raw_expr_tree index.now)) (raw_expr_tree value.now))) }
         ensures next { OnOk result (self.new.next ≡ part_after self.old.next (holds_nested (raw_expr_tree value.now)) (raw_expr_tree index.now) + value_names (raw_expr_tree value.now)) }
     {
         let index = self.part(holds_nested(value), index)?;
+        let index = Box::new(self.alloc, index)?;
         both(index, self.value(value))
     }
 
@@ -119,15 +120,8 @@ impl Hoisting {
                 index,
                 argument,
             } => {
-                let name = copied(alloc, name)?;
-                match both(name, self.index_and_argument(index, argument)) {
-                    Ok((name, (index, argument))) => Ok(RawSimple::TableCall {
-                        name,
-                        index,
-                        argument,
-                    }),
-                    Err(error) => Err(error),
-                }
+                let (index, argument) = self.index_and_argument(index, argument)?;
+                table_calling(alloc, name, index, argument)
             }
         }
     }

@@ -74,15 +74,10 @@ impl Hoisting {
                     self.while_loop(body, condition)
                 }
             }
-            RawStmt::For {
-                init,
-                condition,
-                step,
-                body,
-            } => {
-                let parts = self.kept_parts(init, condition, step)?;
+            RawStmt::For { parts, body } => {
+                let parts = self.boxed_parts(parts)?;
                 match self.body(body) {
-                    Ok(body) => self.push(parts.with(body)),
+                    Ok(body) => self.push(RawStmt::For { parts, body }),
                     Err(error) => {
                         drop(parts);
                         Err(error)

@@ -1,9 +1,9 @@
 -- Statements whose parts have other numbers of their calls.
 use Rattle.std.proofs.Common.{◌≡◌, ℕ, List, [], ◌∷◌, map, refl, sym, ap, ◌∙◌}
-use Rattle.std.specs.Prelude.{Box, Vec, Option, option_map}
+use Rattle.std.specs.Prelude.{Box, option_map}
 use Rattle.std.specs.declared.alloc.Global.{Global}
 use Rattle.c_tree.specs.declared.expressions.Expr.{Expr}
-use Rattle.c_tree.specs.declared.statements.Simple.{Simple}
+use Rattle.c_tree.specs.declared.statements.ForParts.{ForParts}
 use Rattle.c_tree.specs.declared.statements.Stmt.{Stmt}
 use Rattle.c_tree.specs.declared.statements.Stmt.TheViews as code
 use Rattle.c_tree.specs.Trees.{StmtTree, If, IfElse, While, For, Then}
@@ -27,8 +27,8 @@ module _ (ns : List ℕ) (s : Stmt) where
   pub while_numbered : (c d : Expr) (p : Box Stmt Global) (q : Stmt) → s ≡ code.While c p → d ≡ c → stmt_tree q ≡ stmt_numbered ns (stmt_tree p.value) → While (expr_tree d) (stmt_tree q) ≡ stmt_numbered ns (stmt_tree s)
   while_numbered c d p q is e f = (λ i. While (expr_tree (e i)) (f i)) ∙ sym (ap (stmt_numbered ns) (ap stmt_tree is ∙ stmt_tree-While c p))
 
-  pub for_numbered : (init : Vec Simple Global) (c d : Option Expr) (step : Option Simple) (p : Box Stmt Global) (starts : List Simple) (after : Option Simple) (q : Stmt) → s ≡ code.For init c step p → d ≡ c →
-      map simple_tree starts ≡ map (simple_numbered ns) (map simple_tree init.items) → option_map simple_tree after ≡ option_map (simple_numbered ns) (option_map simple_tree step) → stmt_tree q ≡ stmt_numbered ns (stmt_tree p.value) →
-      For (map simple_tree starts) (option_map expr_tree d) (option_map simple_tree after) (stmt_tree q) ≡ stmt_numbered ns (stmt_tree s)
-  for_numbered init c d step p starts after q is e f g h =
-      (λ i. For (f i) (option_map expr_tree (e i)) (g i) (h i)) ∙ sym (ap (stmt_numbered ns) (ap stmt_tree is ∙ stmt_tree-For init c step p))
+  pub for_numbered : (parts : Box ForParts Global) (p : Box Stmt Global) (made : ForParts) (q : Stmt) → s ≡ code.For parts p → map simple_tree made.init.items ≡ map (simple_numbered ns) (map simple_tree parts.value.init.items) → made.condition ≡ parts.value.condition →
+      option_map simple_tree made.step ≡ option_map (simple_numbered ns) (option_map simple_tree parts.value.step) → stmt_tree q ≡ stmt_numbered ns (stmt_tree p.value) →
+      For (map simple_tree made.init.items) (option_map expr_tree made.condition) (option_map simple_tree made.step) (stmt_tree q) ≡ stmt_numbered ns (stmt_tree s)
+  for_numbered parts p made q is e f g h =
+      (λ i. For (e i) (option_map expr_tree (f i)) (g i) (h i)) ∙ sym (ap (stmt_numbered ns) (ap stmt_tree is ∙ stmt_tree-For parts p))

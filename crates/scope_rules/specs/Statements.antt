@@ -41,6 +41,10 @@ abbrev pub step_after : Spot → Option RawSimpleTree → Spot
 step_after s None = s
 step_after s (Some p) = simple_after s p
 
+-- the rules that the parts of a for break
+abbrev pub parts_faults : Spot → List RawSimpleTree → Option RawExprTree → Option RawSimpleTree → List Fault
+parts_faults s init c step = simples_faults s init ++ (condition_faults (simples_after s init).names c ++ step_faults (simples_after s init) step)
+
 -- return: Kind with a value in a void function, and without one in an int function
 abbrev pub return_faults : Bool → List Binding → ℕ → Option RawExprTree → List Fault
 return_faults gives names at None = broken gives at Rule.Kind

@@ -8,7 +8,7 @@ ghost use Rattle.scope_rules.specs.Faults.{least_of};
 ghost use Rattle.scope_rules.specs.Calls.{call_name_faults, table_name_faults, spawned_faults, spawn_faults, call_faults, table_call_faults, right_faults, spawned_function, first_value, spawn_of, call_of, table_call_of, right_of, right_after, next};
 ghost use Rattle.scope_rules.specs.Places.{spot_of, called};
 
-use crate::expressions::{expr, exprs, then_expr};
+use crate::expressions::{expr, exprs, then_boxed};
 use crate::faults::{Fault, Rule, note, note_if};
 use crate::forms::{Form, form_of};
 use crate::held::both;
@@ -209,7 +209,8 @@ impl<'a> Place<'a> {
         let found = self.names.find(&name.text);
         check_table_name(&mut self.least, found, name.at);
         let index = expr(alloc, &self.names, &mut self.least, index)?;
-        match then_expr(index, alloc, &self.names, &mut self.least, argument) {
+        let index = Box::new(alloc, index)?;
+        match then_boxed(index, alloc, &self.names, &mut self.least, argument) {
             Ok((index, argument)) => Ok(Call::Table {
                 site,
                 table: table_of(found),

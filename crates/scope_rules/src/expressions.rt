@@ -157,18 +157,18 @@ fn operands(
 }
 
 /// An expression, and what stands before it.
-pub fn then_expr<T: Drop>(
+pub fn then_boxed<T: Drop>(
     before: T,
     alloc: Global,
     names: &Names,
     least: &mut Option<Fault>,
     raw: &RawExpr,
-) -> Result<(T, Expr), AllocError>
+) -> Result<(T, Box<Expr>), AllocError>
     ensures before { IfOk result (λ p. p.0 ≡ before) }
-    ensures tree { IfOk result (λ p. expr_tree p.1 ≡ expr_of names.now (raw_expr_tree raw.now)) }
+    ensures tree { IfOk result (λ p. expr_tree p.1.value ≡ expr_of names.now (raw_expr_tree raw.now)) }
     ensures faults { OnOk result (least.new ≡ least_of least.old (expr_faults names.now (raw_expr_tree raw.now))) }
 {
-    both(before, expr(alloc, names, least, raw))
+    both(before, boxed(alloc, expr(alloc, names, least, raw)))
 }
 
 /// Arguments, with numbers for names.

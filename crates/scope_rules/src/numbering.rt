@@ -3,7 +3,7 @@ ghost use Rattle.std.specs.Prelude.{◌≡◌, map, option_map};
 ghost use Rattle.c_tree.specs.Views.{call_tree, right_tree, simple_tree, stmt_tree, stmt_trees, function_tree};
 ghost use Rattle.scope_rules.specs.Numbered.{number_at, call_numbered, right_numbered, simple_numbered, stmt_numbered, stmts_numbered, function_numbered};
 
-use c_tree::{Call, Function, RightSide, Simple, Stmt};
+use c_tree::{Call, ForParts, Function, RightSide, Simple, Stmt};
 
 /// Gives each call the number that stands for its own in the table.
 pub(crate) fn number_functions(functions: &mut [Function], numbers: &[u32])
@@ -90,6 +90,16 @@ fn number_returned(value: &mut Option<RightSide>, numbers: &[u32])
     }
 }
 
+// What stands in the parentheses of a `for`.
+fn number_parts(parts: &mut ForParts, numbers: &[u32])
+    ensures init { map simple_tree parts.new.init.items ≡ map (simple_numbered numbers.now) (map simple_tree parts.old.init.items) }
+    ensures condition { parts.new.condition ≡ parts.old.condition }
+    ensures step { option_map simple_tree parts.new.step ≡ option_map (simple_numbered numbers.now) (option_map simple_tree parts.old.step) }
+{
+    number_simples(&mut parts.init, numbers);
+    number_step(&mut parts.step, numbers);
+}
+
 #[cycle(number)]
 fn number_stmt(stmt: &mut Stmt, numbers: &[u32])
     ensures { stmt_tree stmt.new ≡ stmt_numbered numbers.now (stmt_tree stmt.old) }
@@ -108,14 +118,8 @@ fn number_stmt(stmt: &mut Stmt, numbers: &[u32])
             number_stmt(otherwise, numbers);
         }
         Stmt::While { body, .. } => number_stmt(body, numbers),
-        Stmt::For {
-            init,
-            step,
-            body,
-            ..
-        } => {
-            number_simples(init, numbers);
-            number_step(step, numbers);
+        Stmt::For { parts, body } => {
+            number_parts(parts, numbers);
             number_stmt(body, numbers);
         }
         Stmt::Return(value) => number_returned(value, numbers),

@@ -66,8 +66,8 @@ fn scalar_set(scalar: Variable, value: RightSide) -> Simple
 }
 
 // An assignment to a word of an array.
-fn element_set(array: Variable, index: Expr, value: RightSide) -> Simple
-    ensures { simple_tree result ≡ set_element array (expr_tree index) (right_tree value) }
+fn element_set(array: Variable, index: Box<Expr>, value: RightSide) -> Simple
+    ensures { simple_tree result ≡ set_element array (expr_tree index.value) (right_tree value) }
 {
     match array {
         Variable::Local(array) => Simple::SetLocalElement {
@@ -146,6 +146,7 @@ impl<'a> Place<'a> {
     {
         let array = array(&self.names, &mut self.least, name);
         let index = expr(self.alloc, &self.names, &mut self.least, index)?;
+        let index = Box::new(self.alloc, index)?;
         match self.then_right(index, value) {
             Ok((index, value)) => Ok(element_set(array, index, value)),
             Err(error) => Err(error),

@@ -6,14 +6,14 @@ ghost use Rattle.c_tree.specs.Views.{expr_tree, right_tree, simple_tree, stmt_tr
 ghost use Rattle.scope_rules.specs.Faults.{least_of};
 ghost use Rattle.scope_rules.specs.Expressions.{expr_faults, expr_of};
 ghost use Rattle.scope_rules.specs.Places.{spot_of};
-ghost use Rattle.scope_rules.specs.Simples.{simple_of};
-ghost use Rattle.scope_rules.specs.Statements.{inside, left, condition_faults, step_kind, step_faults, step_after, return_faults, returned_of, returned_after, stmt_after, stmts_after, stmt_faults, stmts_faults, stmt_of, stmts_of};
+ghost use Rattle.scope_rules.specs.Simples.{simple_of, simples_of, simples_after};
+ghost use Rattle.scope_rules.specs.Statements.{inside, left, condition_faults, step_kind, step_faults, step_after, parts_faults, return_faults, returned_of, returned_after, stmt_after, stmts_after, stmt_faults, stmts_faults, stmt_of, stmts_of};
 
 use crate::expressions::expr;
 use crate::faults::{Fault, Rule, note, note_if};
 use crate::held::{both, boxed, with_next};
 use crate::places::Place;
-use c_tree::{Expr, RawExpr, RawSimple, RawStmt, RightSide, Simple, Stmt};
+use c_tree::{Expr, ForParts, RawExpr, RawForParts, RawSimple, RawStmt, RightSide, Simple, Stmt};
 use std::alloc::AllocError;
 
 // What is wrong with the step of a `for` as such: it declares a name.
@@ -77,6 +77,32 @@ impl<'a> Place<'a> {
         ensures faults { OnOk result (self.new.least ≡ least_of self.old.least (step_faults (spot_of self.old) (option_map raw_simple_tree raw.now))) }
     {
         both(before, self.step(raw))
+    }
+
+    // What stands in the parentheses of a `for`.
+    fn for_parts(&mut self, raw: &'a RawForParts) -> Result<Box<ForParts>, AllocError>
+        ensures init { IfOk result (λ p. map simple_tree p.value.init.items ≡ simples_of (spot_of self.old) (map raw_simple_tree raw.now.init.items)) }
+        ensures condition { IfOk result (λ p. option_map expr_tree p.value.condition ≡ option_map (expr_of (simples_after (spot_of self.old) (map raw_simple_tree raw.now.init.items)).names) (option_map raw_expr_tree raw.now.condition)) }
+        ensures step { IfOk result (λ p. option_map simple_tree p.value.step ≡ option_map (simple_of (simples_after (spot_of self.old) (map raw_simple_tree raw.now.init.items))) (option_map raw_simple_tree raw.now.step)) }
+        ensures place { OnOk result (spot_of self.new ≡ step_after (simples_after (spot_of self.old) (map raw_simple_tree raw.now.init.items)) (option_map raw_simple_tree raw.now.step)) }
+        ensures faults { OnOk result (self.new.least ≡ least_of self.old.least (parts_faults (spot_of self.old) (map raw_simple_tree raw.now.init.items) (option_map raw_expr_tree raw.now.condition) (option_map raw_simple_tree raw.now.step))) }
+    {
+        let init = self.simples(&raw.init)?;
+        let before = both(init, self.condition(&raw.condition))?;
+        match self.then_step(before, &raw.step) {
+            Ok(((init, condition), step)) => {
+                let parts = Box::new(
+                    self.alloc,
+                    ForParts {
+                        init,
+                        condition,
+                        step,
+                    },
+                )?;
+                Ok(parts)
+            }
+            Err(error) => Err(error),
+        }
     }
 
     // What a function that gives a result or not returns at `at`.
@@ -178,25 +204,13 @@ impl<'a> Place<'a> {
                     Err(error) => Err(error),
                 }
             }
-            RawStmt::For {
-                init,
-                condition,
-                step,
-                body,
-            } => {
+            RawStmt::For { parts, body } => {
                 let scope = self.enter();
-                let init = self.simples(init)?;
-                let before = both(init, self.condition(condition))?;
-                let before = self.then_step(before, step)?;
-                let made = both(before, self.body(gives, true, body));
+                let parts = self.for_parts(parts)?;
+                let made = both(parts, self.body(gives, true, body));
                 self.leave(scope);
                 match made {
-                    Ok((((init, condition), step), body)) => Ok(Stmt::For {
-                        init,
-                        condition,
-                        step,
-                        body,
-                    }),
+                    Ok((parts, body)) => Ok(Stmt::For { parts, body }),
                     Err(error) => Err(error),
                 }
             }

@@ -55,25 +55,18 @@ pub fn push_stmt<'a>(items: &mut Vec<Item<'a>>, stmt: &'a Stmt) -> Result<(), Al
     match stmt {
         Stmt::Empty => Ok(()),
         Stmt::Block(stmts) => push_stmts(items, stmts),
-        Stmt::For {
-            init,
-            condition: Some(_),
-            ..
-        } => {
-            push(items, Part::Test, stmt)?;
-            push_start(items, stmt, init)
-        }
-        Stmt::For {
-            init,
-            condition: None,
-            body,
-            ..
-        } => {
-            push_end(items, stmt)?;
-            push_stmt(items, body)?;
-            push(items, Part::Enter, stmt)?;
-            push_start(items, stmt, init)
-        }
+        Stmt::For { parts, body } => match &parts.condition {
+            Some(_) => {
+                push(items, Part::Test, stmt)?;
+                push_start(items, stmt, &parts.init)
+            }
+            None => {
+                push_end(items, stmt)?;
+                push_stmt(items, body)?;
+                push(items, Part::Enter, stmt)?;
+                push_start(items, stmt, &parts.init)
+            }
+        },
         Stmt::Simple(_) => push(items, Part::Whole, stmt),
         Stmt::If { .. } => push(items, Part::Whole, stmt),
         Stmt::IfElse { .. } => push(items, Part::Whole, stmt),
@@ -268,7 +261,7 @@ pub fn condition_of(stmt: &Stmt) -> Option<&Expr>
     ensures { option_map (λ e. expr_tree e.now) result ≡ parts.condition_of (stmt_tree stmt.now) }
 {
     match stmt {
-        Stmt::For { condition, .. } => condition.as_ref(),
+        Stmt::For { parts, .. } => parts.condition.as_ref(),
         Stmt::Simple(_) => None,
         Stmt::Empty => None,
         Stmt::Block(_) => None,
@@ -286,7 +279,7 @@ pub fn start_of(stmt: &Stmt, number: usize) -> Option<&Simple>
     ensures { option_map (λ s. simple_tree s.now) result ≡ slice_get (parts.start_of (stmt_tree stmt.now)) number }
 {
     match stmt {
-        Stmt::For { init, .. } => init.get(number),
+        Stmt::For { parts, .. } => parts.init.get(number),
         Stmt::Simple(_) => None,
         Stmt::Empty => None,
         Stmt::Block(_) => None,
@@ -304,7 +297,7 @@ pub fn step_of(stmt: &Stmt) -> Option<&Simple>
     ensures { option_map (λ s. simple_tree s.now) result ≡ parts.step_of (stmt_tree stmt.now) }
 {
     match stmt {
-        Stmt::For { step, .. } => step.as_ref(),
+        Stmt::For { parts, .. } => parts.step.as_ref(),
         Stmt::Simple(_) => None,
         Stmt::Empty => None,
         Stmt::Block(_) => None,

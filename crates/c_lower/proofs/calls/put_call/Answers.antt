@@ -9,5 +9,5 @@ pub returns-in_ok-put_expr-in-Table : goal.returns-in_ok-put_expr-in-Table
 returns-in_ok-put_expr-in-Table c =
     rw c.in-Table.is
     (then_on_ok c.put_then.result
-    (expr_then_put _ _ _ (expr_tree c.in-Table.index) c.args.k (λ p. expr_code (expr_tree c.in-Table.argument) p (c.args.k + 1)) _ c.in_ok-put_expr-in-Table.ensures)
-    c.put_then.ensures)
+    (expr_then_put _ _ _ (expr_tree c.in-Table.index.value) c.args.k (λ p. expr_code (expr_tree c.in-Table.argument.value) p (c.args.k + 1)) _ (rw c.deref-in-Table.ensures at c.in_ok-put_expr-in-Table.ensures))
+    (rw c.deref-in-Table-2.ensures at c.put_then.ensures))

@@ -1,13 +1,11 @@
 use borrow.Enum.Known.{ValuesAt}
 use borrow.Enum.Total.{values_o, values_o_at, values_d, values_d_at}
-use Rattle.std.proofs.Common.{refl, ap, map, sym, ◌∙◌, arith, List, length}
+use Rattle.std.proofs.Common.{refl, ap, map, sym, ◌∙◌, arith}
 use Rattle.std.specs.Prelude.{option_map}
-use Rattle.std.proofs.lemmas.List.{with_items_is}
 use Rattle.c_tree.specs.declared.statements.Stmt.{Stmt}
 use Rattle.c_tree.specs.contracts.statements.Stmt.{enum}
-use Rattle.c_tree.specs.declared.statements.Simple.{Simple}
-use Rattle.c_tree.specs.Trees.{For}
-use Rattle.c_tree.specs.Views.{expr_tree, simple_tree, stmt_tree, in_order}
+use Rattle.c_tree.specs.declared.statements.ForParts.{ForParts}
+use Rattle.c_tree.specs.Views.{simple_tree, stmt_tree, in_order}
 use Rattle.c_tree.proofs.StmtEquations.{stmt_tree-If, stmt_tree-IfElse, stmt_tree-While, stmt_tree-For}
 use Rattle.scope_rules.specs.Numbered.{simple_numbered, stmt_numbered}
 use Rattle.scope_rules.proofs.MappedLists.{changed_more, changed_all, left_more}
@@ -41,16 +39,13 @@ number_stmt-returns-in-While t c =
 pub number_stmt-returns-in-For : goal.number_stmt-returns-in-For
 number_stmt-returns-in-For t c =
     let ns = c.args.numbers.now in
-    let given : ValuesAt enum.parts 6 = (c.in-For.init, (c.in-For.condition, (c.in-For.step, (c.in-For.body, tt {0})))) in
-    let x = values_d enum 6 given c.args.stmt.now in
-    let e = c.number_simples.ensures ∙ ap (λ y. map (simple_numbered ns) (map simple_tree y)) (c.deref_mut-in-For.ensures.value ∙ ap (λ v. v.items) c.in-For.init-is) in
-    let f = c.number_step.ensures ∙ ap (λ y. option_map (simple_numbered ns) (option_map simple_tree y)) c.in-For.step-is in
-    let g = c.number_stmt-in-For.ensures ∙ ap (λ y. stmt_numbered ns (stmt_tree y)) (c.deref_mut-in-For-2.ensures.value ∙ ap (λ b. b.value) c.in-For.body-is) in
-    let there = ap (λ (s : Stmt). (values_d enum 6 given s).1.0) c.in-For.is ∙ ap (λ v. v.1.0) (values_d_at enum 6 given given) in
-    let long = c.number_simples.auto.simples ∙ ap length c.deref_mut-in-For.ensures.value ∙ sym x.0.ok.0 in
-    stmt_tree-For _ _ _ _
-    ∙ (ap (λ (l : List Simple). For (map simple_tree l) (option_map expr_tree x.1.0) (option_map simple_tree c.number_step.new.step) (stmt_tree c.number_stmt-in-For.new.stmt)) (with_items_is x.0 c.number_simples.new.simples long)
-    ∙ for_numbered ns c.args.stmt.now c.in-For.init c.in-For.condition x.1.0 c.in-For.step c.in-For.body c.number_simples.new.simples c.number_step.new.step c.number_stmt-in-For.new.stmt c.in-For.is there e f g)
+    let was = c.deref_mut-in-For.ensures.value ∙ ap (λ b. b.value) c.in-For.parts-is in
+    let init = c.number_parts.ensures.init ∙ ap (λ (p : ForParts). map (simple_numbered ns) (map simple_tree p.init.items)) was in
+    let condition = c.number_parts.ensures.condition ∙ ap (λ (p : ForParts). p.condition) was in
+    let step = c.number_parts.ensures.step ∙ ap (λ (p : ForParts). option_map (simple_numbered ns) (option_map simple_tree p.step)) was in
+    let body = c.number_stmt-in-For.ensures ∙ ap (λ x. stmt_numbered ns (stmt_tree x)) (c.deref_mut-in-For-2.ensures.value ∙ ap (λ b. b.value) c.in-For.body-is) in
+    stmt_tree-For _ _
+    ∙ for_numbered ns c.args.stmt.now c.in-For.parts c.in-For.body c.number_parts.new.parts c.number_stmt-in-For.new.stmt c.in-For.is init condition step body
 
 pub number_stmts-loop-i-preserved : goal.number_stmts-loop-i-preserved
 number_stmts-loop-i-preserved t c =

@@ -71,26 +71,28 @@ stmt-returns-in-Ok-both-clause-faults t c =
 
 pub stmt-returns-in-Ok-made-clause-place : goal.stmt-returns-in-Ok-made-clause-place
 stmt-returns-in-Ok-made-clause-place t c =
-    let k = rw c.in_ok-before-in-For.ensures.next at c.condition.ensures.place in
+    let parts = c.in-For.parts.value in
+    let k = rw c.deref-in-For.ensures at c.in_ok-parts-in-For.ensures.place in
     let b = rw c.in-Ok-made.ensures.next at c.body-in-For.ensures.place in
-    rw (c.in-For.is, raw_stmt_tree-For c.in-For.init c.in-For.condition c.in-For.step c.in-For.body, ← c.deref-in-For-2.ensures, ← c.deref-in-For.ensures.value)
-    (for_place (spot_of c.args.self.now) (spot_of c.enter-scope.new.self) (spot_of c.simples.new.self) (spot_of c.condition.new.self) (spot_of c.then_step.new.self) (spot_of c.body-in-For.new.self)
-    (map raw_simple_tree c.deref-in-For.result.now) (option_map raw_simple_tree c.in-For.step) (raw_stmt_tree c.deref-in-For-2.result.now)
-    c.enter-scope.ensures.place c.in_ok-init-in-For.ensures.place k c.in_ok-before-in-For-2.ensures.place
+    rw (c.in-For.is, raw_stmt_tree-For c.in-For.parts c.in-For.body, ← c.deref-in-For-2.ensures)
+    (for_place (spot_of c.args.self.now) (spot_of c.enter-scope.new.self) (spot_of c.for_parts.new.self) (spot_of c.body-in-For.new.self)
+    (map raw_simple_tree parts.init.items) (option_map raw_simple_tree parts.step) (raw_stmt_tree c.deref-in-For-2.result.now)
+    c.enter-scope.ensures.place k
     (spot_of c.leave.new.self) c.enter-scope.result.count c.enter-scope.result.outer b c.enter-scope.ensures.count c.enter-scope.ensures.outer c.leave.ensures.place)
 
 pub stmt-returns-in-Ok-made-clause-faults : goal.stmt-returns-in-Ok-made-clause-faults
 stmt-returns-in-Ok-made-clause-faults t c =
-    let k = rw c.in_ok-before-in-For.ensures.next at c.condition.ensures.place in
+    let parts = c.in-For.parts.value in
+    let k = rw c.deref-in-For.ensures at c.in_ok-parts-in-For.ensures.place in
+    let f = rw c.deref-in-For.ensures at c.in_ok-parts-in-For.ensures.faults in
     let b = rw c.in-Ok-made.ensures.next at c.body-in-For.ensures.faults in
-    let f = rw c.in_ok-before-in-For.ensures.next at c.condition.ensures.faults in
-    rw (c.in-For.is, raw_stmt_tree-For c.in-For.init c.in-For.condition c.in-For.step c.in-For.body, ← c.deref-in-For-2.ensures, ← c.deref-in-For.ensures.value)
+    rw (c.in-For.is, raw_stmt_tree-For c.in-For.parts c.in-For.body, ← c.deref-in-For-2.ensures)
     (c.leave.ensures.faults ∙
-    for_faults (spot_of c.args.self.now) (spot_of c.enter-scope.new.self) (spot_of c.simples.new.self) (spot_of c.condition.new.self) (spot_of c.then_step.new.self) (spot_of c.body-in-For.new.self)
-    (map raw_simple_tree c.deref-in-For.result.now) (option_map raw_simple_tree c.in-For.step) (raw_stmt_tree c.deref-in-For-2.result.now)
-    c.enter-scope.ensures.place c.in_ok-init-in-For.ensures.place k c.in_ok-before-in-For-2.ensures.place
-    c.args.gives (option_map raw_expr_tree c.in-For.condition) c.args.self.now.least c.enter-scope.new.self.least c.simples.new.self.least c.condition.new.self.least c.then_step.new.self.least c.body-in-For.new.self.least
-    c.enter-scope.ensures.faults c.in_ok-init-in-For.ensures.faults f c.in_ok-before-in-For-2.ensures.faults b)
+    for_faults (spot_of c.args.self.now) (spot_of c.enter-scope.new.self) (spot_of c.for_parts.new.self) (spot_of c.body-in-For.new.self)
+    (map raw_simple_tree parts.init.items) (option_map raw_simple_tree parts.step) (raw_stmt_tree c.deref-in-For-2.result.now)
+    c.enter-scope.ensures.place k
+    c.args.gives (option_map raw_expr_tree parts.condition) c.args.self.now.least c.enter-scope.new.self.least c.for_parts.new.self.least c.body-in-For.new.self.least
+    c.enter-scope.ensures.faults f b)
 
 pub stmts-loop-stmt-preserved : goal.stmts-loop-stmt-preserved
 stmts-loop-stmt-preserved t c =

@@ -144,10 +144,10 @@ enter-requires-clause-fits c =
     ∙ (ap (λ (es : List Expr). length (map expr_tree es)) c.deref.ensures.value ∙ h.scoped.1))
 
 pub value-requires-clause-in_range : goal.value-requires-clause-in_range
-value-requires-clause-in_range c = let h = rw c.in-Table.is at c.requires.scoped in scoped_in_range (context_at (tree_of c.args.self.now) c.args.thread.now.front.function) h.scope (expr_tree c.in-Table.index) h.scoped.1
+value-requires-clause-in_range c = let h = rw c.in-Table.is at c.requires.scoped in rw c.deref-in-Table.ensures (scoped_in_range (context_at (tree_of c.args.self.now) c.args.thread.now.front.function) h.scope (expr_tree c.in-Table.index.value) h.scoped.1)
 
 pub value-requires-in-Table-clause-in_range : goal.value-requires-in-Table-clause-in_range
-value-requires-in-Table-clause-in_range c = let h = rw c.in-Table.is at c.requires.scoped in scoped_in_range (context_at (tree_of c.args.self.now) c.args.thread.now.front.function) h.scope (expr_tree c.in-Table.argument) h.scoped.2
+value-requires-in-Table-clause-in_range c = let h = rw c.in-Table.is at c.requires.scoped in rw c.deref-in-Table-2.ensures (scoped_in_range (context_at (tree_of c.args.self.now) c.args.thread.now.front.function) h.scope (expr_tree c.in-Table.argument.value) h.scoped.2)
 
 pub value-requires-in-Spawn-clause-in_range : goal.value-requires-in-Spawn-clause-in_range
 value-requires-in-Spawn-clause-in_range c = let h = rw c.in-Spawn.is at c.requires.scoped in scoped_in_range (context_at (tree_of c.args.self.now) c.args.thread.now.front.function) h.scope (expr_tree c.in-Spawn.argument) h.scoped.2
@@ -202,8 +202,8 @@ returns-in_err-index-in-Table c =
     let members = slice_index_or tree.tables call.table [] in
     let p = err_from_is_err_and c.from_residual-in_err-index-in-Table.result c.from_residual-in_err-index-in-Table.ensures.1 in
     made-so tree _ (called tree running place (call_tree c.args.call.now)) words thread c.from_residual-in_err-index-in-Table.result (ap (λ (k : Call). called tree running place (call_tree k)) call.is)
-    (trap-from tree running words thread (valued running (expr_tree call.index)) (λ index. on_value running (valued running (expr_tree call.argument)) (λ argument. entered_by members tree running call.site place index argument)) _
-    c.from_residual-in_err-index-in-Table.result p.0 p.1 p.2 (sym c.in_err-index-in-Table.ensures) refl)
+    (trap-from tree running words thread (valued running (expr_tree call.index.value)) (λ index. on_value running (valued running (expr_tree call.argument.value)) (λ argument. entered_by members tree running call.site place index argument)) _
+    c.from_residual-in_err-index-in-Table.result p.0 p.1 p.2 (sym (rw c.deref-in-Table.ensures at c.in_err-index-in-Table.ensures)) refl)
 
 pub returns-in_err-argument-in-Table : goal.returns-in_err-argument-in-Table
 returns-in_err-argument-in-Table c =
@@ -218,8 +218,8 @@ returns-in_err-argument-in-Table c =
     let r = c.from_residual-in_err-argument-in-Table.result in
     let p = err_from_is_err_and r c.from_residual-in_err-argument-in-Table.ensures.1 in
     made-so tree _ (called tree running place (call_tree c.args.call.now)) words thread r (ap (λ (k : Call). called tree running place (call_tree k)) call.is)
-    (value-used tree running words thread (valued running (expr_tree call.index)) (λ index. on_value running (valued running (expr_tree call.argument)) (λ argument. entered_by members tree running call.site place index argument)) index r (sym c.in_ok-index-in-Table.ensures)
-    (trap-from tree running words thread (valued running (expr_tree call.argument)) (λ argument. entered_by members tree running call.site place index argument) _ r p.0 p.1 p.2 (sym c.in_err-argument-in-Table.ensures) refl))
+    (value-used tree running words thread (valued running (expr_tree call.index.value)) (λ index. on_value running (valued running (expr_tree call.argument.value)) (λ argument. entered_by members tree running call.site place index argument)) index r (sym (rw c.deref-in-Table.ensures at c.in_ok-index-in-Table.ensures))
+    (trap-from tree running words thread (valued running (expr_tree call.argument.value)) (λ argument. entered_by members tree running call.site place index argument) _ r p.0 p.1 p.2 (sym (rw c.deref-in-Table-2.ensures at c.in_err-argument-in-Table.ensures)) refl))
 
 pub returns-then-index-members : goal.returns-then-index-members
 returns-then-index-members c =
@@ -234,8 +234,8 @@ returns-then-index-members c =
     let argument = c.in_ok-argument-in-Table.argument in
     let past = subst (λ (ms : List ℕ). length ms ≤ index) c.members-members.ensures c.if-index-members.true in
     made-so tree _ (called tree running place (call_tree c.args.call.now)) words thread (Err (halt.Trap TrapKind.Table)) (ap (λ (k : Call). called tree running place (call_tree k)) call.is)
-    (value-used tree running words thread (valued running (expr_tree call.index)) (λ index. on_value running (valued running (expr_tree call.argument)) (λ argument. entered_by members tree running call.site place index argument)) index (Err (halt.Trap TrapKind.Table)) (sym c.in_ok-index-in-Table.ensures)
-    (value-used tree running words thread (valued running (expr_tree call.argument)) (λ argument. entered_by members tree running call.site place index argument) argument (Err (halt.Trap TrapKind.Table)) (sym c.in_ok-argument-in-Table.ensures)
+    (value-used tree running words thread (valued running (expr_tree call.index.value)) (λ index. on_value running (valued running (expr_tree call.argument.value)) (λ argument. entered_by members tree running call.site place index argument)) index (Err (halt.Trap TrapKind.Table)) (sym (rw c.deref-in-Table.ensures at c.in_ok-index-in-Table.ensures))
+    (value-used tree running words thread (valued running (expr_tree call.argument.value)) (λ argument. entered_by members tree running call.site place index argument) argument (Err (halt.Trap TrapKind.Table)) (sym (rw c.deref-in-Table-2.ensures at c.in_ok-argument-in-Table.ensures))
     (no-member tree running words thread call.site place members index argument past refl)))
 
 pub returns-in_err-words-in-Table : goal.returns-in_err-words-in-Table
@@ -260,8 +260,8 @@ returns-in_ok-words-in-Table c =
     let f = slice_index c.members-members.result.now index in
     let within = subst (λ (ms : List ℕ). index < length ms) c.members-members.ensures c.if-index-members.false in
     made-so tree _ (called tree running place (call_tree c.args.call.now)) words new r (ap (λ (k : Call). called tree running place (call_tree k)) call.is)
-    (value-used tree running words new (valued running (expr_tree call.index)) (λ index. on_value running (valued running (expr_tree call.argument)) (λ argument. entered_by members tree running call.site place index argument)) index r (sym c.in_ok-index-in-Table.ensures)
-    (value-used tree running words new (valued running (expr_tree call.argument)) (λ argument. entered_by members tree running call.site place index argument) argument r (sym c.in_ok-argument-in-Table.ensures)
+    (value-used tree running words new (valued running (expr_tree call.index.value)) (λ index. on_value running (valued running (expr_tree call.argument.value)) (λ argument. entered_by members tree running call.site place index argument)) index r (sym (rw c.deref-in-Table.ensures at c.in_ok-index-in-Table.ensures))
+    (value-used tree running words new (valued running (expr_tree call.argument.value)) (λ argument. entered_by members tree running call.site place index argument) argument r (sym (rw c.deref-in-Table-2.ensures at c.in_ok-argument-in-Table.ensures))
     (member-entered tree running words new call.site place members index argument f r within (ap (λ (ms : List ℕ). slice_index ms index) c.members-members.ensures)
     (went-so tree (entered tree running call.site place f (argument ∷ [])) words new c.enter-in-Table.result r c.went-in-Table.ensures (c.enter-in-Table.ensures.entered words) (c.enter-in-Table.ensures.thread words c.requires.thread)
     (λ e fits. entered-so tree running words new call.site place f (argument ∷ []) (e ∙ ap (λ (ws : List ℕ). record { frame = pushed tree f ws; below = waits_at running call.site place ∷ running.below; globals = running.globals }) c.in_ok-words-in-Table.ensures) fits)))))
