@@ -1,19 +1,10 @@
 -- The thread package's calls that `Model` carries, by their numbers: how many arguments each takes, and whether it
--- gives a result. `spawn` isn't one of them, since it names a function.
-use Rattle.std.specs.Prelude.{ℕ, Bool, ◌||◌, nat_eq, if◌then◌else◌, Option, Some, None}
+-- gives a result, as the table of the modelled calls says. `spawn` isn't one of them, since it names a function.
+use Rattle.std.specs.Prelude.{ℕ, Bool, false, Option, option_map, unwrap_or}
+use Rattle.cap_word.specs.ModelledCalls.{call_numbered, parameters_of, gives_result}
 
 abbrev pub modelled_parameters : ℕ → Option ℕ
-modelled_parameters n =
-    if nat_eq n 3 then Some 1 else
-    if nat_eq n 5 then Some 2 else
-    if nat_eq n 6 then Some 0 else
-    if nat_eq n 16 then Some 0 else
-    if nat_eq n 17 then Some 1 else
-    if nat_eq n 18 then Some 1 else
-    if nat_eq n 19 then Some 0 else
-    if nat_eq n 20 then Some 2 else
-    if nat_eq n 21 then Some 2 else None
+modelled_parameters n = option_map parameters_of (call_numbered n)
 
--- `self`, `accept`, `wait` and `waitfor`
 abbrev pub modelled_gives : ℕ → Bool
-modelled_gives n = nat_eq n 6 || nat_eq n 16 || nat_eq n 17 || nat_eq n 21
+modelled_gives n = unwrap_or (option_map gives_result (call_numbered n)) false
