@@ -72,7 +72,7 @@ OPTIONS = {
 REPORT_OPTIONS = {
     "--timeline": ("FILE", "stores a timeline as SVG"),
     "--graph": ("FILE", "stores the blocking graph as SVG, or as DOT if FILE ends in .dot"),
-    "--why": (None, "makes the run again, and tells what decided the choices and who holds what"),
+    "--why": (None, "makes the run again: what decided the choices, who holds what, answers of started threads"),
     "--trace": ("FILE", "stores the run in the Trace Event format, for Perfetto"),
     "--folded": ("FILE", "stores folded stacks by instructions, with --why by waits, for flame graphs"),
     "--html": ("FILE", "stores a page with the report, a timeline that zooms, requests, graph and log"),

@@ -4,6 +4,7 @@ import json, subprocess
 from .commands import COMMANDS, OPTIONS, REPORT_OPTIONS, USES_TRACE, options_of
 
 WIDTH = 20  # of the first column
+USAGE_OF_REPORT = "usage: report [OPTION ..] serve SRC .. | run SRC IMG CRT ..    the trace on standard input, the report on standard output"
 MORE = "docs/WRITING.md leads from an empty file to a server, docs/FORMATS.md has formats and statuses."
 STATUSES = (
     "status: 0 done, 1 words, 2 source, 3 check, 4 image, certificate, log or trace, 5 limit, 6 read, 7 write,\n"
@@ -45,12 +46,11 @@ def of_command(command):
 
 
 def of_report():
-    lines = ["usage: report [OPTION ..] serve SRC .. | run SRC IMG CRT ..    the trace on standard input, the report on standard output",
-             "       report graph SRC .. | budget SRC IMG CRT             what these print, beside the text", ""]
+    lines = [USAGE_OF_REPORT, "       report graph SRC .. | budget SRC IMG CRT             what these print, beside the text", ""]
     lines += ["options, before the command:"]
     lines += [row(" ".join([name, *[value] * bool(value)]), does) for name, (value, does) in REPORT_OPTIONS.items()]
     lines += ["", "options of the run, behind the command:", *options(it for it in OPTIONS if set(OPTIONS[it].commands) & {"serve", "run"})]
-    lines += ["", "The status is that of the run. docs/REPORT.md says what each line of a report means."]
+    lines += ["", "The status is that of the run; with --log it is 0. docs/REPORT.md says what each line of a report means."]
     return "\n".join(lines)
 
 

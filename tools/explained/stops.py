@@ -4,7 +4,7 @@ from .text import listed, some
 from .tokens import closing, tokens_of
 
 STOPS = {4: "trace", 10: "idle", 11: "trap", 12: "nochunk", 13: "fuel", 14: "threads"}  # by status
-MOST_FUEL, MOST_CHUNKS, MOST_THREADS, MOST_RESOURCE, MOST_CHANNEL = 1_000_000_000, 65_536, 65_535, 7, 63
+MOST_FUEL, MOST_CHUNKS, MOST_THREADS, MOST_RESOURCE, MOST_UNITS, MOST_CHANNEL = 1_000_000_000, 65_536, 65_535, 7, 1_000_000, 63
 VERBS = {"take": "asks for", "give": "returns"}
 BLOCKING = ("accept", "wait", "waitfor", "sleep", "yield", "take")
 
@@ -61,19 +61,24 @@ def table(stop):
 
 
 def resource(stop):
-    caps = stop.given.caps()
+    caps, most = stop.given.caps(), {}
     for name, numbers, line in literal_calls(stop, ("take", "give"), 2):
-        if not 1 <= numbers[0] <= MOST_RESOURCE:
-            return [f"`{name}({numbers[0]}, {numbers[1]})` in line {line} names resource {numbers[0]}; resources are numbered from 1 to {MOST_RESOURCE}"]
-        if numbers[1] > caps.get(numbers[0], 0):
-            return [f"`{name}({numbers[0]}, {numbers[1]})` in line {line} {VERBS[name]} {some(numbers[1], 'unit')} of resource {numbers[0]}, which has {caps.get(numbers[0], 0)}", more(caps, *numbers)]
+        number, units = numbers
+        if not 1 <= number <= MOST_RESOURCE:
+            return [f"`{name}({number}, {units})` in line {line} names resource {number}; resources are numbered from 1 to {MOST_RESOURCE}"]
+        if units > most.get(number, (caps.get(number, 0), ""))[0]:
+            most[number] = units, f"`{name}({number}, {units})` in line {line} {VERBS[name]} {some(units, 'unit')} of resource {number}, which has {caps.get(number, 0)}"
+    if most:
+        return [*(told for _, (_, told) in sorted(most.items())), more({**caps, **{it: units for it, (units, _) in most.items()}})]
     has = listed([f"resource {it} has {units:,}" for it, units in caps.items()]) or "no resource has any, as `--caps` is not given"
     return [f"a `take` of {stop.thread()} asked for more units than the resource has in all, or a `give` returned more than are in use ({has})"]
 
 
-def more(caps, number, units):
-    """The option that gives a resource so many units."""
-    pairs = ",".join(f"{it}={count}" for it, count in sorted({**caps, number: units}.items()))
+def more(units):
+    """The option that gives each resource so many units."""
+    if max(units.values()) > MOST_UNITS:
+        return f"a resource has at most {MOST_UNITS:,} units"
+    pairs = ",".join(f"{it}={count}" for it, count in sorted(units.items()))
     return f"`--caps` sets the units of each resource, as in `--caps {pairs}`"
 
 

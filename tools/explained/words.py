@@ -5,6 +5,8 @@ from .commands import COMMANDS, MOST_POOL, OPTIONS, READING, REPORT_OPTIONS, for
 from .text import listed, nearest, quoted, some
 
 TICKETS_FORM = "expected T=N,.. as in 1=3,2=1: at most 64 threads from 0 to 1,000,000 in rising order, each with 1 to 1,024 tickets"
+RUNS = ("serve", "run")  # the commands that are runs
+OF_RUNS = ("--trace", "--folded", "--html", "--json")  # the options of the report that need one
 CAPS_FORM = "expected R=N,.. as in 1=4,3=10: resources from 1 to 7 in rising order, each with 1 to 1,000,000 units"
 
 
@@ -71,7 +73,14 @@ def wrong_report_option(word):
 
 def why_report(given):
     """What is wrong with the words of the report, a line each."""
+    return wrong_before_run(given) or why(without_report(given)[1])
+
+
+def wrong_before_run(given):
+    """What is wrong with the options of the report and the command behind them, a line each; nothing
+    where the words behind the command decide."""
     own, rest, fault = without_report(given)
+    fault = fault or wrong_window(own)
     if fault:
         return [f"note: {fault}"]
     if not rest:
@@ -79,9 +88,21 @@ def why_report(given):
     late = [it for it in rest[1:] if it in REPORT_OPTIONS]
     if late:
         return [f"note: `{late[0]}` is an option of report and stands before the command"]
-    if "--log" in own and rest[0] not in ("serve", "run"):
+    if rest[0] not in COMMANDS:
+        return [f"note: `{name}` takes `{value}` as the name of its file: is one missing before `{value}`?" for name, value in own.items() if value in COMMANDS][:1]
+    if "--log" in own and rest[0] not in RUNS:
         return [f"note: behind `--log {own['--log']}` stand the words of the run that made the log: serve or run, found {quoted(rest[0])}"]
-    return why(rest)
+    needs = [it for it in OF_RUNS if it in own]
+    if needs and rest[0] not in RUNS:
+        return [f"note: behind `{needs[0]}` stand the words of a run: serve or run, found {quoted(rest[0])}"]
+    return []
+
+
+def wrong_window(own):
+    """Why the window of a report is none, if it is none."""
+    if "--from" in own and "--to" in own and number_of(own["--to"]) < number_of(own["--from"]):
+        return f"`--to {own['--to']}` is below `--from {own['--from']}`"
+    return None
 
 
 def why(given):
