@@ -1,7 +1,8 @@
 -- The code of what is well scoped is well formed.
 use Rattle.std.proofs.Common.{◌≡◌, ◌<◌, ◌≤◌, ◌+◌, ℕ, Bool, true, List, [], ◌∷◌, ◌++◌, length, refl, sym, ap, subst, ◌∙◌, lit<, arith}
-use Rattle.std.specs.Prelude.{IsTrue, Option, Some, None, slice_index}
+use Rattle.std.specs.Prelude.{IsTrue, false, Option, Some, None, option_map, unwrap_or, slice_index}
 use Rattle.std.specs.List.{AllByRecursion}
+use Rattle.cap_word.proofs.CallLemmas.{numbered}
 use Rattle.cap_word.specs.declared.modelled_calls.ModelledCall.{ModelledCall}
 use Rattle.c_tree.specs.declared.operators.UnaryOperator.{UnaryOperator}
 use Rattle.cap_word.specs.ModelledCalls.{number_of, parameters_of, gives_result}
@@ -40,26 +41,10 @@ arguments_count [] k = refl
 arguments_count (e ∷ es) k = omega (arith, arguments_count es (k + 1))
 
 modelled_count : (m : ModelledCall) → modelled_parameters (number_of m) ≡ Some (parameters_of m)
-modelled_count ModelledCall.Accept = refl
-modelled_count ModelledCall.Wait = refl
-modelled_count ModelledCall.Sleep = refl
-modelled_count ModelledCall.Yield = refl
-modelled_count ModelledCall.Take = refl
-modelled_count ModelledCall.WaitFor = refl
-modelled_count ModelledCall.Put = refl
-modelled_count ModelledCall.Give = refl
-modelled_count ModelledCall.SelfNumber = refl
+modelled_count m = ap (option_map parameters_of) (numbered m)
 
 modelled_result : (m : ModelledCall) → modelled_gives (number_of m) ≡ gives_result m
-modelled_result ModelledCall.Accept = refl
-modelled_result ModelledCall.Wait = refl
-modelled_result ModelledCall.Sleep = refl
-modelled_result ModelledCall.Yield = refl
-modelled_result ModelledCall.Take = refl
-modelled_result ModelledCall.WaitFor = refl
-modelled_result ModelledCall.Put = refl
-modelled_result ModelledCall.Give = refl
-modelled_result ModelledCall.SelfNumber = refl
+modelled_result m = ap (λ (call : Option ModelledCall). unwrap_or (option_map gives_result call) false) (numbered m)
 
 module _ (c : tree.Context) (d : flat.Context) (t n : ℕ) (suits : Suits c d t n) where
   -- the operations are well formed

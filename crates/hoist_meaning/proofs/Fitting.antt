@@ -1,15 +1,16 @@
 -- Of a well-scoped program each call that the first item of a thread makes has as many arguments as what it calls has parameters, and each
 -- thread that it starts runs a function of one.
-use Rattle.std.proofs.Common.{ℕ, zero, suc, ◌<◌, ◌≡◌, refl, sym, subst, ◌∙◌, Bool, true, false, List, [], ◌∷◌, ◌++◌, length, map, Option, Some, None, arith, if◌then◌else◌}
-use Rattle.std.specs.Prelude.{Result, Ok, Err, nat_lt, nat_eq, slice_index, slice_index_or}
+use Rattle.std.proofs.Common.{ℕ, zero, suc, ◌<◌, ◌≡◌, refl, sym, subst, ◌∙◌, Bool, true, false, List, [], ◌∷◌, ◌++◌, length, map, Option, Some, None, arith}
+use Rattle.std.specs.Prelude.{Result, Ok, Err, nat_lt, slice_index, slice_index_or}
 use Rattle.std.specs.List.{Contains, AllByRecursion}
 use Rattle.std.proofs.lemmas.Bool.Decides.{nat_tests}
-use Rattle.cap_word.specs.Calls.{Call, Blocking, Immediate, call_of}
+use Rattle.cap_word.specs.Calls.{Call, Blocking, Immediate, call_of, call_with}
 use Rattle.cap_word.specs.Runs.{Goes, Asks, Stops}
 use Rattle.cap_word.specs.declared.calls.Ask.{Ask}
 use Rattle.cap_word.specs.declared.calls.Block.{Block as BlockingCall}
 use Rattle.cap_word.specs.declared.traps.TrapKind.{TrapKind}
 use Rattle.cap_word.specs.ModelledCalls.{number_of}
+use Rattle.cap_word.specs.declared.modelled_calls.ModelledCall.{ModelledCall}
 use Rattle.c_tree.specs.Sizes.{below}
 use Rattle.c_tree.specs.TextOrder.{simple_names}
 use Rattle.c_tree.specs.Trees.{CallTree, CallFunction, CallTable, CallSpawn, CallModelled, RightTree, Computed, Called, SimpleTree, DeclareScalar, DeclareArray, DeclareWith, SetLocal, SetGlobal, SetLocalElement, SetGlobalElement, Calling, StmtTree, StmtTrees, Do, Empty, Block, If, IfElse, While, For, Break, Continue, Return, NoStmts, Then, FunctionTree, ProgramTree}
@@ -18,6 +19,7 @@ use Rattle.c_mean.specs.ToDo.{Item, Simply, Choose, Test, Enter, Back, Leave, Sk
 use Rattle.c_mean.specs.Frames.{Place, Nowhere, InLocal, InGlobal, InLocalElement, InGlobalElement, Returned, WaitingFrame, Running, Waiting, function_at}
 use Rattle.c_mean.specs.Sites.{Target, ToNowhere, ToLocal, ToGlobal, ToLocalElement, ToGlobalElement, ToCaller, CallInText, right_calls, simple_calls, simples_calls, step_calls, returned_calls, stmt_calls, stmts_calls, function_calls}
 use Rattle.c_mean.specs.Steps.{SourceMove, to_do, on_value, valued, all_valued, stored, assigned, entered_where, asks_if, called, assigns, does, branched, returned, gives_back, performs_first, source_step}
+use Rattle.c_mean.proofs.CallLemmas.{each_made}
 use Rattle.c_mean.proofs.TextLemmas.{AllIn, IsRest}
 use Rattle.c_mean.proofs.StandLemmas.{Stands}
 use Rattle.hoist_meaning.proofs.Frames.{right_call, simple_call, returned_call, first_call}
@@ -193,18 +195,19 @@ module _ (program : ProgramTree) where
     StartsFit (Asks question waiting) = IsStarted question.call
     StartsFit (Stops end) = Unit {0}
 
-    if_fits : (b : Bool) (call : Call) (other : Option Call) → IsStarted call → IsOption other → IsOption (if b then Some call else other)
-    if_fits true call other h k = h
-    if_fits false call other h k = k
+    table_fits : (call : ModelledCall) (a b : ℕ) → IsStarted (call_with call a b)
+    table_fits ModelledCall.Accept a b = tt
+    table_fits ModelledCall.Wait a b = tt
+    table_fits ModelledCall.Sleep a b = tt
+    table_fits ModelledCall.Yield a b = tt
+    table_fits ModelledCall.Take a b = tt
+    table_fits ModelledCall.WaitFor a b = tt
+    table_fits ModelledCall.Put a b = tt
+    table_fits ModelledCall.Give a b = tt
+    table_fits ModelledCall.SelfNumber a b = tt
 
     call_of_fits : (number : ℕ) (arguments : List ℕ) → IsOption (call_of number arguments)
-    call_of_fits number [] =
-        if_fits (nat_eq number 6) (Immediate Ask.SelfNumber) _ tt (if_fits (nat_eq number 16) (Blocking BlockingCall.Accept) _ tt (if_fits (nat_eq number 19) (Blocking BlockingCall.Yield) None tt tt))
-    call_of_fits number (a ∷ []) =
-        if_fits (nat_eq number 3) (Immediate (Ask.Put a)) _ tt (if_fits (nat_eq number 17) (Blocking (BlockingCall.Wait a)) _ tt (if_fits (nat_eq number 18) (Blocking (BlockingCall.Sleep a)) None tt tt))
-    call_of_fits number (a ∷ b ∷ []) =
-        if_fits (nat_eq number 5) (Immediate (Ask.Give a b)) _ tt (if_fits (nat_eq number 20) (Blocking (BlockingCall.Take a b)) _ tt (if_fits (nat_eq number 21) (Blocking (BlockingCall.WaitFor a b)) None tt tt))
-    call_of_fits number (a ∷ b ∷ c ∷ rest) = tt
+    call_of_fits number arguments = each_made IsOption tt table_fits number arguments
 
     value_starts : {A : Type 0} (thread : Running) (result : Result A TrapKind) (use_it : A → SourceMove) → ((a : A) → StartsFit (use_it a)) → StartsFit (on_value thread result use_it)
     value_starts thread (Ok a) use_it h = h a

@@ -1,8 +1,10 @@
 -- The variables of a well-formed program's operations have places.
-use Rattle.std.proofs.Common.{◌≡◌, ℕ, zero, suc, ◌<◌, ◌≤◌, List, [], ◌∷◌, length, map, arith, refl, ap, Option, Some, None, Bool, true, false}
-use Rattle.std.specs.Prelude.{slice_index_or, nat_eq, All, if◌then◌else◌}
+use Rattle.std.proofs.Common.{◌≡◌, ℕ, zero, suc, ◌<◌, ◌≤◌, List, [], ◌∷◌, length, map, arith, refl, ap, Option, Some, None, Bool}
+use Rattle.std.specs.Prelude.{slice_index_or, All, option_map}
 use Rattle.std.specs.List.{AllByRecursion}
-use Rattle.std.proofs.lemmas.Grind.{common_steps}
+use Rattle.cap_word.proofs.CallLemmas.{number_is}
+use Rattle.cap_word.specs.ModelledCalls.{call_numbered, number_of, parameters_of}
+use Rattle.cap_word.specs.declared.modelled_calls.ModelledCall.{ModelledCall}
 use Rattle.flat_code.specs.declared.functions.FlatFunction.{FlatFunction}
 use Rattle.flat_code.specs.declared.operations.Op.{Op}
 use Rattle.flat_code.specs.Codes.{FlatCode, function_at}
@@ -34,29 +36,28 @@ returned_place : (c : Context) (s : Option ℕ) → IsReturned c s → HasPlace 
 returned_place c None h = tt
 returned_place c (Some s) h = h.1.0
 
--- where a choice is known, one of its two sides is
-pick : {A : Type 0} (b : Bool) (o rest : Option ℕ) (k : ℕ) → (if b then o else rest) ≡ Some k → (b ≡ true → o ≡ Some k → A) → (rest ≡ Some k → A) → A
-pick true o rest k h first second = first refl h
-pick false o rest k h first second = second h
+-- the row of a modelled call in the table: its number is small, and so is the count of its parameters
+row_small : (call : ModelledCall) → (number_of call < 2048) × (parameters_of call ≤ 6)
+row_small ModelledCall.Accept = (omega arith, omega arith)
+row_small ModelledCall.Wait = (omega arith, omega arith)
+row_small ModelledCall.Sleep = (omega arith, omega arith)
+row_small ModelledCall.Yield = (omega arith, omega arith)
+row_small ModelledCall.Take = (omega arith, omega arith)
+row_small ModelledCall.WaitFor = (omega arith, omega arith)
+row_small ModelledCall.Put = (omega arith, omega arith)
+row_small ModelledCall.Give = (omega arith, omega arith)
+row_small ModelledCall.SelfNumber = (omega arith, omega arith)
 
-small : (m n p k : ℕ) → m < 2048 → p ≤ 6 → nat_eq n m ≡ true → Some p ≡ Some k → (n < 2048) × (k ≤ 6)
-small m n p k lt le e h =
-    let same : n ≡ m = grind (arith, common_steps) in
-    let count : p ≡ k = cc in
-    (omega arith, omega arith)
-
--- a modelled call's number is small, and it has at most two arguments
+-- a modelled call's number is small, and it has few arguments
 modelled_small : (n k : ℕ) → modelled_parameters n ≡ Some k → (n < 2048) × (k ≤ 6)
-modelled_small n k h =
-    pick (nat_eq n 3) (Some 1) _ k h (λ e f. small 3 n 1 k (omega arith) (omega arith) e f) (λ h.
-    pick (nat_eq n 5) (Some 2) _ k h (λ e f. small 5 n 2 k (omega arith) (omega arith) e f) (λ h.
-    pick (nat_eq n 6) (Some 0) _ k h (λ e f. small 6 n 0 k (omega arith) (omega arith) e f) (λ h.
-    pick (nat_eq n 16) (Some 0) _ k h (λ e f. small 16 n 0 k (omega arith) (omega arith) e f) (λ h.
-    pick (nat_eq n 17) (Some 1) _ k h (λ e f. small 17 n 1 k (omega arith) (omega arith) e f) (λ h.
-    pick (nat_eq n 18) (Some 1) _ k h (λ e f. small 18 n 1 k (omega arith) (omega arith) e f) (λ h.
-    pick (nat_eq n 19) (Some 0) _ k h (λ e f. small 19 n 0 k (omega arith) (omega arith) e f) (λ h.
-    pick (nat_eq n 20) (Some 2) _ k h (λ e f. small 20 n 2 k (omega arith) (omega arith) e f) (λ h.
-    pick (nat_eq n 21) (Some 2) None k h (λ e f. small 21 n 2 k (omega arith) (omega arith) e f) (λ h. cc)))))))))
+modelled_small n k h = by_call (call_numbered n) refl h
+  where
+    by_call : (o : Option ModelledCall) → call_numbered n ≡ o → option_map parameters_of o ≡ Some k → (n < 2048) × (k ≤ 6)
+    by_call None e h = absurd (cc)
+    by_call (Some call) e h =
+        let count : parameters_of call ≡ k = cc in
+        let small = row_small call in
+        (omega (arith, small.0, number_is n call e), omega (arith, small.1, count))
 
 have_places : (c : Context) → ((g : ℕ) → (signature_at c.signatures g).params ≤ 6) → (op : Op) → IsOperation c op → HavePlaces (length c.sizes) op
 have_places c most (Op.Const d value) h = h.0.0

@@ -1,9 +1,12 @@
 -- Modelled calls by their numbers: none of them starts a thread, and the number tells whether a result is wanted.
-use Rattle.std.proofs.Common.{◌≡◌, ℕ, Bool, true, false, nat_eq, List, [], ◌∷◌, Option, Some, None, refl, sym, subst, cond}
-use Rattle.std.proofs.lemmas.Bool.{eqb-true, cond_both}
-use Rattle.cap_word.specs.Calls.{Call, Blocking, Immediate, call_of}
+use Rattle.std.proofs.Common.{◌≡◌, ℕ, Bool, true, false, List, Some, refl, sym, subst}
+use Rattle.std.specs.Prelude.{slice_index_or}
+use Rattle.cap_word.specs.Calls.{Call, Blocking, Immediate, call_of, call_with}
+use Rattle.cap_word.specs.ModelledCalls.{number_of}
 use Rattle.cap_word.specs.declared.calls.Ask.{Ask}
 use Rattle.cap_word.specs.declared.calls.Block.{Block}
+use Rattle.cap_word.specs.declared.modelled_calls.ModelledCall.{ModelledCall}
+use Rattle.c_mean.proofs.CallLemmas.{made_of}
 use Rattle.flat_code.specs.Modelled.{modelled_gives}
 
 abbrev pub block_gives : Block → Bool
@@ -26,18 +29,19 @@ IsCallOf n (Blocking block) = modelled_gives n ≡ block_gives block
 IsCallOf n (Immediate (Ask.Spawn function argument)) = ⊥
 IsCallOf n (Immediate ask) = modelled_gives n ≡ ask_gives ask
 
-abbrev IsCallIf : ℕ → Option Call → Type 0
-IsCallIf n None = Unit {0}
-IsCallIf n (Some call) = IsCallOf n call
-
-by_number : (n k : ℕ) (call : Call) (other : Option Call) → IsCallOf k call → (nat_eq n k ≡ false → IsCallIf n other) → IsCallIf n (cond (nat_eq n k) (Some call) other)
-by_number n k call other h rest = cond_both (nat_eq n k) (Some call) other (IsCallIf n) (λ same. subst (λ (m : ℕ). IsCallOf m call) (sym (eqb-true n k same)) h) rest
-
-call_known : (n : ℕ) (words : List ℕ) → IsCallIf n (call_of n words)
-call_known n [] = by_number n 6 (Immediate Ask.SelfNumber) _ refl (λ a. by_number n 16 (Blocking Block.Accept) _ refl (λ b. by_number n 19 (Blocking Block.Yield) None refl (λ c. tt)))
-call_known n (a ∷ []) = by_number n 3 (Immediate (Ask.Put a)) _ refl (λ b. by_number n 17 (Blocking (Block.Wait a)) _ refl (λ c. by_number n 18 (Blocking (Block.Sleep a)) None refl (λ d. tt)))
-call_known n (a ∷ b ∷ []) = by_number n 5 (Immediate (Ask.Give a b)) _ refl (λ c. by_number n 20 (Blocking (Block.Take a b)) _ refl (λ d. by_number n 21 (Blocking (Block.WaitFor a b)) None refl (λ e. tt)))
-call_known n (a ∷ b ∷ c ∷ rest) = tt
+-- a row of the table
+row_known : (call : ModelledCall) (a b : ℕ) → IsCallOf (number_of call) (call_with call a b)
+row_known ModelledCall.Accept a b = refl
+row_known ModelledCall.Wait a b = refl
+row_known ModelledCall.Sleep a b = refl
+row_known ModelledCall.Yield a b = refl
+row_known ModelledCall.Take a b = refl
+row_known ModelledCall.WaitFor a b = refl
+row_known ModelledCall.Put a b = refl
+row_known ModelledCall.Give a b = refl
+row_known ModelledCall.SelfNumber a b = refl
 
 pub call_is : (n : ℕ) (words : List ℕ) (call : Call) → call_of n words ≡ Some call → IsCallOf n call
-call_is n words call e = subst (IsCallIf n) e (call_known n words)
+call_is n words call e =
+    let is = made_of n words call e in
+    subst (IsCallOf n) is.made_is (subst (λ (m : ℕ). IsCallOf m (call_with is.call (slice_index_or words 0 0) (slice_index_or words 1 0))) (sym is.own) (row_known is.call (slice_index_or words 0 0) (slice_index_or words 1 0)))
