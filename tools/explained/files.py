@@ -1,5 +1,5 @@
 """Which file is absent, or can't be read or written, and why."""
-import os, stat
+import os, shlex, stat
 
 from .commands import COMMANDS, REPORT_OPTIONS
 from .text import nearest, quoted
@@ -129,7 +129,22 @@ def no_memory(given, _):
 
 def no_log(given, _):
     """The notes where the report is given no log of a run."""
-    return [f"note: {quoted(given.of_report.get('--log', ''))} is no log of a run; `serve SRC > LOG` makes one"]
+    name = given.of_report.get("--log", "")
+    if is_cut(name):
+        whole = shlex.quote(name)
+        return [f"note: the last line of {quoted(name)} is cut, as if its run was ended early; `sed '$d' {whole} > {whole}.whole` leaves that line out"]
+    return [f"note: {quoted(name)} is no log of a run; `serve SRC > LOG` makes one"]
+
+
+def is_cut(name):
+    """Whether a file begins as logs do and its last line has no end."""
+    try:
+        with open(name, "rb") as it:
+            begins = it.read(4) == b"run "
+            it.seek(-1, os.SEEK_END)
+            return begins and it.read(1) != b"\n"
+    except OSError:
+        return False
 
 
 def no_source(given, _):
