@@ -1,10 +1,11 @@
 // Pairs of an image and a certificate that were found valid for a program.
 //
-// In: a program with an image and a certificate of which the rules V1 to V12 of certificate_rules hold, its flat code, and
-// lists of what is looked up in the image's code. Out: an `Accepted`, which keeps them. There is no other way to make one, so
-// each one is valid: that is its invariant, which `is_valid` tells. The checker, certificate_check, decides the rules and makes
-// the value; the layers above rest on it alone, and not on how it was found. Beside it stands what both look up in a program
-// and its certificate at a number.
+// In: a program with an image and a certificate that meet the rules V1 to V12 of certificate_rules,
+// its flat code, and lists of facts about the image's code. Out: an `Accepted`, which keeps them.
+// There is no other way to make one, so its invariant, which `is_valid` states, is that the pair is
+// valid. The checker, certificate_check, decides the rules and makes the value; the layers above
+// rely only on the invariant. The crate also has the look-ups by number in a program and its
+// certificate that both need.
 #![tactic(auto)]
 
 mod accepted;

@@ -1,11 +1,12 @@
-// Every lawful log of an accepted pair is lawful in the lawful reading of a log, or needs more steps than may be taken.
+// A log of an accepted pair is lawful for the lawful reading, or needs more steps than the limit.
 //
-// Laws alone, over the definitions of lawful_log and of lawful_reading. The lawful log is that of the machine; its reading judges the
-// printed lines by the source's own runs, with no machine. specs/Audited.antt says what the reading is given of a run. Beside each state
-// of the log stands one of its reading (proofs/Beside.antt): between segments it is that state without the machine; within one the
-// source's run of the thread stands where it has put what was printed. So each entry of the log is allowed as a line of the reading
-// (Comings, Choices, Outs, Resting, Stops), and the text of all of them is judged (Texts, Logs). That each line is one of the format is
-// proved beside it (Ranges, Fitting).
+// Laws alone, over the definitions of lawful_log and of lawful_reading. The lawful log is that of
+// the machine; the reading judges the printed lines by the source's own runs, with no machine.
+// specs/Audited.antt says what the reading is given of a run. Beside each state of the log there is
+// a state of its reading (proofs/Beside.antt): between segments the same state without the machine;
+// within one, the source's run of the thread after the printed outputs. So each entry of the log is
+// allowed as a line of the reading (Comings, Choices, Outs, Resting, Stops), and so is the whole
+// text (Texts, Logs). Ranges and Fitting prove that each line has the format.
 #![tactic(auto)]
 
 mod laws;

@@ -1,10 +1,12 @@
-// From a source, in whose expressions calls may stand, to a program.
+// From a source, with or without calls inside expressions, to a program.
 //
-// `read_nested` takes the bytes of a source and answers its program, or the refusal of the first of its readings: into tokens
-// (`c_lex`), into a tree (`c_parse`), and, of the tree in which every call is whole (`hoist_rules`), into a program (`scope_rules`),
-// whose calls have the numbers of their names' places in the text (`call_numbers`). specs/NestedText.antt is the one definition of
-// it, `ReadsNested`. The commands use it. A source that `c_scope` takes is the same program here (`whole_sources_read_alike`). The
-// program does what the text means (`deep_mean`, `hoist_meaning`): `MeansText`, a clause of `read_nested`.
+// `read_nested` takes the bytes of a source and returns its program, or the refusal of the first
+// reading that has one: into tokens (`c_lex`), into a tree (`c_parse`), and, after the rewriting
+// (`hoist_rules`), into a program (`scope_rules`), whose calls keep the numbers of the text
+// (`call_numbers`). Its one definition is `ReadsNested` (specs/NestedText.antt). The commands use
+// it. A source that `c_scope` accepts is the same program here (`whole_sources_read_alike`). The
+// program does what the text means (`deep_mean`, `hoist_meaning`): `MeansText`, a clause of
+// `read_nested`.
 #![tactic(auto)]
 
 mod laws;

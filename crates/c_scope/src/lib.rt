@@ -1,8 +1,10 @@
-// From a source to a program.
+// From a source without calls inside expressions to a program.
 //
-// `read_program` takes the bytes of a source and answers its program, or the refusal of the first of three readings: into
-// tokens (`c_lex`), into a tree (`c_parse`), into a program (`scope_rules`). specs/SourceText.antt is the one definition of
-// it, `ReadsAs`; it is what the crates above use. The source of each reading's rules stands in its own crate.
+// `read_program` takes the bytes of a source and returns its program, or the refusal of the first
+// of three readings that has one: into tokens (`c_lex`), into a tree (`c_parse`), into a program
+// (`scope_rules`). Its one definition is `ReadsAs` (specs/SourceText.antt). The laws on the
+// workload and the rows use it; the commands use `read_nested` of `c_hoist`. The errors of all
+// readers are here (`SourceError`). The rules stand in the crate of each reading.
 #![tactic(auto)]
 
 mod source_errors;

@@ -1,10 +1,11 @@
-// Cycles of calls in a program's flat code, and an order of its functions from the bottom up.
+// Cycles of calls in a program's flat code, and a bottom-up order of its functions.
 //
-// A program in flat code comes in. `bottom_up_order` gives its functions, each behind those that it calls at a call of a
-// function or a table, or names the least function from which calls lead back to it; a start of a thread is no call.
-// specs/Cycles.antt says on the code alone what a call and a cycle are, specs/Orders.antt what the order is. The order is that
-// of `cycle_break` over the program's call graph; the cycles are found on the code itself, by a walk from each function but those
-// that one pass finds to lie on none (`off_cycles`, which takes the functions in the order of the reversed calls, `reversed`).
+// In: a program in flat code. Out: `bottom_up_order` returns its functions, each after those that
+// it calls directly or through a table, or the least function from which calls lead back to it; a
+// start of a thread is no call. specs/Cycles.antt defines calls and cycles on the code,
+// specs/Orders.antt the order. The order is that of `cycle_break` over the program's call graph.
+// The cycles are found on the code itself, by a walk from each function, except those that one pass
+// over the reversed calls shows to lie on none (`off_cycles`, `reversed`).
 #![tactic(auto)]
 
 mod cycles;

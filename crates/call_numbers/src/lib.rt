@@ -1,8 +1,9 @@
-// The numbers of a tree's calls by the places of their names.
+// The numbers of a tree's calls, by the places of their names.
 //
-// `site_numbers` takes a tree as it is read and answers, call by call in the order of the tree, how many calls have their names
-// before its name in the text (specs/Ranks.antt of `grammar_places`). The places are those of `call_places`. `c_hoist` gives these
-// numbers to the calls of a rewritten tree, in which calls don't stand in the order of the text.
+// `site_numbers` takes a tree and returns, for each call in the order of the tree, how many calls
+// have their names earlier in the text (specs/Ranks.antt of `grammar_places`). The places are those
+// of `call_places`. `c_hoist` gives these numbers to the calls of a rewritten tree, in which calls
+// aren't in the order of the text.
 #![tactic(auto)]
 
 mod numbers;

@@ -14,14 +14,14 @@ use command_outcomes::finish;
 use std::alloc::Global;
 use thread_core::World;
 
-/// Does what the words say, and answers the status; where the command refuses, or something fails, `err` takes the line that
-/// says so. `last` is the world that was run, as it is at the stop, where a run came to its stop, and else nothing.
+/// Does what the words ask for, and returns the status. If the command refuses or something fails, `err` takes the line that
+/// says so. `last` is the world of the run at its stop, if a run came to its stop, and otherwise `None`.
 ///
-/// The status is 0 where the command did what it is for; 1 of words that are no list; 2 of a source that is refused; 3 of a pair
-/// that is; 4 of a file of it that is, or of a trace; 5 where a frame, the code or the pool is too large; 6, 7 and 8 after a
-/// failed read, a failed write and a want of memory; 9 where there is no file of a name. A run that doesn't end by itself answers
-/// 10 where it idles, 11 at a trap, 12 where no free chunk fits, 13 where the fuel is spent, 14 at too many threads. An audit answers
-/// 15 of a log that isn't lawful, and 16 where a line of it needs too many steps. 17 is of a budget of a program with a cycle of calls.
+/// The status is 0 if the command did what it is for; 1 if the words aren't a word list; 2 if the source is refused; 3 if the
+/// pair is; 4 if the image, the certificate, the log or the trace is; 5 if a frame, the code or the pool is too large; 6, 7 and 8
+/// after a failed read, a failed write and out of memory; 9 if a file doesn't exist. A run ends with 10 if it idles, 11 at a trap,
+/// 12 if no free chunk fits, 13 if the fuel is spent, 14 at too many threads. An audit ends with 15 if the log isn't lawful, and 16
+/// if a line needs too many steps. A budget ends with 17 if the program has a cycle of calls.
 pub fn capriccio<F: Shelf, S: Source, K: Sink, E: Sink>(
     alloc: Global,
     words: &Vec<String>,

@@ -1,10 +1,14 @@
 // The program as one call, over the objects that it is handed.
 //
-// In: the words after the program's name, a shelf of files, a trace, an output and standard error. Out: what the words ask for,
-// done, the status, and the world that was run, if one was. The clauses of `capriccio` are the program's (specs/Headline.antt,
-// docs/HEADLINE.md): what is due for the words, the files and the trace (specs/Due.antt) is one outcome, of which all was done,
-// or after a fault a part; and an audit finds no lawful log unlawful (specs/Audited.antt). dispatch.rt joins the commands:
-// `serve`, `run` and `demo` of `capriccio_commands`, `audit` of `command_audit`, and the others of `pair_commands`. The crate
+// In: the words after the program's name, a shelf of files, a trace, an output and standard error.
+// Out: what the words ask for, done; the status; and the world of the run, if there was one. The
+// clauses of `capriccio` are the theorem of the program (docs/HEADLINE.md): exactly one outcome is
+// due for the words, the files and the trace (specs/Due.antt), and all of it was done, or after a
+// fault a part (`answer`, `after_fault`); every run was good (`good`, specs/Headline.antt); an
+// audit finds no lawful log unlawful, and what it finds lawful is the source's (`audited`,
+// specs/Audited.antt); with enough chunks no run stops for want of one (`enough`,
+// specs/EnoughChunks.antt). dispatch.rt joins the commands: `serve`, `run` and `demo` of
+// `capriccio_commands`, `audit` of `command_audit`, and the others of `pair_commands`. The crate
 // above, `capriccio_cli`, makes the real objects.
 #![tactic(auto)]
 

@@ -1,12 +1,14 @@
-// The checker of certificates: whether an image and a certificate are valid for a program in flat code.
+// The checker of certificates: whether an image and a certificate are valid for a program in flat
+// code.
 //
-// In: a program, an image and a certificate, of any origin. Out: the first failure of the rules V1 to V12, or none.
-// The rules are the definitions of certificate_rules, and the contract of `first_failure` says that it decides just
-// these. It looks at single words and single inequalities and builds nothing again: its work is linear in the code, the
-// certificate and the program, up to a logarithm, whatever they hold. Where each of the rules fails first, rule_failures
-// says, but for V9 and V10, which stand here. `check` does so for a source's program, whose flat code it makes, and answers an
-// `Accepted` of accepted_pairs. The layers above rest on such a value alone, so neither the code generator nor what was read
-// from a file is trusted.
+// In: a program, an image and a certificate, from anywhere. Out: the first failure of the rules V1
+// to V12, or none. The rules are the definitions of certificate_rules, and the contract of
+// `first_failure` says that it decides exactly these. It compares single words and numbers and
+// builds nothing again, so its work is linear in the code, the certificate and the program, up to a
+// logarithm. rule_failures decides all rules but V9 and V10, which are decided here. `check` does
+// the same for a source's program, whose flat code it makes, and returns an `Accepted` of
+// accepted_pairs. The layers above rely on that value alone, so neither the code generator nor a
+// file is trusted.
 #![tactic(auto)]
 
 mod checking;

@@ -1,8 +1,9 @@
-// The command `audit`: a log is judged on the trace, without a machine.
+// The command `audit`: judges a log on the trace, without a machine.
 //
-// In: a shelf of files, a trace, an output, the names of a source and a log, the options of an audit. Out: the line that tells what
-// is said of the log, with its status (`do_audit`, over `Audits` of specs/Audits.antt). audit_command.rt loads the two and hands them
-// to `schedule_audit`; verdicts.rt has what is said. The crate above has the other commands beside it.
+// In: a shelf of files, a trace, an output, the names of a source and a log, the options of an
+// audit. Out: the line with the verdict on the log, and its status (`do_audit`, over `Audits` of
+// specs/Audits.antt). audit_command.rt loads the two files and passes them to `schedule_audit`;
+// verdicts.rt has the lines of the verdicts. The crate above has the other commands.
 #![tactic(auto)]
 
 mod audit_command;

@@ -1,9 +1,10 @@
-// The files of a command: what it loads and reads in them, and what it stores.
+// The files of a command: loads, reads and stores them.
 //
-// In: a shelf of files and their names. Out: the bytes of a file (`load`) or of the three files of a pair (`load_three`), the source,
-// the image or the certificate that bytes spell (`read_source` and the like), files stored one after another (`store_both`), or the step
-// that is the command's last, a `Stop` of command_outcomes. What is due of the files is in specs/Loads.antt;
-// what a step answers by that is in specs/Steps.antt of command_outcomes.
+// In: a shelf of files and their names. Out: the bytes of a file (`load`) or of the three files of
+// a pair (`load_three`); the source, the image or the certificate that bytes spell (`read_source`
+// and the like); files stored one after another (`store_both`); or the `Stop` of command_outcomes
+// that ends the command. specs/Loads.antt defines what is due of the files; specs/Steps.antt of
+// command_outcomes the results of a step.
 #![tactic(auto)]
 
 mod loading;

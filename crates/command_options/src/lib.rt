@@ -1,8 +1,9 @@
-// What is made of the options of a command's words.
+// From the options of a command to a monitor and a rule.
 //
-// In: options, as `command_words` reads them. Out: the monitor of a run (`monitor_of`) and its rule by strides (`stride_rule_of`).
-// specs/Options.antt says which options are in their ranges; proofs/Options.antt that those of every word list are, for each command
-// that has some. What runs and what judges a log stand above.
+// In: options, as `command_words` reads them. Out: the monitor of a run (`monitor_of`) and its
+// stride rule (`stride_rule_of`). specs/Options.antt says which options are in range;
+// proofs/Options.antt proves it for those of every word list of each command with options. The
+// crates above run, or judge a log, with them.
 #![tactic(auto)]
 
 mod monitors;

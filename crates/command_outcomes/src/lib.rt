@@ -1,10 +1,12 @@
-// What the commands of the program share: how they end, and what they print and tell.
+// What the commands of the program share: how they end, and what they print.
 //
-// In: an output, standard error. Out: the status of a text that was printed (`print`), or the step that is a command's last
-// (`Stop`), which `finish` tells standard error. specs/Outcome.antt says what a command does, specs/Done.antt what a call leaves
-// outside of it, specs/Steps.antt what a step answers, and specs/CauseLines.antt has the status and the line of each refusal.
-// No thread package is named here: a command that runs nothing hands on a status, and what a run hands on is a parameter of
-// `EndsAs`. command_files loads, reads and stores files; the crates above have the commands.
+// In: an output and standard error. Out: the status of a text that was printed (`print`), or the
+// `Stop` that ends a command, whose line `finish` writes to standard error. specs/Outcome.antt
+// defines what a command does, specs/Done.antt what a call changes outside, specs/Steps.antt the
+// results of a step, and specs/CauseLines.antt the status and the line of each refusal. The thread
+// package isn't named here: a command that runs nothing returns a status, and what a run returns is
+// a parameter of `EndsAs`. command_files loads, reads and stores files; the crates above have the
+// commands.
 #![tactic(auto)]
 
 mod cause_lines;

@@ -1,10 +1,12 @@
-// The meaning of a source in whose expressions calls stand.
+// The meaning of a source with calls inside expressions, with no rewriting.
 //
-// There is nothing here that computes: definitions that other crates' clauses cite, and small programs on which they are computed.
-// A deep thread is a thread of the source (`c_mean`) whose frames may hold an expression in evaluation: the values of the parts that
-// are done, from left to right, and the parts still to do (specs/Evaluation.antt, DeepSteps.antt). A deep world and its runs are those
-// of the source over such threads (specs/DeepWorld.antt); modelled calls have the same table. The program that a text is, with calls
-// where the text has them, is specs/Naming.antt. The rules are those of ISO/IEC 9899:2018, clauses 6.5 and 6.8, for the subset CapC.
+// Definitions that the clauses of other crates cite, and small programs on which they are computed;
+// nothing runs. A deep thread is a thread of the source (`c_mean`) whose frames may hold a partly
+// evaluated expression: the values of the parts that are done, from left to right, and the parts
+// still to do (specs/Evaluation.antt, DeepSteps.antt). A deep world and its runs are those of the
+// source over such threads (specs/DeepWorld.antt); the table of modelled calls is the same.
+// specs/Naming.antt has the program of a text, with calls where the text has them. The rules are
+// those of ISO/IEC 9899:2018, clauses 6.5 and 6.8, for the subset CapC.
 #![tactic(auto)]
 
 mod examples;

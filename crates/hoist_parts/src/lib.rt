@@ -1,10 +1,13 @@
-// The parts of the rewriting that moves calls out of expressions: its definitions, and the small calls that decide it.
+// The rewriting that moves calls out of expressions: its definitions, and the small calls that
+// decide it.
 //
-// specs/Expressions.antt and Statements.antt say, a table row by row, which tree has each call that isn't whole before its statement,
-// and with it what stands left of it; specs/NewNames.antt which names that takes: they begin with a digit. The calls here say of a
-// tree whether it holds a call and which part gets a name, and make names and chains of operators; `hoist_rules` makes the whole
-// tree of them. The laws of the definitions are in proofs/ (Whole.antt: every call of the new tree is whole), so that what they mean
-// (`hoist_meaning`) is proved beside `hoist_rules`.
+// specs/Expressions.antt and Statements.antt define, one table row for each form, the tree in which
+// each call that isn't whole stands before its statement, and what is left of the expression;
+// specs/NewNames.antt the new names, which begin with a digit. The calls here decide whether a tree
+// holds a call and which part gets a name, and make names and chains of operators; `hoist_rules`
+// builds the whole tree with them. proofs/ has the laws of the definitions (Whole.antt: every call
+// of the new tree is whole), so that their meaning (`hoist_meaning`) is proved in parallel with
+// `hoist_rules`.
 #![tactic(auto)]
 
 mod chains;

@@ -1,10 +1,12 @@
-// Calls inside expressions, moved before their statements into names of their own.
+// Moves calls inside expressions before their statements.
 //
-// `hoist` takes a tree as it is read, in which every call in the parentheses of a `for` is whole, and answers the tree in which every
-// call is whole: a call that isn't goes before its statement, as the declaration of a new name, and what stands left of it in the
-// expression goes there too, so that evaluation stays from left to right (`hoist_parts`: specs/Expressions.antt, Statements.antt, a
-// table row by row). New names begin with a digit. `c_hoist` uses it between the readings into a tree and into a program.
-// The order of evaluation is that of CapC; the operators are those of ISO/IEC 9899:2018, clauses 6.5.13 to 6.5.15.
+// `hoist` takes the tree of a source in which every call in the parentheses of a `for` is whole,
+// and returns a tree in which every call is whole. A call that isn't whole goes before its
+// statement, as the declaration of a new name; so does what is evaluated before it, so that
+// evaluation stays from left to right (`hoist_parts`: specs/Expressions.antt, Statements.antt). New
+// names begin with a digit. `c_hoist` uses it between the readings into a tree and into a program.
+// The order of evaluation is CapC's; the operators are those of ISO/IEC 9899:2018, clauses 6.5.13
+// to 6.5.15.
 #![tactic(auto)]
 
 mod bodies;

@@ -1,13 +1,14 @@
-// The lawful reading of a log: which lines may stand in the log of a program, under a policy and a trace, by the source alone.
+// The lawful reading of a log: which lines the log of a program may have, under a policy and a
+// trace, by the source alone.
 //
-// Definitions: where a reading has come to (State), which line is allowed there and what it leads to (Choice for what
-// comes and which thread runs, Segments for a segment's lines, Ends for the edges and the stop), and what is said of a whole log
-// (Reading): that it is lawful, the first line that isn't allowed, or the first that needs more steps of the source than may be
-// taken. What the running thread comes to next is the source's own run (Happenings), step by step, without a bound on depth and
-// without a machine: of costs and free chunks only bounds are asked. An audit of a log cites these; the rules of choice points
-// are those of `choice_rules`, which the log of a run has too.
-//
-// Laws: what is said of a log excludes what else might be said (`laws`). That something is said of every log is a law of `log_verdicts`.
+// Definitions: the state of a reading (State), which line is allowed in it and the state after that
+// line (Choice for events and the chosen thread, Segments for a segment's lines, Ends for the edges
+// and the stop), and the verdict on a whole log (Reading): lawful, the first line that isn't
+// allowed, or the first line that needs more steps of the source than the limit. What the running
+// thread does next is the source's own run (Happenings), step by step, without a bound on depth and
+// without a machine; of costs and free chunks only bounds are required. An audit of a log cites
+// these; the rules of choice points are those of `choice_rules`, as for the log of a run. Laws: no
+// log has two verdicts (`laws`). That every log has one is a law of `log_verdicts`.
 #![tactic(auto)]
 
 mod laws;

@@ -1,9 +1,10 @@
-// The commands over a pair that run nothing, and the way to a pair that may run.
+// The commands over a pair that run nothing, and the accepted pair for those that run.
 //
-// In: a shelf of files, an output, the names and sizes of a command. Out: what the commands `build`, `check`, `graph` and `budget`
-// print and store (`do_build` and the like); for `serve`, `run` and `demo` a pair that the checker accepted (`accept_source`,
-// `accept_files`, `accept_program`). What each does is a definition of its own in specs/, those of `serve` and `run` with their run
-// (specs/Runs.antt), which stands on no runner. The crate above runs what is accepted.
+// In: a shelf of files, an output, the names and sizes of a command. Out: what the commands
+// `build`, `check`, `graph` and `budget` print and store (`do_build` and the like); for `serve`,
+// `run` and `demo` a pair that the checker accepted (`accept_source`, `accept_files`,
+// `accept_program`). specs/ has a definition for each command; those of `serve` and `run` include
+// their run (specs/Runs.antt), but don't use the runner. The crate above runs the accepted pair.
 #![tactic(auto)]
 
 mod budget_command;

@@ -1,8 +1,10 @@
 // The text of a report, written piece by piece.
 //
-// In: words, numbers, forms with a mark for each number, and names. Out: the text, if there was memory for all of it. A `Text` keeps
-// whether there was, so what writes it has nothing to answer. A whole text has each piece that was put into it, in order (`Adds` of
-// specs/Written.antt), and each number in decimal digits (`filled`): so what a report shows is what was computed.
+// In: words, numbers, formats with a placeholder for each number, and names. Out: the text, if
+// there was enough memory for all of it. A `Text` records whether there was, so its callers return
+// no errors. A complete text has each piece that was put into it, in order (`Adds` of
+// specs/Written.antt), and each number in decimal digits (`filled`): so a report shows what was
+// computed.
 #![tactic(auto)]
 
 mod text;

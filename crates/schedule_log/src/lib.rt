@@ -1,10 +1,12 @@
 // The log of a run, line by line.
 //
-// An `Entry` is one line of the log: what was delivered or dropped, which thread ran, what it put out, where it blocked
-// or ended, an edge of the blocking graph, or why the run stopped. A `LogWriter` writes the lines of entries to a sink
-// through a buffer, `put_entry` writes one alone, and `read_entry` reads a line back. All cite one definition of the text
-// of an entry, and `log_text` is the text of a list of them, which the law of a whole run cites. The lines are those of
-// Capriccio's log: a word and fields with one blank between, numbers as canonical decimals, LF at the end.
+// An `Entry` is one line of the log: an event that was delivered or dropped, a thread that was
+// chosen, a value that it output, where it blocked or ended, an edge of the blocking graph, or why
+// the run stopped. A `LogWriter` writes the lines of entries to a sink through a buffer,
+// `put_entry` writes one directly, and `read_entry` reads a line back. All cite one definition of
+// the text of an entry; `log_text` is the text of a list of entries, which the law of a whole run
+// cites. A line is a word and fields separated by one space, with numbers as canonical decimals,
+// and ends with LF.
 #![tactic(auto)]
 
 mod averages;

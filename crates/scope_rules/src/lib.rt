@@ -1,12 +1,13 @@
 // From a tree with names to a program.
 //
-// `resolve` takes a tree as it is read, in which every call is whole, and answers the tree with numbers in the place of its
-// names, or the rule of scope or the limit that the source breaks. What a name is where it stands (specs/Names.antt) is the
-// first of the names in scope there, the latest first; the rules (specs/Expressions, Calls, Simples, Statements, Items) are
-// lists of the faults of each form of the tree, and the least fault is refused (specs/Faults, Outcomes). `c_scope` uses it
-// after the readings into tokens and into a tree. `resolve_numbered` gives the calls other numbers than those of the tree's
-// order. The rules are those of ISO/IEC 9899:2018, clauses 6.2.1, 6.2.2, 6.5.2.2,
-// 6.7 and 6.8, for the subset CapC.
+// `resolve` takes the tree of a source in which every call is whole. It returns the same tree with
+// numbers in place of names, or the rule of scope or the limit that the source breaks. A name means
+// the latest declaration that is in scope at its place (specs/Names.antt). The rules
+// (specs/Expressions, Calls, Simples, Statements, Items) list the faults of each form of the tree,
+// and the least fault is reported (specs/Faults, Outcomes). `resolve_numbered` gives the calls
+// other numbers than those of the tree's order. `c_scope` and `c_hoist` use these calls after a
+// source was read into tokens and a tree. The rules are those of ISO/IEC 9899:2018, clauses 6.2.1,
+// 6.2.2, 6.5.2.2, 6.7 and 6.8, for the subset CapC.
 #![tactic(auto)]
 
 mod calls;

@@ -1,11 +1,12 @@
 // The parts of a source thread's step: the values of expressions, and what a frame has still to do.
 //
-// In: an expression with the words of names and globals; statements to be done, and the stack on which they are to stand. Out:
-// the value or its first trap (`evaluate`); the stack with the statement's items on it (`push_stmt`, `push_body`, `push_turn`),
-// without what a jump passes over (`leave`, `skip`), or without its next item (`take_item`). Names have places of their own
-// among the words (`Rows`). An item is a part of a statement (`Item`), and a stack of them is the list of `c_mean`'s ToDo, the
-// next item on top (specs/Items.antt). The crate above, an interpreter of threads, cites these. The rules are those of ISO/IEC
-// 9899:2018, 6.5 and 6.8, for the subset CapC.
+// In: an expression with the words of names and globals; or statements to be done and a stack to
+// put them on. Out: the value or its first trap (`evaluate`); the stack with the statement's items
+// on it (`push_stmt`, `push_body`, `push_turn`), without what a jump skips (`leave`, `skip`), or
+// without its next item (`take_item`). An item is a part of a statement (`Item`), and a stack of
+// them is the list of `c_mean`'s ToDo, the next item on top (specs/Items.antt). Names have places
+// of their own among the words (`Rows`). `source_runs`, the interpreter of threads, uses these
+// calls. The rules are those of ISO/IEC 9899:2018, 6.5 and 6.8, for the subset CapC.
 #![tactic(auto)]
 
 mod items;

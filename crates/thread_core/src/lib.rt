@@ -1,11 +1,13 @@
-// Many threads over one pool of linked chunks: the thread package.
+// The thread package: many threads over one pool of linked chunks.
 //
-// In: an accepted program, a policy, what comes from outside, the clock, and whose segment begins or goes on. Out: the turns of a
-// segment, which threads are ready, and what else is told of the world. Contracts see a world as the machine world
-// (`machine_world`), which `make` starts, `deliver` and `advance` move, and `begin` and `proceed` run; `specs/States` says how it
-// is read from the fields, `specs/Kept` what every world keeps. The three theorems on `begin` and `proceed` stand in `specs/Turns`
-// (what a turn tells of the machine world), `specs/Sources` (of the source's run) and `specs/Lengths` (how long chains are). The
-// idea of cooperative threads on linked stacks, with chunks given and taken at calls, is Capriccio's (von Behren et al., SOSP 2003).
+// In: an accepted program, a policy, events, the clock, and the thread whose segment begins or
+// continues. Out: the turns of a segment, which threads are ready, and other facts about the world.
+// In contracts a world is the machine world (`machine_world`): `make` starts it, `deliver` and
+// `advance` move it, `begin` and `proceed` run it. `specs/States` says how it is read from the
+// fields, `specs/Kept` what every world keeps. The three theorems on `begin` and `proceed` are in
+// `specs/Turns` (the machine world after a turn), `specs/Sources` (the source's run) and
+// `specs/Lengths` (the lengths of chains). The idea of cooperative threads on linked stacks is
+// Capriccio's (von Behren et al., SOSP 2003).
 #![tactic(auto)]
 
 mod begins;
