@@ -22,16 +22,25 @@ def run(tool, *words, given=None):
 class WithTheProgram(unittest.TestCase):
     def test_a_sweep_has_the_numbers_of_the_kept_report(self):
         folder = TOP / "examples/calculator"
-        options = dict(zip(*[iter((folder / "options").read_text().split())] * 2))
-        varied = [it for name, value in options.items() for it in ("--vary", name[2:], value)]
-        told = run("sweep", folder / "server.c", folder / "trace", "--csv", *varied, "--vary", "fuel", "10000000", "100")
-        rows = list(csv.DictReader(io.StringIO(told.stdout)))
-        whole = re.search(r"first answer: least (\d+), median (\d+), 90th (\d+), 99th (\d+), greatest (\d+)", (folder / "report").read_text())
-        ranks = [rows[0][f"first {rank}"] for rank in ("least", "median", "90th", "99th", "greatest")]
-        self.assertEqual(ranks, list(whole.groups()))
+        rows = self.swept(folder, "report", "--vary", "fuel", "10000000", "100")
         self.assertEqual(rows[0]["stop"], "idle")
         self.assertRegex(rows[1]["stop"], "^fuel ")
         self.assertEqual(rows[1]["cost"], "100")  # all of the fuel
+
+    def test_a_sweep_pairs_outputs_as_the_kept_report_does(self):
+        self.swept(TOP / "examples/relay", "report_first", "--answers", "first")
+
+    def swept(self, folder, report, *words):
+        """The rows of a sweep on an example, of which the first has the latencies of its report."""
+        options = folder / "options"
+        pairs = zip(*[iter(options.read_text().split() if options.exists() else [])] * 2)
+        varied = [it for name, value in pairs for it in ("--vary", name[2:], value)]
+        told = run("sweep", folder / "server.c", folder / "trace", "--csv", *varied, *words)
+        rows = list(csv.DictReader(io.StringIO(told.stdout)))
+        whole = re.search(r"first answer: least (\d+), median (\d+), 90th (\d+), 99th (\d+), greatest (\d+)", (folder / report).read_text())
+        ranks = [rows[0][f"first {rank}"] for rank in ("least", "median", "90th", "99th", "greatest")]
+        self.assertEqual(ranks, list(whole.groups()))
+        return rows
 
     @unittest.skipUnless(shutil.which("gcc"), "there is no gcc")
     def test_random_programs_do_what_gcc_makes_of_them(self):
