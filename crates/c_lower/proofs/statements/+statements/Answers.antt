@@ -1,10 +1,11 @@
 use Rattle.std.proofs.Common.{◌≡◌, ◌+◌, ◌∷◌, ◌++◌, ℕ, length, map, drop, subst, arith}
 use Rattle.std.specs.Prelude.{option_map}
+use Rattle.c_tree.specs.declared.statements.ForParts.{ForParts}
 use Rattle.c_tree.specs.declared.statements.Stmt.{Stmt}
 use Rattle.c_tree.specs.Views.{expr_tree, simple_tree, stmt_tree, stmt_trees}
 use Rattle.c_tree.proofs.Cuts.{drop_at}
 use Rattle.c_tree.proofs.StmtEquations.{stmt_tree-Block, stmt_tree-If, stmt_tree-IfElse, stmt_tree-While, stmt_tree-For}
-use Rattle.c_lower.specs.StmtCode.{simples_code}
+use Rattle.c_lower.specs.StmtCode.{simples_code, step_code, step_size, test_code, test_size}
 use Rattle.c_lower.proofs.Glue.{then_on_ok}
 use Rattle.c_lower.proofs.StmtPuts.{Put, if_put, if_else_put, while_put, for_put, one_more_put}
 use Rattle.c_lower.proofs.statements.+statements.Goals as goal
@@ -92,17 +93,24 @@ put_stmt-returns-in_ok-put_step-in-For t c =
     let s1 = c.last_size-in-For.new.sizes.items in
     let s2 = c.put_stmt-in-For.new.sizes.items in
     let inside = c.in_ok-inside-in-For.inside in
-    let init = map simple_tree c.in-For.init.items in
-    let condition = option_map expr_tree c.in-For.condition in
-    let step = option_map simple_tree c.in-For.step in
+    let init = map simple_tree c.in-For.parts.value.init.items in
+    let condition = option_map expr_tree c.in-For.parts.value.condition in
+    let step = option_map simple_tree c.in-For.parts.value.step in
     let body = stmt_tree c.in-For.body.value in
-    let e1 : c1 ≡ c0 ++ simples_code init (length c0) context.t = rw (← c.deref-in-For.ensures.value) c.in_ok-put_simples-in-For.ensures in
+    let size = c.last_size-in-For.result in
+    let e1 : c1 ≡ c0 ++ simples_code init (length c0) context.t =
+    subst (λ (p : ForParts). c1 ≡ c0 ++ simples_code (map simple_tree p.init.items) (length c0) context.t) c.deref-in-For.ensures
+    (rw (← c.deref-in-For-2.ensures.value) c.in_ok-put_simples-in-For.ensures) in
+    let skip = subst (λ (p : ForParts). inside.skip ≡ length c1 + test_size (option_map expr_tree p.condition) + size) c.deref-in-For-3.ensures c.in_ok-inside-in-For.ensures.skip in
+    let leave = subst (λ (p : ForParts). inside.leave ≡ inside.skip + step_size (option_map simple_tree p.step) + 1) c.deref-in-For-4.ensures c.in_ok-inside-in-For.ensures.leave in
+    let e2 = subst (λ (p : ForParts). c2 ≡ c1 ++ test_code (option_map expr_tree p.condition) (length c1) context.t inside.leave) c.deref-in-For-5.ensures c.in_ok-put_test-in-For.ensures in
+    let e4 = subst (λ (p : ForParts). c4 ≡ c3 ++ step_code (option_map simple_tree p.step) (length c3) context.t) c.deref-in-For-7.ensures c.in_ok-put_step-in-For.ensures in
     let put : Put c2 c3 s1 s2 body context.t inside.leave inside.skip =
     subst (λ (n : ℕ). Put c2 c3 s1 s2 body n inside.leave inside.skip) c.in_ok-inside-in-For.ensures.t
-    (subst (λ (x : Stmt). Put c2 c3 s1 s2 (stmt_tree x) inside.t inside.leave inside.skip) c.deref-in-For-2.ensures c.in_ok-put_stmt-in-For.ensures) in
-    rw (c.in-For.is, stmt_tree-For c.in-For.init c.in-For.condition c.in-For.step c.in-For.body)
+    (subst (λ (x : Stmt). Put c2 c3 s1 s2 (stmt_tree x) inside.t inside.leave inside.skip) c.deref-in-For-6.ensures c.in_ok-put_stmt-in-For.ensures) in
+    rw (c.in-For.is, stmt_tree-For c.in-For.parts c.in-For.body)
     (then_on_ok c.put-in-For.result
-    (for_put c0 c1 c2 c3 c4 c5 s0 s1 s2 init condition step body context.t context.leave context.skip _ inside.skip inside.leave _ e1 c.in_ok-turn-in-For.ensures c.last_size-in-For.ensures c.in_ok-inside-in-For.ensures.skip c.in_ok-inside-in-For.ensures.leave c.in_ok-put_test-in-For.ensures put c.in_ok-put_step-in-For.ensures)
+    (for_put c0 c1 c2 c3 c4 c5 s0 s1 s2 init condition step body context.t context.leave context.skip _ inside.skip inside.leave _ e1 c.in_ok-turn-in-For.ensures c.last_size-in-For.ensures skip leave e2 put e4)
     c.put-in-For.ensures)
 
 pub put_stmt-returns-in-Block : goal.put_stmt-returns-in-Block
