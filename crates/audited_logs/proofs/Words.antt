@@ -1,15 +1,18 @@
 -- What a thread of the machine puts is a word.
 use Rattle.std.proofs.Common.{◌≡◌, ℕ, ◌^◌, ◌<◌, nat_eq, nat_le, List, [], ◌∷◌, length, Option, Some, None, sym, subst}
 use Rattle.std.proofs.lemmas.Bool.{cond_both}
-use Rattle.cap_word.specs.Calls.{Call, Blocking, Immediate, call_of}
+use Rattle.std.specs.Prelude.{option_map}
+use Rattle.cap_word.specs.Calls.{Call, Blocking, Immediate, call_with}
+use Rattle.cap_word.specs.ModelledCalls.{call_numbered}
 use Rattle.cap_word.specs.Runs.{Goes, Asks, Stops}
 use Rattle.cap_word.specs.declared.calls.Ask.{Ask}
+use Rattle.cap_word.specs.declared.modelled_calls.ModelledCall.{ModelledCall}
 use Rattle.cap_word.specs.declared.stops.Stop.{Stop}
 use Rattle.cap_word.specs.declared.traps.TrapKind.{TrapKind}
 use Rattle.c_mean.specs.ModelledCalls.{blocking_row, immediate_row}
 use Rattle.chunk_pool.specs.Pool.{Taken, taken_for}
 use Rattle.machine_world.specs.Local as local
-use Rattle.machine_world.specs.Local.{Local, LocalMove, Ended, Trapped, NoRoom, Wrong, a0, a1, tp, t1, first_of, asks_or_wrong, linked_on, unlinked_front, unlinked_on, chunk_with_payload, ended, trapped, system_call, machine_of, local_move, local_step}
+use Rattle.machine_world.specs.Local.{Local, LocalMove, Ended, Trapped, NoRoom, Wrong, a0, a1, tp, t1, asks_or_wrong, linked_on, unlinked_front, unlinked_on, chunk_with_payload, ended, trapped, system_call, machine_of, local_move, local_step}
 use Rattle.machine_world.specs.Threads as machine
 use Rattle.machine_world.specs.Threads.{Thread, World, Setting, Move, most_threads, printed, spawned, unless_trap, asked, stopped, moved, step}
 use Rattle.machine_world.specs.WellFormed.{AreWords}
@@ -40,21 +43,20 @@ WordMove (Asks (local.Calls call) still) = WordCall call
 WordMove (Asks (local.Starts entry argument need) still) = Unit {0}
 WordMove (Stops end) = Unit {0}
 
-word_none : (number : ℕ) → WordIf (call_of number [])
-word_none number =
-    cond_both (nat_eq number 6) _ _ WordIf (λ _. tt) (λ _. cond_both (nat_eq number 16) _ _ WordIf (λ _. tt) (λ _. cond_both (nat_eq number 19) _ _ WordIf (λ _. tt) (λ _. tt)))
+word_row : (call : ModelledCall) (a b : ℕ) → a < 2 ^ 32 → WordCall (call_with call a b)
+word_row ModelledCall.Accept a b small = tt
+word_row ModelledCall.Wait a b small = tt
+word_row ModelledCall.Sleep a b small = tt
+word_row ModelledCall.Yield a b small = tt
+word_row ModelledCall.Take a b small = tt
+word_row ModelledCall.WaitFor a b small = tt
+word_row ModelledCall.Put a b small = small
+word_row ModelledCall.Give a b small = tt
+word_row ModelledCall.SelfNumber a b small = tt
 
-word_one : (number a : ℕ) → a < 2 ^ 32 → WordIf (call_of number (a ∷ []))
-word_one number a small =
-    cond_both (nat_eq number 3) _ _ WordIf (λ _. small) (λ _. cond_both (nat_eq number 17) _ _ WordIf (λ _. tt) (λ _. cond_both (nat_eq number 18) _ _ WordIf (λ _. tt) (λ _. tt)))
-
-word_two : (number a b : ℕ) → WordIf (call_of number (a ∷ b ∷ []))
-word_two number a b =
-    cond_both (nat_eq number 5) _ _ WordIf (λ _. tt) (λ _. cond_both (nat_eq number 20) _ _ WordIf (λ _. tt) (λ _. cond_both (nat_eq number 21) _ _ WordIf (λ _. tt) (λ _. tt)))
-
-word_first : (one other : Option Call) → WordIf one → WordIf other → WordIf (first_of one other)
-word_first (Some call) other h k = h
-word_first None other h k = k
+word_package : (call : Option ModelledCall) (a b : ℕ) → a < 2 ^ 32 → WordIf (option_map (λ c. call_with c a b) call)
+word_package None a b small = tt
+word_package (Some call) a b small = word_row call a b small
 
 word_asks : (l : Local) (call : Option Call) → WordIf call → WordMove (asks_or_wrong l call)
 word_asks l (Some call) h = h
@@ -88,9 +90,7 @@ word_system l number words =
     (λ _. cond_both (nat_eq number 30) _ _ WordMove (λ _. word_ended l l.core.chain)
     (λ _. cond_both (nat_eq number 31) _ _ WordMove (λ _. word_trapped (read l.core.x a0))
     (λ _. word_asks l (local.package_call number l.core.x)
-    (word_first (call_of number []) _ (word_none number)
-    (word_first (call_of number (read l.core.x a0 ∷ [])) (call_of number (read l.core.x a0 ∷ read l.core.x a1 ∷ []))
-    (word_one number (read l.core.x a0) (read-below l.core.x a0 words)) (word_two number (read l.core.x a0) (read l.core.x a1)))))))))
+    (word_package (call_numbered number) (read l.core.x a0) (read l.core.x a1) (read-below l.core.x a0 words)))))))
 
 word_move : (l : Local) (o : rows.Outcome) → AreWords l.core.x → WordMove (local_move l o)
 word_move l (rows.Goes pc x stored) words = tt

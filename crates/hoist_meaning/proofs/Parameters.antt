@@ -3,6 +3,7 @@ use Rattle.std.proofs.Common.{ℕ, zero, suc, ◌≡◌, ◌+◌, ◌<◌, ◌�
 use Rattle.std.specs.Prelude.{codes}
 use Rattle.std.specs.Str.{bytes_eq}
 use Rattle.std.proofs.lemmas.Slice.Eq.{bytes_eq-Decides}
+use Rattle.cap_word.specs.ModelledCalls.{all_calls, name_of}
 use Rattle.cap_word.specs.declared.modelled_calls.ModelledCall.{ModelledCall}
 use Rattle.c_tree.specs.RawTrees.{NameTree, RawItemTree, RawGlobal, RawGlobalArray, RawTableItem, RawPrototypeItem, RawFunctionItem}
 use Rattle.c_tree.specs.Temporaries.{capped}
@@ -12,7 +13,7 @@ use Rattle.scope_rules.specs.Names.{Binding, find}
 use Rattle.scope_rules.specs.Meanings.{function_of, callee_in, callee_of}
 use Rattle.scope_rules.specs.Places.{Spot}
 use Rattle.scope_rules.specs.Simples.{is_fixed, bound, next_variable, with_variable}
-use Rattle.scope_rules.specs.Items.{modelled, modelled_names, is_defined, with_function, params_after, params_spot, body_spot}
+use Rattle.scope_rules.specs.Items.{modelled, with_calls, modelled_names, is_defined, with_function, params_after, params_spot, body_spot}
 use Rattle.deep_mean.specs.Naming as deep
 use Rattle.deep_mean.specs.Naming.{DeepSofar, is_spawn_by}
 use Rattle.hoist_meaning.specs.SourceNames.{IsSourceName, AreNamed, IsItemNamed}
@@ -62,28 +63,34 @@ first_spawn true t f o e h g = h ∙ both_ways true (bytes_eq t (codes "spawn"))
 first_spawn false t f o e h g = g ∙ both_ways false (bytes_eq t (codes "spawn")) (codes "spawn") t e refl
 
 abbrev others : List Binding
-others =
-    modelled (codes "waitfor") (Meaning.Modelled ModelledCall.WaitFor)
-    ∷ modelled (codes "self") (Meaning.Modelled ModelledCall.SelfNumber)
-    ∷ modelled (codes "give") (Meaning.Modelled ModelledCall.Give)
-    ∷ modelled (codes "put") (Meaning.Modelled ModelledCall.Put)
-    ∷ modelled (codes "take") (Meaning.Modelled ModelledCall.Take)
-    ∷ modelled (codes "yield") (Meaning.Modelled ModelledCall.Yield)
-    ∷ modelled (codes "sleep") (Meaning.Modelled ModelledCall.Sleep)
-    ∷ modelled (codes "wait") (Meaning.Modelled ModelledCall.Wait)
-    ∷ modelled (codes "accept") (Meaning.Modelled ModelledCall.Accept)
-    ∷ []
+others = with_calls [] all_calls
 
-none_others : NoneSpawn others
-none_others = (refl, (refl, (refl, (refl, (refl, (refl, (refl, (refl, (refl, tt)))))))))
+none_calls : (names : List Binding) (calls : List ModelledCall) → NoneSpawn names → NoneSpawn (with_calls names calls)
+none_calls names [] h = h
+none_calls names (call ∷ calls) h = none_calls (modelled call ∷ names) calls (refl, h)
+
+call_named : (call : ModelledCall) → IsSourceName (name_of call)
+call_named ModelledCall.Accept = inr (omega arith)
+call_named ModelledCall.Wait = inr (omega arith)
+call_named ModelledCall.Sleep = inr (omega arith)
+call_named ModelledCall.Yield = inr (omega arith)
+call_named ModelledCall.Take = inr (omega arith)
+call_named ModelledCall.WaitFor = inr (omega arith)
+call_named ModelledCall.Put = inr (omega arith)
+call_named ModelledCall.Give = inr (omega arith)
+call_named ModelledCall.SelfNumber = inr (omega arith)
+
+outside_calls : (names : List Binding) (calls : List ModelledCall) → AreOutside names → AreOutside (with_calls names calls)
+outside_calls names [] h = h
+outside_calls names (call ∷ calls) h = outside_calls (modelled call ∷ names) calls (tt, call_named call, h)
 
 outside_names : AreOutside modelled_names
-outside_names = (tt, inr (omega arith), (tt, inr (omega arith), (tt, inr (omega arith), (tt, inr (omega arith), (tt, inr (omega arith), (tt, inr (omega arith), (tt, inr (omega arith), (tt, inr (omega arith), (tt, inr (omega arith), (tt, inr (omega arith), tt))))))))))
+outside_names = (tt, inr (omega arith), outside_calls [] all_calls tt)
 
 pub start_outer : OuterNames modelled_names
 start_outer = record {
   outside = outside_names;
-  knows = λ t. first_spawn (bytes_eq (codes "spawn") t) t (record { position = length others; meaning = Meaning.Spawn }) (find t others) refl refl (none_spawn t others none_others);
+  knows = λ t. first_spawn (bytes_eq (codes "spawn") t) t (record { position = length others; meaning = Meaning.Spawn }) (find t others) refl refl (none_spawn t others (none_calls [] all_calls tt));
 }
 
 -- ---- what items declare

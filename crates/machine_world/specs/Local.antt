@@ -1,8 +1,9 @@
 -- One thread over the areas: what one instruction of it leads to, and the calls of the run time that concern no other
 -- thread. The thread goes on, asks a call of the thread package, has ended, traps, finds no room, or is wrong.
 -- RISC-V unprivileged manual, chapters "RV32I" and "M", for the instructions.
-use Rattle.std.specs.Prelude.{ℕ, ◌==◌, List, [], ◌∷◌, Option, Some, None, if◌then◌else◌, nat_eq}
-use Rattle.cap_word.specs.Calls.{Call, call_of}
+use Rattle.std.specs.Prelude.{ℕ, ◌==◌, List, [], ◌∷◌, Option, Some, None, option_map, if◌then◌else◌, nat_eq}
+use Rattle.cap_word.specs.Calls.{Call, call_with}
+use Rattle.cap_word.specs.ModelledCalls.{call_numbered, spawn_number}
 use Rattle.cap_word.specs.Runs.{Move, Goes, Asks, Stops, Machine}
 use Rattle.cap_word.specs.Word as word
 use Rattle.cap_word.specs.declared.traps.TrapKind.{TrapKind}
@@ -145,15 +146,9 @@ ended l (chunk ∷ chunk' ∷ chain) = Stops Wrong
 abbrev pub trapped : ℕ → LocalMove
 trapped kind = if nat_eq kind 1 then Stops (Trapped TrapKind.Index) else if nat_eq kind 2 then Stops (Trapped TrapKind.Table) else Stops Wrong
 
--- the first that is there
-abbrev pub first_of : Option Call → Option Call → Option Call
-first_of (Some call) other = Some call
-first_of None other = other
-
 -- the call of the thread package of that number; one that takes one argument has it in a0, one that takes two in a0 and a1
 abbrev pub package_call : ℕ → List ℕ → Option Call
-package_call number x =
-    first_of (call_of number []) (first_of (call_of number (read x a0 ∷ [])) (call_of number (read x a0 ∷ read x a1 ∷ [])))
+package_call number x = option_map (λ call. call_with call (read x a0) (read x a1)) (call_numbered number)
 
 abbrev pub asks_or_wrong : Local → Option Call → LocalMove
 asks_or_wrong l (Some call) = Asks (Calls call) l
@@ -164,7 +159,7 @@ abbrev pub system_call : Local → ℕ → LocalMove
 system_call l number =
     if nat_eq number 1 then linked l else
     if nat_eq number 2 then unlinked l else
-    if nat_eq number 4 then Asks (Starts (read l.core.x a0) (read l.core.x a1) (read l.core.x a2)) l else
+    if nat_eq number spawn_number then Asks (Starts (read l.core.x a0) (read l.core.x a1) (read l.core.x a2)) l else
     if nat_eq number 30 then ended l l.core.chain else
     if nat_eq number 31 then trapped (read l.core.x a0) else
     asks_or_wrong l (package_call number l.core.x)

@@ -1,6 +1,7 @@
 -- What a source declares and defines outside functions: the rules that it breaks, and the program that it is.
 use Rattle.std.specs.Prelude.{ℕ, Bool, true, false, not, ◌||◌, ◌&&◌, nat_eq, List, [], ◌∷◌, ◌++◌, length, Option, Some, None, codes}
 use Rattle.std.specs.Str.{bytes_eq}
+use Rattle.cap_word.specs.ModelledCalls.{all_calls, name_of}
 use Rattle.cap_word.specs.declared.modelled_calls.ModelledCall.{ModelledCall}
 use Rattle.c_tree.specs.declared.facts.GlobalFact.{GlobalFact}
 use Rattle.c_tree.specs.RawTrees.{NameTree, RawItemTree, RawGlobal, RawGlobalArray, RawTableItem, RawPrototypeItem, RawFunctionItem, RawStmtTrees}
@@ -18,23 +19,17 @@ use Rattle.scope_rules.specs.Places.{Spot}
 use Rattle.scope_rules.specs.Simples.{declared_faults, declare_faults, size_faults, bound, with_variable}
 use Rattle.scope_rules.specs.Statements.{inside, stmts_after, stmts_faults, stmts_of}
 
-abbrev pub modelled : List ℕ → Meaning → Binding
-modelled t m = record { text = t; meaning = m }
+abbrev pub modelled : ModelledCall → Binding
+modelled call = record { text = name_of call; meaning = Meaning.Modelled call }
 
--- the modelled calls, which stand outside every scope of the source
+-- these names, and those of modelled calls
+abbrev pub with_calls : List Binding → List ModelledCall → List Binding
+with_calls names [] = names
+with_calls names (call ∷ calls) = with_calls (modelled call ∷ names) calls
+
+-- the names of the table of modelled calls and of `spawn`, which stand outside every scope of the source
 abbrev pub modelled_names : List Binding
-modelled_names =
-    modelled (codes "spawn") Meaning.Spawn
-    ∷ modelled (codes "waitfor") (Meaning.Modelled ModelledCall.WaitFor)
-    ∷ modelled (codes "self") (Meaning.Modelled ModelledCall.SelfNumber)
-    ∷ modelled (codes "give") (Meaning.Modelled ModelledCall.Give)
-    ∷ modelled (codes "put") (Meaning.Modelled ModelledCall.Put)
-    ∷ modelled (codes "take") (Meaning.Modelled ModelledCall.Take)
-    ∷ modelled (codes "yield") (Meaning.Modelled ModelledCall.Yield)
-    ∷ modelled (codes "sleep") (Meaning.Modelled ModelledCall.Sleep)
-    ∷ modelled (codes "wait") (Meaning.Modelled ModelledCall.Wait)
-    ∷ modelled (codes "accept") (Meaning.Modelled ModelledCall.Accept)
-    ∷ []
+modelled_names = record { text = codes "spawn"; meaning = Meaning.Spawn } ∷ with_calls [] all_calls
 
 -- the functions that a source defines, the latest first, numbered in the order of their definitions
 abbrev pub with_definition : List Binding → RawItemTree → List Binding

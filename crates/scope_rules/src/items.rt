@@ -276,22 +276,15 @@ pub fn definitions<'a>(alloc: Global, raw: &'a [RawItem]) -> Result<Names<'a>, A
     Ok(definitions)
 }
 
-// The modelled calls.
+// The names of the modelled calls and of `spawn`.
 fn modelled_names<'a>(alloc: Global) -> Result<Names<'a>, AllocError>
     ensures { IfOk result (λ names. names ≡ modelled_names) }
 {
-    let names = Names::new(alloc);
-    let names = names.with(b"accept", Meaning::Modelled(ModelledCall::Accept))?;
-    let names = names.with(b"wait", Meaning::Modelled(ModelledCall::Wait))?;
-    let names = names.with(b"sleep", Meaning::Modelled(ModelledCall::Sleep))?;
-    let names = names.with(b"yield", Meaning::Modelled(ModelledCall::Yield))?;
-    let names = names.with(b"take", Meaning::Modelled(ModelledCall::Take))?;
-    let names = names.with(b"put", Meaning::Modelled(ModelledCall::Put))?;
-    let names = names.with(b"give", Meaning::Modelled(ModelledCall::Give))?;
-    let names = names.with(b"self", Meaning::Modelled(ModelledCall::SelfNumber))?;
-    let names = names.with(b"waitfor", Meaning::Modelled(ModelledCall::WaitFor))?;
-    let names = names.with(b"spawn", Meaning::Spawn)?;
-    Ok(names)
+    let mut names = Names::new(alloc);
+    for call in &ModelledCall::ALL {
+        names.declare(call.name().as_bytes(), Meaning::Modelled(*call))?;
+    }
+    names.with(b"spawn", Meaning::Spawn)
 }
 
 impl<'a> Items<'a> {

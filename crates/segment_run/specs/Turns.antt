@@ -1,6 +1,6 @@
 -- What the code tells of one instruction of a thread.
-use Rattle.std.specs.Prelude.{◌≡◌, ℕ, ◌+◌, ◌<◌, List, [], ◌∷◌, Bool, true, false, Option}
-use Rattle.cap_word.specs.Calls.{Call, Blocking, Immediate, call_of}
+use Rattle.std.specs.Prelude.{◌≡◌, ℕ, ◌+◌, ◌<◌, List, [], ◌∷◌, Bool, true, false}
+use Rattle.cap_word.specs.Calls.{Call, Blocking, Immediate}
 use Rattle.cap_word.specs.Runs as runs
 use Rattle.cap_word.specs.Runs.{Stops}
 use Rattle.chunk_pool.specs.Pool.{chunk_of, shape_of, FitsNone}
@@ -8,7 +8,7 @@ use Rattle.rv_machine.specs.Registers.{read}
 use Rattle.machine_world.specs.Areas.{Areas}
 use Rattle.machine_world.specs.Held.{copies_in}
 use Rattle.machine_world.specs.WellFormed.{AreWellFormed}
-use Rattle.machine_world.specs.Local.{Local, Calls, Ended, Trapped, NoRoom, t1, first_of, linked, local_step, system_call}
+use Rattle.machine_world.specs.Local.{Local, Calls, Ended, Trapped, NoRoom, t1, linked, local_step, system_call}
 use Rattle.machine_world.specs.Places.{Checked}
 use Rattle.segment_laws.specs.Ways.{HasForm, Leads}
 use Rattle.segment_run.specs.Contexts.{chain_from}
@@ -22,10 +22,6 @@ thread_of areas thread = record {
   areas = areas;
   core = record { pc = thread.regs.pc; x = thread.regs.x; chain = chain_from areas.pool thread.chunk thread.depth };
 }
-
--- the call of the thread package of a number, with what stands in a0 and a1
-abbrev pub call_with : ℕ → ℕ → ℕ → Option Call
-call_with number a b = first_of (call_of number []) (first_of (call_of number (a ∷ [])) (call_of number (a ∷ b ∷ [])))
 
 abbrev pub turn_of : Call → Turn
 turn_of (Blocking block) = Blocks block

@@ -1,5 +1,6 @@
-ghost use Rattle.std.specs.Prelude.{◌≡◌, ℕ, ◌⊎◌, List, Ok, IfSome, IsNone, map, option_map};
+ghost use Rattle.std.specs.Prelude.{◌≡◌, ℕ, ◌⊎◌, List, Ok, IfSome, IsNone, map};
 ghost use Rattle.machine_world.specs.Local.{system_call, local_step, trapped, Trapped};
+ghost use Rattle.cap_word.specs.Calls.{call_with};
 ghost use Rattle.cap_word.specs.Runs.{Stops};
 ghost use Rattle.certificate_rules.specs.Validity.{IsValid};
 ghost use Rattle.flat_code.specs.WellFormed.{IsWellFormed};
@@ -8,7 +9,7 @@ ghost use Rattle.rv_machine.specs.Step.{instruction_at};
 ghost use Rattle.segment_laws.specs.Ways.{HasForm};
 ghost use Rattle.segment_run.specs.Contexts.{checked_of, code_of};
 ghost use Rattle.segment_run.specs.Safe.{IsSafe, StaysSafe};
-ghost use Rattle.segment_run.specs.Turns.{thread_of, turn_of, call_with, IsAtEcall, IsTurn, IsUnderWay};
+ghost use Rattle.segment_run.specs.Turns.{thread_of, turn_of, IsAtEcall, IsTurn, IsUnderWay};
 
 use crate::areas::Areas;
 use crate::links::{end, link, unlink};
@@ -16,7 +17,7 @@ use crate::lookups::function_with_entry;
 use crate::ready_turns::run_ready;
 use crate::registers::{A0, A1};
 use accepted_pairs::Accepted;
-use cap_word::{Ask, Block, TrapKind};
+use cap_word::{Ask, Block, ModelledCall, SPAWN_NUMBER, TrapKind};
 use rv_code::Instr;
 use rv_machine::{Regs, StepResult, step_of};
 
@@ -137,7 +138,7 @@ pub(crate) fn call(accepted: &Accepted, areas: &mut Areas, thread: &mut Thread, 
             unlink(areas, thread);
             Turn::Goes
         }
-        4 => Turn::Asks {
+        SPAWN_NUMBER => Turn::Asks {
             ask: Ask::Spawn {
                 function: function_with_entry(accepted, thread.regs.x[A0]),
                 argument: thread.regs.x[A1],
@@ -150,55 +151,54 @@ pub(crate) fn call(accepted: &Accepted, areas: &mut Areas, thread: &mut Thread, 
         31 => Turn::Traps {
             kind: trap_kind(thread.regs.x[A0]),
         },
-        _ => match package_call(number, thread.regs.x[A0], thread.regs.x[A1]) {
-            Some(turn) => turn,
+        _ => match ModelledCall::of_number(number) {
+            Some(modelled) => package_call(modelled, thread.regs.x[A0], thread.regs.x[A1]),
             None => unreachable!(),
         },
     }
 }
 
-// A call of the thread package but SPAWN, by its number, with what stands in a0 and a1.
-fn package_call(number: u32, a: u32, b: u32) -> Option<Turn>
-    ensures { result ≡ option_map turn_of (call_with number a b) }
+// A call of the thread package but SPAWN, with what stands in a0 and a1.
+fn package_call(call: ModelledCall, a: u32, b: u32) -> Turn
+    ensures { result ≡ turn_of (call_with call a b) }
 {
-    match number {
-        3 => Some(Turn::Asks {
-            ask: Ask::Put { value: a },
-        }),
-        5 => Some(Turn::Asks {
-            ask: Ask::Give {
-                resource: a,
-                amount: b,
-            },
-        }),
-        6 => Some(Turn::Asks {
-            ask: Ask::SelfNumber,
-        }),
-        16 => Some(Turn::Blocks {
+    match call {
+        ModelledCall::Accept => Turn::Blocks {
             block: Block::Accept,
-        }),
-        17 => Some(Turn::Blocks {
+        },
+        ModelledCall::Wait => Turn::Blocks {
             block: Block::Wait { channel: a },
-        }),
-        18 => Some(Turn::Blocks {
+        },
+        ModelledCall::Sleep => Turn::Blocks {
             block: Block::Sleep { ticks: a },
-        }),
-        19 => Some(Turn::Blocks {
+        },
+        ModelledCall::Yield => Turn::Blocks {
             block: Block::Yield,
-        }),
-        20 => Some(Turn::Blocks {
+        },
+        ModelledCall::Take => Turn::Blocks {
             block: Block::Take {
                 resource: a,
                 amount: b,
             },
-        }),
-        21 => Some(Turn::Blocks {
+        },
+        ModelledCall::WaitFor => Turn::Blocks {
             block: Block::WaitFor {
                 channel: a,
                 ticks: b,
             },
-        }),
-        _ => None,
+        },
+        ModelledCall::Put => Turn::Asks {
+            ask: Ask::Put { value: a },
+        },
+        ModelledCall::Give => Turn::Asks {
+            ask: Ask::Give {
+                resource: a,
+                amount: b,
+            },
+        },
+        ModelledCall::SelfNumber => Turn::Asks {
+            ask: Ask::SelfNumber,
+        },
     }
 }
 

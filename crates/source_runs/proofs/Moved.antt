@@ -1,11 +1,13 @@
 -- What steps lead to: values that are used, items that are taken, and silent steps one after another.
 use Rattle.std.proofs.Common.{◌≡◌, ◌≢◌, ℕ, zero, suc, ◌+◌, ◌-◌, ◌<◌, ◌≤◌, List, [], ◌∷◌, ◌++◌, length, map, sym, ap, ◌∙◌, arith, refl, subst}
-use Rattle.std.specs.Prelude.{Bool, true, false, Result, Ok, Err, MatchResult, OnOk, Option, Some, None, Vec, if◌then◌else◌, nat_eq, reverse, slice_index}
+use Rattle.std.specs.Prelude.{Bool, true, false, Result, Ok, Err, MatchResult, OnOk, Option, Some, None, Vec, reverse, slice_index}
 use Rattle.std.specs.List.{AllByRecursion}
 use Rattle.std.specs.declared.alloc.Global.{Global}
 use Rattle.std.proofs.lemmas.Bool.{lt-ltb, le-ltb}
 use Rattle.std.proofs.lemmas.List.{reverse-append, map_push}
-use Rattle.cap_word.specs.Calls.{Call, Immediate, Blocking, call_of, call_of_none, call_of_one, call_of_two}
+use Rattle.cap_word.specs.Calls.{Call, Immediate, Blocking, call_of, call_with}
+use Rattle.cap_word.specs.declared.modelled_calls.ModelledCall.{ModelledCall}
+use Rattle.c_mean.proofs.CallLemmas.{each_made}
 use Rattle.cap_word.specs.Runs.{Goes, Asks, Stops, and_then, moves}
 use Rattle.cap_word.proofs.RunLemmas.{goes_on}
 use Rattle.cap_word.specs.declared.calls.Ask.{Ask}
@@ -173,39 +175,19 @@ module _ (tree : ProgramTree) where
   StartsNone (Some (Blocking block)) = Unit {0}
   StartsNone (Some (Immediate ask)) = IsAskThere tree ask
 
-  either-none : (b : Bool) (one other : Option Call) → StartsNone one → StartsNone other → StartsNone (if b then one else other)
-  either-none true one other p q = p
-  either-none false one other p q = q
-
-  none-of-none : (number : ℕ) → StartsNone (call_of_none number)
-  none-of-none number =
-      let last : Option Call = if nat_eq number 19 then Some (Blocking Block.Yield) else None in
-      let next : Option Call = if nat_eq number 16 then Some (Blocking Block.Accept) else last in
-      either-none (nat_eq number 6) (Some (Immediate Ask.SelfNumber)) next (tt {0})
-      (either-none (nat_eq number 16) (Some (Blocking Block.Accept)) last (tt {0})
-      (either-none (nat_eq number 19) (Some (Blocking Block.Yield)) None (tt {0}) (tt {0})))
-
-  none-of-one : (number a : ℕ) → StartsNone (call_of_one number a)
-  none-of-one number a =
-      let last : Option Call = if nat_eq number 18 then Some (Blocking (Block.Sleep a)) else None in
-      let next : Option Call = if nat_eq number 17 then Some (Blocking (Block.Wait a)) else last in
-      either-none (nat_eq number 3) (Some (Immediate (Ask.Put a))) next (tt {0})
-      (either-none (nat_eq number 17) (Some (Blocking (Block.Wait a))) last (tt {0})
-      (either-none (nat_eq number 18) (Some (Blocking (Block.Sleep a))) None (tt {0}) (tt {0})))
-
-  none-of-two : (number a b : ℕ) → StartsNone (call_of_two number a b)
-  none-of-two number a b =
-      let last : Option Call = if nat_eq number 21 then Some (Blocking (Block.WaitFor a b)) else None in
-      let next : Option Call = if nat_eq number 20 then Some (Blocking (Block.Take a b)) else last in
-      either-none (nat_eq number 5) (Some (Immediate (Ask.Give a b))) next (tt {0})
-      (either-none (nat_eq number 20) (Some (Blocking (Block.Take a b))) last (tt {0})
-      (either-none (nat_eq number 21) (Some (Blocking (Block.WaitFor a b))) None (tt {0}) (tt {0})))
+  table-none : (call : ModelledCall) (a b : ℕ) → StartsNone (Some (call_with call a b))
+  table-none ModelledCall.Accept a b = tt {0}
+  table-none ModelledCall.Wait a b = tt {0}
+  table-none ModelledCall.Sleep a b = tt {0}
+  table-none ModelledCall.Yield a b = tt {0}
+  table-none ModelledCall.Take a b = tt {0}
+  table-none ModelledCall.WaitFor a b = tt {0}
+  table-none ModelledCall.Put a b = tt {0}
+  table-none ModelledCall.Give a b = tt {0}
+  table-none ModelledCall.SelfNumber a b = tt {0}
 
   starts-none : (number : ℕ) (words : List ℕ) → StartsNone (call_of number words)
-  starts-none number [] = none-of-none number
-  starts-none number (a ∷ []) = none-of-one number a
-  starts-none number (a ∷ b ∷ []) = none-of-two number a b
-  starts-none number (a ∷ b ∷ c ∷ rest) = tt {0}
+  starts-none number words = each_made StartsNone (tt {0}) table-none number words
 
   pub asked-so : (running : Running) (words : List ℕ) (thread : Thread) (site : ℕ) (place : source.Place) (made : Move) (number : ℕ) (arguments : List ℕ) → IsCalling made (call_of number arguments) → record { front = waits_at running site place; below = running.below } ≡ waiting_of tree thread → running.globals ≡ globals_of tree words → IsThread tree thread words → HasStepped tree (asks_if running site place (call_of number arguments)) thread words (Ok made)
   asked-so running words thread site place move.Goes number arguments h waits same fits = elim h [ ]

@@ -1,18 +1,14 @@
 -- What is well scoped is in range, and its values one after another.
 use Rattle.std.proofs.Common.{◌≡◌, ℕ, zero, suc, ◌+◌, ◌<◌, ◌≤◌, List, [], ◌∷◌, ◌++◌, length, map, drop, sym, ap, ◌∙◌, arith, refl, subst, get_or, append_assoc}
-use Rattle.std.specs.Prelude.{Result, Ok, Err, Some}
+use Rattle.std.specs.Prelude.{Result, Ok, Err, MatchResult}
 use Rattle.std.specs.List.{AllByRecursion}
 use Rattle.std.proofs.lemmas.List.{drop_all}
-use Rattle.cap_word.specs.Calls.{call_of, Immediate}
-use Rattle.cap_word.specs.declared.calls.Ask.{Ask}
 use Rattle.cap_word.specs.declared.traps.TrapKind.{TrapKind}
 use Rattle.c_tree.proofs.Cuts.{drop_at}
-use Rattle.cap_word.specs.ModelledCalls.{number_of, parameters_of}
 use Rattle.c_tree.specs.Trees.{ExprTree}
 use Rattle.c_tree.specs.Views.{expr_tree}
 use Rattle.c_tree.specs.WellScoped.{Context, AreExprsScoped}
 use Rattle.c_tree.specs.declared.expressions.Expr.{Expr}
-use Rattle.cap_word.specs.declared.modelled_calls.ModelledCall.{ModelledCall}
 use Rattle.c_mean.specs.Layout.{IsInRange}
 use Rattle.c_mean.specs.Values.{Value, value, values, with_first}
 use Rattle.c_mean.proofs.WorldLemmas.{scoped_in_range}
@@ -74,6 +70,10 @@ module _ (names globals : List (List ℕ)) where
   values-one (x ∷ []) e h is = ap (λ (y : Expr). with_first (value names globals (expr_tree y)) (Ok [])) (sym is)
   values-one (x ∷ y ∷ es) e h is = absurd (omega arith)
 
+  pub only-value : (es : List Expr) (e : Expr) (made : Value) → length es ≡ 1 → e ≡ get_or es 0 e → made ≡ value names globals (expr_tree e) → MatchResult made (λ word. of es ≡ Ok (word ∷ [])) (λ trap. of es ≡ Err trap)
+  only-value es e (Ok word) h is v = values-one es e h is ∙ ap (λ (x : Value). with_first x (Ok [])) (sym v)
+  only-value es e (Err trap) h is v = values-one es e h is ∙ ap (λ (x : Value). with_first x (Ok [])) (sym v)
+
   pub values-two : (es : List Expr) (e f : Expr) → length es ≡ 2 → e ≡ get_or es 0 e → f ≡ get_or es 1 f → of es ≡ with_first (value names globals (expr_tree e)) (with_first (value names globals (expr_tree f)) (Ok []))
   values-two [] e f h is also = absurd (omega arith)
   values-two (x ∷ []) e f h is also = absurd (omega arith)
@@ -81,27 +81,3 @@ module _ (names globals : List (List ℕ)) where
       ap (λ (z : Expr). with_first (value names globals (expr_tree z)) (with_first (value names globals (expr_tree y)) (Ok []))) (sym is)
       ∙ ap (λ (z : Expr). with_first (value names globals (expr_tree e)) (with_first (value names globals (expr_tree z)) (Ok []))) (sym also)
   values-two (x ∷ y ∷ z ∷ es) e f h is also = absurd (omega arith)
-
--- ---- modelled calls by their arguments
-
-pub only-put : (call : ModelledCall) (a : ℕ) → parameters_of call ≡ 1 → (call ≡ ModelledCall.Wait → ⊥) → (call ≡ ModelledCall.Sleep → ⊥) → call_of (number_of call) (a ∷ []) ≡ Some (Immediate (Ask.Put a))
-only-put ModelledCall.Accept a h w s = absurd (omega arith)
-only-put ModelledCall.Wait a h w s = absurd (w refl)
-only-put ModelledCall.Sleep a h w s = absurd (s refl)
-only-put ModelledCall.Yield a h w s = absurd (omega arith)
-only-put ModelledCall.Take a h w s = absurd (omega arith)
-only-put ModelledCall.WaitFor a h w s = absurd (omega arith)
-only-put ModelledCall.Put a h w s = refl
-only-put ModelledCall.Give a h w s = absurd (omega arith)
-only-put ModelledCall.SelfNumber a h w s = absurd (omega arith)
-
-pub only-give : (call : ModelledCall) (a b : ℕ) → parameters_of call ≡ 2 → (call ≡ ModelledCall.Take → ⊥) → (call ≡ ModelledCall.WaitFor → ⊥) → call_of (number_of call) (a ∷ b ∷ []) ≡ Some (Immediate (Ask.Give a b))
-only-give ModelledCall.Accept a b h t w = absurd (omega arith)
-only-give ModelledCall.Wait a b h t w = absurd (omega arith)
-only-give ModelledCall.Sleep a b h t w = absurd (omega arith)
-only-give ModelledCall.Yield a b h t w = absurd (omega arith)
-only-give ModelledCall.Take a b h t w = absurd (t refl)
-only-give ModelledCall.WaitFor a b h t w = absurd (w refl)
-only-give ModelledCall.Put a b h t w = absurd (omega arith)
-only-give ModelledCall.Give a b h t w = refl
-only-give ModelledCall.SelfNumber a b h t w = absurd (omega arith)

@@ -43,87 +43,59 @@ fn modelled(
         ModelledCall::Accept => Ok(Move::Blocks(Block::Accept)),
         ModelledCall::Yield => Ok(Move::Blocks(Block::Yield)),
         ModelledCall::SelfNumber => Ok(Move::Asks(Ask::SelfNumber)),
-        ModelledCall::Wait => with_one(names, globals, call, arguments),
-        ModelledCall::Sleep => with_one(names, globals, call, arguments),
-        ModelledCall::Put => with_one(names, globals, call, arguments),
-        ModelledCall::Take => with_two(names, globals, call, arguments),
-        ModelledCall::WaitFor => with_two(names, globals, call, arguments),
-        ModelledCall::Give => with_two(names, globals, call, arguments),
+        ModelledCall::Wait => {
+            let channel = one(names, globals, arguments)?;
+            Ok(Move::Blocks(Block::Wait { channel }))
+        }
+        ModelledCall::Sleep => {
+            let ticks = one(names, globals, arguments)?;
+            Ok(Move::Blocks(Block::Sleep { ticks }))
+        }
+        ModelledCall::Put => {
+            let value = one(names, globals, arguments)?;
+            Ok(Move::Asks(Ask::Put { value }))
+        }
+        ModelledCall::Take => {
+            let (resource, amount) = two(names, globals, arguments)?;
+            Ok(Move::Blocks(Block::Take { resource, amount }))
+        }
+        ModelledCall::WaitFor => {
+            let (channel, ticks) = two(names, globals, arguments)?;
+            Ok(Move::Blocks(Block::WaitFor { channel, ticks }))
+        }
+        ModelledCall::Give => {
+            let (resource, amount) = two(names, globals, arguments)?;
+            Ok(Move::Asks(Ask::Give { resource, amount }))
+        }
     }
 }
 
-/// A modelled call with one argument.
-fn with_one(
-    names: &Rows,
-    globals: &Rows,
-    call: ModelledCall,
-    arguments: &[Expr],
-) -> Result<Move, TrapKind>
+/// The value of the only argument.
+fn one(names: &Rows, globals: &Rows, arguments: &[Expr]) -> Result<u32, TrapKind>
     requires names { IsRows names.now }
     requires globals { IsRows globals.now }
     requires in_range { AllByRecursion (IsInRange names.now.widths.now globals.now.widths.now) (map expr_tree arguments.now) }
-    requires takes { parameters_of call ≡ 1 }
     requires count { length arguments.now ≡ 1 }
     ensures { MatchResult result
-        (λ made. (words : List ℕ) × (values (rows_in names.now) (rows_in globals.now) (map expr_tree arguments.now) ≡ Ok words) × IsCalling made (call_of (number_of call) words))
+        (λ word. values (rows_in names.now) (rows_in globals.now) (map expr_tree arguments.now) ≡ Ok (word ∷ []))
         (λ trap. values (rows_in names.now) (rows_in globals.now) (map expr_tree arguments.now) ≡ Err trap) }
 {
-    let argument = evaluate(names, globals, &arguments[0])?;
-    Ok(one_argument(call, argument))
+    evaluate(names, globals, &arguments[0])
 }
 
-/// A modelled call with two arguments.
-fn with_two(
-    names: &Rows,
-    globals: &Rows,
-    call: ModelledCall,
-    arguments: &[Expr],
-) -> Result<Move, TrapKind>
+/// The values of both arguments, the first one first.
+fn two(names: &Rows, globals: &Rows, arguments: &[Expr]) -> Result<(u32, u32), TrapKind>
     requires names { IsRows names.now }
     requires globals { IsRows globals.now }
     requires in_range { AllByRecursion (IsInRange names.now.widths.now globals.now.widths.now) (map expr_tree arguments.now) }
-    requires takes { parameters_of call ≡ 2 }
     requires count { length arguments.now ≡ 2 }
     ensures { MatchResult result
-        (λ made. (words : List ℕ) × (values (rows_in names.now) (rows_in globals.now) (map expr_tree arguments.now) ≡ Ok words) × IsCalling made (call_of (number_of call) words))
+        (λ words. values (rows_in names.now) (rows_in globals.now) (map expr_tree arguments.now) ≡ Ok (words.0 ∷ words.1 ∷ []))
         (λ trap. values (rows_in names.now) (rows_in globals.now) (map expr_tree arguments.now) ≡ Err trap) }
 {
     let first = evaluate(names, globals, &arguments[0])?;
     let second = evaluate(names, globals, &arguments[1])?;
-    Ok(two_arguments(call, first, second))
-}
-
-/// A call with one argument.
-fn one_argument(call: ModelledCall, argument: u32) -> Move
-    requires { parameters_of call ≡ 1 }
-    ensures { IsCalling result (call_of (number_of call) (argument ∷ [])) }
-{
-    match call {
-        ModelledCall::Wait => Move::Blocks(Block::Wait { channel: argument }),
-        ModelledCall::Sleep => Move::Blocks(Block::Sleep { ticks: argument }),
-        _ => Move::Asks(Ask::Put { value: argument }),
-    }
-}
-
-/// A call with two arguments.
-fn two_arguments(call: ModelledCall, first: u32, second: u32) -> Move
-    requires { parameters_of call ≡ 2 }
-    ensures { IsCalling result (call_of (number_of call) (first ∷ second ∷ [])) }
-{
-    match call {
-        ModelledCall::Take => Move::Blocks(Block::Take {
-            resource: first,
-            amount: second,
-        }),
-        ModelledCall::WaitFor => Move::Blocks(Block::WaitFor {
-            channel: first,
-            ticks: second,
-        }),
-        _ => Move::Asks(Ask::Give {
-            resource: first,
-            amount: second,
-        }),
-    }
+    Ok((first, second))
 }
 
 impl<'a> Interpreter<'a> {

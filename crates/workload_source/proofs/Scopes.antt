@@ -150,7 +150,7 @@ pub record HasNames (defs names : List Binding) (n : ℕ) : Type 0 where
   pub no_main : find (codes "main") names ≡ None
   pub accept : find (codes "accept") names ≡ Some (modelled_found 0 ModelledCall.Accept)
   pub wait : find (codes "wait") names ≡ Some (modelled_found 1 ModelledCall.Wait)
-  pub put : find (codes "put") names ≡ Some (modelled_found 5 ModelledCall.Put)
+  pub put : find (codes "put") names ≡ Some (modelled_found 6 ModelledCall.Put)
   pub spawn : find (codes "spawn") names ≡ Some (record { position = 9; meaning = Meaning.Spawn })
   pub chain : find (chain_name n) names ≡ Some (chain_found defs n position)
 
