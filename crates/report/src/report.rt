@@ -358,7 +358,7 @@ fn put_numbers(
     }
     text.words("waits by place: count, total, median, 99th, greatest\n");
     put_queue(alloc, text, scope);
-    put_waits(alloc, text, places, numbers);
+    put_waits(text, places, numbers);
     put_choices(text, numbers, course, run.decided);
     Ok(put_left(alloc, text, places, &reading.history, course, run.world))
 }
