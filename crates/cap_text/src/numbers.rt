@@ -73,6 +73,35 @@ fn number_of(digits: &[u8]) -> Option<u128>
         ((n : ℕ) × (digits.now ≡ canonical_decimal n) × (2 ^ 128 ≤ n))
         (λ n. digits.now ≡ canonical_decimal n) }
 {
+    match small_number_of(digits) {
+        Some(number) => Some(u128::from(number)),
+        None => wide_number_of(digits),
+    }
+}
+
+// The same, if it fits 64 bits, in which the arithmetic takes far fewer instructions.
+fn small_number_of(digits: &[u8]) -> Option<u64>
+    requires { IsDecimal digits.now }
+    ensures { MatchOption result
+        ((n : ℕ) × (digits.now ≡ canonical_decimal n) × (2 ^ 64 ≤ n))
+        (λ n. digits.now ≡ canonical_decimal n) }
+{
+    let mut number: u64 = 0;
+    for digit in digits {
+        let tens = number.checked_mul(10)?;
+        number = tens.checked_add(u64::from(*digit - b'0'))?;
+    }
+    Some(number)
+}
+
+// The same in 128 bits.
+#[inline(never)]
+fn wide_number_of(digits: &[u8]) -> Option<u128>
+    requires { IsDecimal digits.now }
+    ensures { MatchOption result
+        ((n : ℕ) × (digits.now ≡ canonical_decimal n) × (2 ^ 128 ≤ n))
+        (λ n. digits.now ≡ canonical_decimal n) }
+{
     let mut number: u128 = 0;
     for digit in digits {
         let tens = number.checked_mul(10)?;

@@ -20,6 +20,7 @@ pub enum LogError {
 /// The entry whose text `line` is, without its line feed.
 ///
 /// Takes no memory. `Line` comes exactly where no entry has this text.
+#[inline(always)]
 pub fn read_entry(line: &[u8]) -> Result<Entry, LogError>
     ensures read { IfOk result (λ entry. FitsEntry entry × (entry_text entry ≡ line.now)) }
     ensures refused { OnErr result (¬ IsLogLine line.now) }
@@ -121,6 +122,7 @@ fn read_end(fields: &mut Fields) -> Option<Entry>
     Some(Entry::End { thread, cost, free })
 }
 
+#[inline(never)]
 fn read_edge(fields: &mut Fields) -> Option<Entry>
     ensures found { IfSome result (SpellsEntry (codes "edge") fields.old) }
     ensures none { IfNone result (SpellsNoEntry (codes "edge") fields.old) }
