@@ -87,6 +87,10 @@ pub(crate) struct Course<'a> {
 }
 
 impl<'a> Watch for Course<'a> {
+    ghost use Rattle.std.specs.Prelude.{⊤};
+
+    ghost has_seen = { λ _ _. ⊤ };
+
     fn see(
         &mut self,
         entry: &Entry,
@@ -95,7 +99,10 @@ impl<'a> Watch for Course<'a> {
     ) -> Result<(), HistoryError> {
         match self.takes.add(told, self.at_take) {
             Ok(()) => match self.unasked.add(named) {
-                Ok(()) => self.take(entry, told),
+                Ok(()) => match self.take(entry, told) {
+                    Ok(()) => Ok(()),
+                    Err(error) => Err(error),
+                },
                 Err(error) => Err(error),
             },
             Err(AllocError) => Err(HistoryError::Memory),
@@ -358,7 +365,7 @@ fn put_numbers(
     }
     text.words("waits by place: count, total, median, 99th, greatest\n");
     put_queue(alloc, text, scope);
-    put_waits(alloc, text, places, numbers);
+    put_waits(text, places, numbers);
     put_choices(text, numbers, course, run.decided);
     Ok(put_left(alloc, text, places, &reading.history, course, run.world))
 }

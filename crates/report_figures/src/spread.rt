@@ -1,5 +1,9 @@
-ghost use Rattle.std.specs.Prelude.{◌≡◌, ◌<◌, ◌≤◌, [], length, Some, IfSome, IfNone, IsPermutation, slice_get};
+ghost use Rattle.std.specs.Prelude.{◌≡◌, ◌<◌, ◌≤◌, [], length, Some, IfOk, IfSome, IfNone, IsPermutation, OnOk, slice_get};
 ghost use Rattle.report_figures.specs.Ranks.{place_at, IsReadOff, IsSpread};
+ghost use Rattle.tick_lists.specs.Ticks.{ticks_in};
+
+use std::alloc::AllocError;
+use tick_lists::TickList;
 
 /// How numbers are spread: each field but `count` is one of them.
 #[derive(Clone, Copy)]
@@ -16,25 +20,25 @@ pub struct Spread {
     pub greatest: u64,
 }
 
-/// How the numbers are spread; there is no answer only where there are none. It leaves them in order of size, and takes no
-/// memory.
-pub fn spread_of(numbers: &mut [u64]) -> Option<Spread>
-    ensures spread { IfSome result (IsSpread numbers.old) }
-    ensures none { IfNone result (numbers.old ≡ []) }
-    ensures same { IsPermutation numbers.old numbers.new }
+/// How the numbers are spread; there is none only where there are no numbers. It leaves them in order of size, and takes no memory
+/// while each is kept in 4 bytes.
+pub fn spread_of(numbers: &mut TickList) -> Result<Option<Spread>, AllocError>
+    ensures spread { IfOk result (λ read. IfSome read (IsSpread (ticks_in numbers.old))) }
+    ensures none { IfOk result (λ read. IfNone read (ticks_in numbers.old ≡ [])) }
+    ensures same { OnOk result (IsPermutation (ticks_in numbers.old) (ticks_in numbers.new)) }
 {
-    if numbers.is_empty() {
-        return None;
+    numbers.sort()?;
+    if numbers.len() == 0 {
+        return Ok(None);
     }
-    numbers.sort_unstable();
     let read = read_off(numbers);
-    Some(read)
+    Ok(Some(read))
 }
 
 /// The spread of numbers that are in order of size.
-fn read_off(in_order: &[u64]) -> Spread
-    requires { 1 ≤ length in_order.now }
-    ensures { IsReadOff in_order.now result }
+fn read_off(in_order: &TickList) -> Spread
+    requires { 1 ≤ length (ticks_in in_order.now) }
+    ensures { IsReadOff (ticks_in in_order.now) result }
 {
     let count = in_order.len();
     let least = number_at(in_order, 0);
@@ -53,11 +57,11 @@ fn read_off(in_order: &[u64]) -> Spread
 }
 
 /// The number at a place.
-fn number_at(numbers: &[u64], place: usize) -> u64
-    requires { place < length numbers.now }
-    ensures { slice_get numbers.now place ≡ Some result }
+fn number_at(numbers: &TickList, place: usize) -> u64
+    requires { place < length (ticks_in numbers.now) }
+    ensures { slice_get (ticks_in numbers.now) place ≡ Some result }
 {
-    numbers[place]
+    numbers.at(place)
 }
 
 /// The place, from 0, of the nearest rank for so many of a hundred.

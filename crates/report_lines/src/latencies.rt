@@ -4,6 +4,7 @@ use crate::scopes::Scope;
 use report_figures::spread_of;
 use report_text::Text;
 use std::alloc::{AllocError, Global};
+use tick_lists::TickList;
 
 /// How long a request took: from when it arrived to an answer, its number, and the thread that took it.
 #[derive(Clone, Copy)]
@@ -25,7 +26,7 @@ pub fn put_requests(
 ) -> Result<Option<Asked>, AllocError> {
     let arrivals = scope.numbers.arrivals.len();
     let takes = scope.numbers.takers.len();
-    let mut ticks = Vec::new(alloc);
+    let mut ticks = TickList::new(alloc);
     let slowest = add_latencies(&mut ticks, scope, false)?;
     let line = RequestsLine {
         came: scope.count(arrivals),
@@ -35,16 +36,16 @@ pub fn put_requests(
     };
     text.line(&line);
     text.words("\n");
-    put_latencies(text, FIRST, ticks.as_mut_slice(), slowest);
+    put_latencies(text, FIRST, &mut ticks, slowest)?;
     drop(ticks);
     put_lasts(alloc, text, scope)
 }
 
 /// Appends the line on latencies to the last answer. The answer is the request that took longest, the earliest of such.
 fn put_lasts(alloc: Global, text: &mut Text, scope: Scope) -> Result<Option<Asked>, AllocError> {
-    let mut ticks = Vec::new(alloc);
+    let mut ticks = TickList::new(alloc);
     let slowest = add_latencies(&mut ticks, scope, true)?;
-    put_latencies(text, LAST, ticks.as_mut_slice(), slowest);
+    put_latencies(text, LAST, &mut ticks, slowest)?;
     match slowest {
         Some(latency) => Ok(Some(Asked {
             request: latency.request as u64,
@@ -66,7 +67,7 @@ fn slower_of(before: Option<Latency>, latency: Latency) -> Option<Latency> {
 /// Adds how long each request that was answered took to its first answer, or to its last one. The answer is the one that took
 /// longest, the earliest of such.
 fn add_latencies(
-    ticks: &mut Vec<u64>,
+    ticks: &mut TickList,
     scope: Scope,
     to_last: bool,
 ) -> Result<Option<Latency>, AllocError> {
@@ -108,8 +109,13 @@ const LAST: &str =
     "latency to the last answer: least $, median $, 90th $, 99th $, greatest $ (arrived $, thread $)\n";
 
 /// Appends the line on latencies of that form, in ticks; nothing where there are none.
-fn put_latencies(text: &mut Text, form: &str, ticks: &mut [u64], slowest: Option<Latency>) {
-    if let (Some(spread), Some(slowest)) = (spread_of(ticks), slowest) {
+fn put_latencies(
+    text: &mut Text,
+    form: &str,
+    ticks: &mut TickList,
+    slowest: Option<Latency>,
+) -> Result<(), AllocError> {
+    if let (Some(spread), Some(slowest)) = (spread_of(ticks)?, slowest) {
         text.form(
             form,
             &[
@@ -123,4 +129,5 @@ fn put_latencies(text: &mut Text, form: &str, ticks: &mut [u64], slowest: Option
             ],
         )
     }
+    Ok(())
 }

@@ -3,6 +3,7 @@ use crate::waits::put_part;
 use report_text::Text;
 use run_history::{Queued, queued_of};
 use std::alloc::{AllocError, Global};
+use tick_lists::TickList;
 
 /// The request that was queued longest: its number, from 0, and how it was queued.
 #[derive(Clone, Copy)]
@@ -19,7 +20,7 @@ pub fn put_queue(alloc: Global, text: &mut Text, scope: Scope) {
 }
 
 /// Adds how long each request was queued that is told of. The answer is the one that was queued longest, the earliest of such.
-fn add_queued(ticks: &mut Vec<u64>, scope: Scope) -> Result<Option<Longest>, AllocError> {
+fn add_queued(ticks: &mut TickList, scope: Scope) -> Result<Option<Longest>, AllocError> {
     let mut longest: Option<Longest> = None;
     for request in 0..scope.numbers.takers.len() {
         if let Some(queued) = queued_in(scope, request) {
@@ -50,12 +51,12 @@ pub(crate) fn ticks_of(queued: Queued) -> u64 {
 
 /// Appends the row.
 fn put_row(alloc: Global, text: &mut Text, scope: Scope) -> Result<(), AllocError> {
-    let mut ticks = Vec::new(alloc);
+    let mut ticks = TickList::new(alloc);
     let Some(longest) = add_queued(&mut ticks, scope)? else {
         return Ok(());
     };
     text.words("  queue, from arrival to accept: ");
-    put_part(text, ticks.as_mut_slice());
+    put_part(text, &mut ticks)?;
     text.form(
         " (request $, thread $, until $)\n",
         &[

@@ -3,13 +3,13 @@ use report_figures::{spread_of, total_of};
 use report_text::Text;
 use run_history::{Numbers, SiteWaits};
 use source_places::Places;
-use std::alloc::{AllocError, Global};
+use std::alloc::AllocError;
 use tick_lists::TickList;
 
 /// Appends the rows of waits by the place at which threads waited.
-pub fn put_waits(alloc: Global, text: &mut Text, places: &Places, numbers: &Numbers) {
+pub fn put_waits(text: &mut Text, places: &Places, numbers: &Numbers) {
     for (site, waits) in &numbers.waits.sites {
-        if put_site_waits(alloc, text, places, *site, waits).is_err() {
+        if put_site_waits(text, places, *site, waits).is_err() {
             text.lack()
         }
     }
@@ -17,18 +17,16 @@ pub fn put_waits(alloc: Global, text: &mut Text, places: &Places, numbers: &Numb
 
 /// Appends the row of a site: its waits, who waited longest there, and until when.
 fn put_site_waits(
-    alloc: Global,
     text: &mut Text,
     places: &Places,
     site: u32,
     waits: &SiteWaits,
 ) -> Result<(), AllocError> {
-    let mut ticks = Vec::new(alloc);
-    add_all(&mut ticks, &waits.ticks)?;
+    let mut ticks = waits.ticks.copy()?;
     text.words("  ");
     places.put_site(text, site);
     text.words(": ");
-    put_part(text, ticks.as_mut_slice());
+    put_part(text, &mut ticks)?;
     let longest = waits.longest;
     text.form(
         " (thread $, until $)\n",
@@ -37,18 +35,10 @@ fn put_site_waits(
     Ok(())
 }
 
-/// Adds all numbers of a list.
-fn add_all(ticks: &mut Vec<u64>, list: &TickList) -> Result<(), AllocError> {
-    for place in 0..list.len() {
-        ticks.push(list.at(place))?;
-    }
-    Ok(())
-}
-
 /// Appends how many waits there are, and how long they were, by these ticks; nothing where there are none.
-pub(crate) fn put_part(text: &mut Text, ticks: &mut [u64]) {
+pub(crate) fn put_part(text: &mut Text, ticks: &mut TickList) -> Result<(), AllocError> {
     let total = total_of(ticks).unwrap_or(u128::MAX);
-    if let Some(spread) = spread_of(ticks) {
+    if let Some(spread) = spread_of(ticks)? {
         text.line(&WaitsPart {
             count: spread.count,
             total,
@@ -57,4 +47,5 @@ pub(crate) fn put_part(text: &mut Text, ticks: &mut [u64]) {
             greatest: spread.greatest,
         })
     }
+    Ok(())
 }

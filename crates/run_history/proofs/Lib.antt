@@ -1,5 +1,6 @@
 pub mod Gathered
 pub mod Readings
+pub mod Seen
 pub mod Kept
 pub mod Paired
 pub mod PairedOnce

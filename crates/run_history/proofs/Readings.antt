@@ -1,82 +1,74 @@
--- What is gathered from the lines of a log so far is gathered from what its entries so far tell.
+-- What is gathered from the lines of a log so far is gathered from its entries so far.
 use Rattle.std.proofs.Common.{◌≡◌, ◌∙◌, ℕ, Bool, List, [], ◌∷◌, ◌++◌, map, ap, sym, refl, subst, append_assoc}
-use Rattle.std.proofs.lemmas.List.{append-nil}
+use Rattle.std.proofs.lemmas.List.{append-nil, map-append}
 use Rattle.std.specs.List.{AllByRecursion}
 use Rattle.std.specs.Prelude.{Result, Ok}
 use Rattle.cap_text.specs.TextLines.{lines_of}
 use Rattle.schedule_log.specs.declared.entries.Entry.{Entry}
 use Rattle.schedule_log.specs.EntryRanges.{FitsEntry, IsLogLine}
 use Rattle.schedule_log.specs.EntryText.{entry_text, log_text}
+use Rattle.schedule_log.proofs.EntryUnique.{text_unique}
 use Rattle.schedule_log.proofs.LogLines.{log_lines}
-use Rattle.run_history.specs.declared.happenings.Happening.{Happening}
-use Rattle.run_history.specs.Known.{Known, nothing_known, with_entry, happening}
-use Rattle.run_history.specs.Happenings.{happenings, happenings_from}
 
--- the lines that are left are those of entries that tell, after what was told, what the whole log tells; and this holds of what was told
-abbrev pub IsReading : List Bool → List ℕ → List (List ℕ) → Known → (List Happening → Type 0) → Type 0
-IsReading accepts log left known holds =
-    (entries : List Entry) → AllByRecursion FitsEntry entries → log ≡ log_text entries →
-    (rest : List Entry) × (told : List Happening) × (left ≡ map entry_text rest) × AllByRecursion FitsEntry rest × holds told × (told ++ happenings_from accepts known rest ≡ happenings accepts entries)
+-- the lines before those that are left are the texts of entries, and this holds of them
+abbrev pub IsReading : List ℕ → List (List ℕ) → (List Entry → Type 0) → Type 0
+IsReading log left holds = (before : List Entry) × AllByRecursion FitsEntry before × (lines_of log ≡ map entry_text before ++ left) × holds before
 
--- the entry that was read is the one
-pub ok-same : {X E : Type 0} (x y : X) → ◌≡◌ {A = Result X E} (Ok x) (Ok y) → x ≡ y
-ok-same x y same = cc
+pub reading-starts : (log : List ℕ) (holds : List Entry → Type 0) → holds [] → IsReading log (lines_of log) holds
+reading-starts log holds none = ([], tt, refl, none)
 
-pub reading-starts : (accepts : List Bool) (log : List ℕ) (holds : List Happening → Type 0) → holds [] → IsReading accepts log (lines_of log) nothing_known holds
-reading-starts accepts log holds none = λ entries fits is. (entries, [], ap lines_of is ∙ log_lines entries, fits, none, refl)
+all-more : (entries : List Entry) (entry : Entry) → AllByRecursion FitsEntry entries → FitsEntry entry → AllByRecursion FitsEntry (entries ++ entry ∷ [])
+all-more [] entry all fits = (fits, tt)
+all-more (first ∷ entries) entry all fits = (all.0, all-more entries entry all.1 fits)
 
-one-more : (accepts : List Bool) (line : List ℕ) (left left' : List (List ℕ)) (known known' : Known) (holds holds' : List Happening → Type 0) (entry : Entry) (told : Happening) (all before : List Happening) (rest : List Entry) →
-    left ≡ line ∷ left' → ((e : Entry) → FitsEntry e → entry_text e ≡ line → entry ≡ e) → known' ≡ with_entry accepts entry known → told ≡ happening accepts entry known →
-    ((h : List Happening) → holds h → holds' (h ++ told ∷ [])) →
-    left ≡ map entry_text rest → AllByRecursion FitsEntry rest → holds before → before ++ happenings_from accepts known rest ≡ all →
-    (rest' : List Entry) × (told' : List Happening) × (left' ≡ map entry_text rest') × AllByRecursion FitsEntry rest' × holds' told' × (told' ++ happenings_from accepts known' rest' ≡ all)
-one-more accepts line left left' known known' holds holds' entry told all before [] goes back known-is told-is add lines fits counted tells =
-    absurd (let clash : line ∷ left' ≡ [] = sym goes ∙ lines in cc)
-one-more accepts line left left' known known' holds holds' entry told all before (x ∷ rest) goes back known-is told-is add lines fits counted tells =
-    let both : line ∷ left' ≡ entry_text x ∷ map entry_text rest = sym goes ∙ lines in
-    let first : line ≡ entry_text x = cc in
-    let others : left' ≡ map entry_text rest = cc in
-    let same : entry ≡ x = back x fits.0 (sym first) in
-    let tells-now : told ≡ happening accepts x known = told-is ∙ ap (λ e. happening accepts e known) same in
-    let knows-now : known' ≡ with_entry accepts x known = known-is ∙ ap (λ e. with_entry accepts e known) same in
-    let step : told ∷ happenings_from accepts known' rest ≡ happening accepts x known ∷ happenings_from accepts (with_entry accepts x known) rest =
-    ap (λ t. t ∷ happenings_from accepts known' rest) tells-now ∙ ap (λ k. happening accepts x known ∷ happenings_from accepts k rest) knows-now in (
-      rest,
-      before ++ told ∷ [],
-      others,
-      fits.1,
-      add before counted,
-      append_assoc before (told ∷ []) (happenings_from accepts known' rest) ∙ (ap (λ l. before ++ l) step ∙ tells),
-    )
+-- one line more is the text of one entry more
+pub reading-goes-on : (log line : List ℕ) (left left' : List (List ℕ)) (holds holds' : List Entry → Type 0) (entry : Entry) →
+    IsReading log left holds → left ≡ line ∷ left' → FitsEntry entry → entry_text entry ≡ line →
+    ((before : List Entry) → holds before → holds' (before ++ entry ∷ [])) → IsReading log left' holds'
+reading-goes-on log line left left' holds holds' entry h goes fits text add =
+    let first : left ≡ entry_text entry ∷ left' = goes ∙ ap (λ l. l ∷ left') (sym text) in
+    let texts : map entry_text (h.0 ++ entry ∷ []) ≡ map entry_text h.0 ++ entry_text entry ∷ [] = map-append entry_text h.0 (entry ∷ []) in
+    let lines : lines_of log ≡ map entry_text (h.0 ++ entry ∷ []) ++ left' =
+    h.2 ∙ ap (λ l. map entry_text h.0 ++ l) first ∙ sym (append_assoc (map entry_text h.0) (entry_text entry ∷ []) left') ∙ ap (λ l. l ++ left') (sym texts) in
+    (h.0 ++ entry ∷ [], all-more h.0 entry h.1 fits, lines, add h.0 h.3)
 
-pub reading-goes-on : (accepts : List Bool) (log line : List ℕ) (left left' : List (List ℕ)) (known known' : Known) (holds holds' : List Happening → Type 0) (entry : Entry) (told : Happening) →
-    IsReading accepts log left known holds → left ≡ line ∷ left' → ((e : Entry) → FitsEntry e → entry_text e ≡ line → entry ≡ e) →
-    known' ≡ with_entry accepts entry known → told ≡ happening accepts entry known →
-    ((h : List Happening) → holds h → holds' (h ++ told ∷ [])) →
-    IsReading accepts log left' known' holds'
-reading-goes-on accepts log line left left' known known' holds holds' entry told h goes back known-is told-is add = λ entries fits is.
-    let now = h entries fits is in
-    one-more accepts line left left' known known' holds holds' entry told (happenings accepts entries) now.1 now.0 goes back known-is told-is add now.2 now.3 now.4 now.5
+same-entries : (xs ys : List Entry) → AllByRecursion FitsEntry xs → AllByRecursion FitsEntry ys → map entry_text xs ≡ map entry_text ys → xs ≡ ys
+same-entries [] [] p q e = refl
+same-entries [] (y ∷ ys) p q e = absurd (cc)
+same-entries (x ∷ xs) [] p q e = absurd (cc)
+same-entries (x ∷ xs) (y ∷ ys) p q e =
+    let first : entry_text x ≡ entry_text y = cc in
+    let others : map entry_text xs ≡ map entry_text ys = cc in
+    let one = text_unique x y p.0 q.0 first in
+    let rest = same-entries xs ys p.1 q.1 others in
+    (λ i. one i ∷ rest i)
 
-none-left : (accepts : List Bool) (known : Known) (holds : List Happening → Type 0) (all told : List Happening) (rest : List Entry) →
-    [] ≡ map entry_text rest → holds told → told ++ happenings_from accepts known rest ≡ all → holds all
-none-left accepts known holds all told [] none counted tells = subst holds (sym (append-nil told) ∙ tells) counted
-none-left accepts known holds all told (x ∷ rest) none counted tells = absurd (cc)
+-- the entries that were read
+pub reading-log : (log : List ℕ) (left : List (List ℕ)) (holds : List Entry → Type 0) → IsReading log left holds → left ≡ [] →
+    (entries : List Entry) × AllByRecursion FitsEntry entries × (lines_of log ≡ map entry_text entries)
+reading-log log left holds h over = (h.0, h.1, h.2 ∙ ap (λ l. map entry_text h.0 ++ l) over ∙ append-nil (map entry_text h.0))
 
-pub reading-is : (accepts : List Bool) (log : List ℕ) (left : List (List ℕ)) (known : Known) (holds : List Happening → Type 0) → IsReading accepts log left known holds → left ≡ [] →
-    (entries : List Entry) → AllByRecursion FitsEntry entries → log ≡ log_text entries → holds (happenings accepts entries)
-reading-is accepts log left known holds h over entries fits is =
-    let now = h entries fits is in none-left accepts known holds (happenings accepts entries) now.1 now.0 (sym over ∙ now.2) now.4 now.5
+-- they are those of the log
+pub reading-is : (log : List ℕ) (left : List (List ℕ)) (holds : List Entry → Type 0) → IsReading log left holds → left ≡ [] →
+    (entries : List Entry) → AllByRecursion FitsEntry entries → log ≡ log_text entries → holds entries
+reading-is log left holds h over entries fits is =
+    let lines : lines_of log ≡ map entry_text h.0 = h.2 ∙ ap (λ l. map entry_text h.0 ++ l) over ∙ append-nil (map entry_text h.0) in
+    subst holds (same-entries h.0 entries h.1 fits (sym lines ∙ ap lines_of is ∙ log_lines entries)) h.3
 
-no-line : (line : List ℕ) (left left' : List (List ℕ)) (rest : List Entry) → left ≡ line ∷ left' → (IsLogLine line → ⊥) → left ≡ map entry_text rest → AllByRecursion FitsEntry rest → ⊥
-no-line line left left' [] goes none lines fits = let clash : line ∷ left' ≡ [] = sym goes ∙ lines in cc
-no-line line left left' (x ∷ rest) goes none lines fits =
-    let both : line ∷ left' ≡ entry_text x ∷ map entry_text rest = sym goes ∙ lines in
-    let first : line ≡ entry_text x = cc in
-    none (x, fits.0, sym first)
+no-line : (line : List ℕ) (left : List (List ℕ)) (before entries : List Entry) → AllByRecursion FitsEntry entries → (IsLogLine line → ⊥) → map entry_text before ++ line ∷ left ≡ map entry_text entries → ⊥
+no-line line left [] [] fits none e = cc
+no-line line left [] (y ∷ entries) fits none e = let first : line ≡ entry_text y = cc in none (y, fits.0, sym first)
+no-line line left (x ∷ before) [] fits none e = cc
+no-line line left (x ∷ before) (y ∷ entries) fits none e =
+    let others : map entry_text before ++ line ∷ left ≡ map entry_text entries = cc in no-line line left before entries fits.1 none others
 
 -- a line that is no entry's stands in no log of entries
-pub reading-refuses : (accepts : List Bool) (log line : List ℕ) (left left' : List (List ℕ)) (known : Known) (holds : List Happening → Type 0) → IsReading accepts log left known holds → left ≡ line ∷ left' → (IsLogLine line → ⊥) →
+pub reading-refuses : (log line : List ℕ) (left left' : List (List ℕ)) (holds : List Entry → Type 0) → IsReading log left holds → left ≡ line ∷ left' → (IsLogLine line → ⊥) →
     (entries : List Entry) → AllByRecursion FitsEntry entries → log ≡ log_text entries → ⊥
-reading-refuses accepts log line left left' known holds h goes none entries fits is =
-    let now = h entries fits is in no-line line left left' now.0 goes none now.2 now.3
+reading-refuses log line left left' holds h goes none entries fits is =
+    no-line line left' h.0 entries fits none (ap (λ l. map entry_text h.0 ++ l) (sym goes) ∙ sym h.2 ∙ ap lines_of is ∙ log_lines entries)
+
+-- and stands behind the entries that were read
+pub reading-stops : (log line : List ℕ) (left left' : List (List ℕ)) (holds : List Entry → Type 0) → IsReading log left holds → left ≡ line ∷ left' → (IsLogLine line → ⊥) →
+    (before : List Entry) × (line : List ℕ) × (left : List (List ℕ)) × AllByRecursion FitsEntry before × (lines_of log ≡ map entry_text before ++ line ∷ left) × (IsLogLine line → ⊥)
+reading-stops log line left left' holds h goes none = (h.0, line, left', h.1, h.2 ∙ ap (λ l. map entry_text h.0 ++ l) goes, none)

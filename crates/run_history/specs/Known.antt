@@ -1,5 +1,5 @@
 -- What is known of a run from the entries of its log so far, and what one entry more tells.
-use Rattle.std.specs.Prelude.{ℕ, ◌+◌, ◌^◌, ◌≤◌, Bool, false, List, [], Option, Some, None, slice_index, slice_index_or, if◌then◌else◌}
+use Rattle.std.specs.Prelude.{ℕ, ◌+◌, ◌^◌, ◌≤◌, Bool, false, List, [], ◌∷◌, Option, Some, None, slice_index, slice_index_or, if◌then◌else◌}
 use Rattle.std.specs.BTreeMap.{insert_entry, is_at}
 use Rattle.std.specs.Map.{lookup}
 use Rattle.std.specs.Ordering.{nat_cmp}
@@ -84,6 +84,14 @@ with_entry accepts (Entry.Block thread node key cost free) k = with_standing thr
 with_entry accepts (Entry.End thread cost free) k = with_standing thread Ended k
 with_entry accepts (Entry.Edge from to count cost changes) k = k
 with_entry accepts (Entry.Stop line) k = k
+
+-- what is known after entries, one after another, and after those of a whole log
+abbrev pub known_from : List Bool → Known → List Entry → Known
+known_from accepts k [] = k
+known_from accepts k (entry ∷ entries) = known_from accepts (with_entry accepts entry k) entries
+
+abbrev pub known_after : List Bool → List Entry → Known
+known_after accepts entries = known_from accepts nothing_known entries
 
 -- ---- what an entry tells
 

@@ -1,11 +1,14 @@
 // The numbers of a whole log.
-ghost use Rattle.std.specs.Prelude.{◌≡◌, List, IfOk, Err};
+ghost use Rattle.std.specs.Prelude.{◌≡◌, ℕ, List, ◌∷◌, ◌++◌, IfOk, Err, map};
 ghost use Rattle.std.specs.List.{AllByRecursion};
-ghost use Rattle.schedule_log.specs.EntryRanges.{FitsEntry};
-ghost use Rattle.schedule_log.specs.EntryText.{log_text};
+ghost use Rattle.cap_text.specs.TextLines.{lines_of};
+ghost use Rattle.schedule_log.specs.EntryRanges.{FitsEntry, IsLogLine};
+ghost use Rattle.schedule_log.specs.EntryText.{entry_text, log_text};
 ghost use Rattle.schedule_log.specs.declared.entries.Entry.{Entry};
 ghost use Rattle.run_history.specs.Happenings.{happenings};
+ghost use Rattle.run_history.specs.Known.{known_after};
 ghost use Rattle.run_history.specs.Numbers.{IsNumbersOf};
+ghost use Rattle.run_history.specs.Sights.{Sight, sights};
 
 use crate::answering::{Answerer, Answering};
 use crate::happenings::Happening;
@@ -30,9 +33,16 @@ pub enum ReadError {
 
 /// What looks on while a log is read.
 pub trait Watch {
+    ghost use Rattle.std.specs.Prelude.{List, [], ◌∷◌, ◌++◌, OnOk};
+    ghost use Rattle.run_history.specs.Sights.{Sight};
+
+    // What holds of it once it has seen these, one after another.
+    ghost has_seen: { List Sight → Self → Type 0 };
+
     /// One entry more, and what it tells: once by itself, and once with the request that a segment's thread works for as the one that
     /// it serves, where that is known. A refusal ends the reading.
-    fn see(&mut self, entry: &Entry, told: Happening, named: Happening) -> Result<(), HistoryError>;
+    fn see(&mut self, entry: &Entry, told: Happening, named: Happening) -> Result<(), HistoryError>
+        ensures { (before : List Sight) → has_seen before self.old → OnOk result (has_seen (before ++ record { entry = entry.now; told = told; named = named } ∷ []) self.new) };
 }
 
 /// What a log tells: its numbers, and what is known at its end.
@@ -52,6 +62,8 @@ struct Course<'a> {
 
 /// The numbers of the run that has this log, with so many chunks, where these outputs are the answers. At the number of each site
 /// stands in `accepts` whether its call is `accept`. With a window the waits are those that ended in it. It keeps no entry: the log is read once, line by line, and `watch` sees each entry.
+///
+/// A log is refused with `Line` exactly where a line that is read is no entry's.
 pub fn numbers_of<W: Watch>(
     alloc: Global,
     log: &[u8],
@@ -63,6 +75,10 @@ pub fn numbers_of<W: Watch>(
 ) -> Result<Reading, ReadError>
     ensures numbers { (entries : List Entry) → AllByRecursion FitsEntry entries → log.now ≡ log_text entries → IfOk result (λ reading. IsNumbersOf answering.entry window chunks (happenings accepts.now entries) reading.numbers) }
     ensures line { result ≡ Err ReadError.Line → (entries : List Entry) → AllByRecursion FitsEntry entries → log.now ≡ log_text entries → ⊥ }
+    ensures log { IfOk result (λ _. (entries : List Entry) × AllByRecursion FitsEntry entries × (lines_of log.now ≡ map entry_text entries)) }
+    ensures refused { result ≡ Err ReadError.Line → (before : List Entry) × (line : List ℕ) × (left : List (List ℕ)) × AllByRecursion FitsEntry before × (lines_of log.now ≡ map entry_text before ++ line ∷ left) × (¬ IsLogLine line) }
+    ensures history { (entries : List Entry) → AllByRecursion FitsEntry entries → log.now ≡ log_text entries → IfOk result (λ reading. reading.history ≡ known_after accepts.now entries) }
+    ensures watched { (entries : List Entry) → AllByRecursion FitsEntry entries → log.now ≡ log_text entries → (before : List Sight) → W.has_seen before watch.old → IfOk result (λ _. W.has_seen (before ++ sights answering.entry accepts.now entries) watch.new) }
 {
     let history = History::new(alloc);
     let numbers = Numbers::new(alloc);
@@ -94,9 +110,10 @@ impl<'a> Course<'a> {
     ghost use Rattle.std.specs.Prelude.{◌≡◌, List, [], ◌∷◌, ◌++◌, OnOk, Err};
     ghost use Rattle.run_history.specs.declared.answering.Answering.{Answering};
     ghost use Rattle.run_history.specs.declared.happenings.Happening.{Happening};
-    ghost use Rattle.run_history.specs.Answering.{Keeps};
+    ghost use Rattle.run_history.specs.Answering.{Keeps, named_for};
     ghost use Rattle.run_history.specs.Known.{with_entry, happening};
     ghost use Rattle.run_history.specs.Numbers.{IsOneMore};
+    ghost use Rattle.run_history.specs.Sights.{Sight};
 
     /// One entry more.
     fn take<W: Watch>(
@@ -111,6 +128,7 @@ impl<'a> Course<'a> {
         ensures more { OnOk result (IsOneMore window chunks (happening accepts.now entry.now self.old.history) self.old.numbers self.new.numbers) }
         ensures kept { (answering : Answering) → (before : List Happening) → Keeps answering before self.old.answerer → OnOk result (Keeps answering (before ++ happening accepts.now entry.now self.old.history ∷ []) self.new.answerer) }
         ensures line { result ≡ Err ReadError.Line → ⊥ }
+        ensures watched { (before : List Sight) → W.has_seen before watch.old → OnOk result (W.has_seen (before ++ record { entry = entry.now; told = happening accepts.now entry.now self.old.history; named = named_for self.old.answerer (happening accepts.now entry.now self.old.history) } ∷ []) watch.new) }
     {
         match self.history.tell(entry, accepts) {
             Ok(told) => self.take_told(entry, told, window, chunks, watch),
@@ -131,6 +149,7 @@ impl<'a> Course<'a> {
         ensures more { OnOk result (IsOneMore window chunks told self.old.numbers self.new.numbers) }
         ensures kept { (answering : Answering) → (before : List Happening) → Keeps answering before self.old.answerer → OnOk result (Keeps answering (before ++ told ∷ []) self.new.answerer) }
         ensures line { result ≡ Err ReadError.Line → ⊥ }
+        ensures watched { (before : List Sight) → W.has_seen before watch.old → OnOk result (W.has_seen (before ++ record { entry = entry.now; told = told; named = named_for self.old.answerer told } ∷ []) watch.new) }
     {
         let named = self.answerer.named(told);
         match self.numbers.add(told, window, chunks) {
@@ -148,7 +167,9 @@ impl<'a> Course<'a> {
 
 /// Why there are no numbers, where what an entry tells is taken in no further.
 fn of_history(error: HistoryError) -> ReadError
-    ensures { result ≡ ReadError.Line → ⊥ }
+    ensures line { result ≡ ReadError.Line → ⊥ }
+    ensures count { error ≡ HistoryError.Count → result ≡ ReadError.Count }
+    ensures memory { error ≡ HistoryError.Memory → result ≡ ReadError.Memory }
 {
     match error {
         HistoryError::Count => ReadError::Count,

@@ -12,7 +12,8 @@ pub struct TickList {
 }
 
 impl TickList {
-    ghost use Rattle.std.specs.Prelude.{◌≡◌, ℕ, ◌<◌, ◌+◌, ◌-◌, ◌++◌, ◌∷◌, [], OnOk, get_or, length, set, slice_get};
+    ghost use Rattle.std.specs.Prelude.{◌≡◌, ℕ, ◌<◌, ◌+◌, ◌-◌, ◌++◌, ◌∷◌, [], IfOk, IsPermutation, IsSorted, OnOk, get_or, length, set, slice_get};
+    ghost use Rattle.std.specs.Ordering.{nat_cmp};
     ghost use Rattle.tick_lists.specs.Ticks.{ticks_in};
 
     /// An empty list. It takes no memory.
@@ -87,6 +88,36 @@ impl TickList {
     {
         while self.len() <= place {
             self.push(0)?;
+        }
+        Ok(())
+    }
+
+    /// A list of the same numbers.
+    pub fn copy(&self) -> Result<TickList, AllocError>
+        ensures { IfOk result (λ copy. ticks_in copy ≡ ticks_in self.now) }
+    {
+        let mut small = Vec::new(self.alloc);
+        small.extend_from_slice(self.small.as_slice())?;
+        let mut large = Vec::new(self.alloc);
+        large.extend_from_slice(self.large.as_slice())?;
+        Ok(TickList {
+            alloc: self.alloc,
+            small,
+            large,
+        })
+    }
+
+    /// Puts the numbers in order of size. It takes no memory while each is kept in 4 bytes. After a refusal nothing is said.
+    pub fn sort(&mut self) -> Result<(), AllocError>
+        ensures same { OnOk result (IsPermutation (ticks_in self.old) (ticks_in self.new)) }
+        ensures sorted { OnOk result (IsSorted nat_cmp (ticks_in self.new)) }
+        ensures count { OnOk result (length (ticks_in self.new) ≡ length (ticks_in self.old)) }
+    {
+        if self.large.is_empty() {
+            self.small.sort_unstable();
+        } else {
+            self.widen()?;
+            self.large.sort_unstable();
         }
         Ok(())
     }
