@@ -92,15 +92,15 @@ put_stmt-returns-in_ok-put_step-in-For t c =
     let s1 = c.last_size-in-For.new.sizes.items in
     let s2 = c.put_stmt-in-For.new.sizes.items in
     let inside = c.in_ok-inside-in-For.inside in
-    let init = map simple_tree c.in-For.init.items in
-    let condition = option_map expr_tree c.in-For.condition in
-    let step = option_map simple_tree c.in-For.step in
+    let init = map simple_tree c.in-For.parts.value.init.items in
+    let condition = option_map expr_tree c.in-For.parts.value.condition in
+    let step = option_map simple_tree c.in-For.parts.value.step in
     let body = stmt_tree c.in-For.body.value in
     let e1 : c1 ≡ c0 ++ simples_code init (length c0) context.t = rw (← c.deref-in-For.ensures.value) c.in_ok-put_simples-in-For.ensures in
     let put : Put c2 c3 s1 s2 body context.t inside.leave inside.skip =
     subst (λ (n : ℕ). Put c2 c3 s1 s2 body n inside.leave inside.skip) c.in_ok-inside-in-For.ensures.t
     (subst (λ (x : Stmt). Put c2 c3 s1 s2 (stmt_tree x) inside.t inside.leave inside.skip) c.deref-in-For-2.ensures c.in_ok-put_stmt-in-For.ensures) in
-    rw (c.in-For.is, stmt_tree-For c.in-For.init c.in-For.condition c.in-For.step c.in-For.body)
+    rw (c.in-For.is, stmt_tree-For c.in-For.parts c.in-For.body)
     (then_on_ok c.put-in-For.result
     (for_put c0 c1 c2 c3 c4 c5 s0 s1 s2 init condition step body context.t context.leave context.skip _ inside.skip inside.leave _ e1 c.in_ok-turn-in-For.ensures c.last_size-in-For.ensures c.in_ok-inside-in-For.ensures.skip c.in_ok-inside-in-For.ensures.leave c.in_ok-put_test-in-For.ensures put c.in_ok-put_step-in-For.ensures)
     c.put-in-For.ensures)
