@@ -8,17 +8,16 @@ use Rattle.source_items.proofs.Loops.{body-scoped}
 use Rattle.source_items.proofs.Stacks.{before-cut, scoped-at}
 use Rattle.source_items.proofs.items.+before.Goals as goal
 
-pub push_stmt-returns-in_ok-push-in-For-default-None-default-default-clause-fits :
-    goal.push_stmt-returns-in_ok-push-in-For-default-None-default-default-clause-fits
-push_stmt-returns-in_ok-push-in-For-default-None-default-default-clause-fits t c = λ context all scoped.
+pub push_stmt-returns-in_ok-push-in-None-clause-fits : goal.push_stmt-returns-in_ok-push-in-None-clause-fits
+push_stmt-returns-in_ok-push-in-None-clause-fits t c = λ context all scoped.
     let f = c.in-For-default-None-default-default in
-    let is = ap stmt_tree f.is ∙ stmt_tree-For f.init f.condition f.step f.body in
-    let ended = c.in_ok-push_end-in-For-default-None-default-default.ensures.fits context all (subst IsLoop (sym is) (tt {0})) scoped in
+    let is = ap stmt_tree f.is ∙ stmt_tree-For f.parts f.body in
+    let ended = c.in_ok-push_end-in-None.ensures.fits context all (subst IsLoop (sym is) (tt {0})) scoped in
     let body : IsScoped context (stmt_tree f.body.value) = body-scoped context _ (subst (IsScoped context) is scoped) in
-    let done = c.in_ok-push_stmt-in-For-default-None-default-default.ensures.fits context ended
-    (subst (λ (s : Stmt). IsScoped context (stmt_tree s)) (sym c.deref-in-For-default-None-default-default.ensures) body) in
-    let entered = c.in_ok-push-in-For-default-None-default-default.ensures.fits context done (tt {0}) scoped in
-    c.push_start-in-For-default-None-default-default.ensures.fits context entered scoped
+    let done = c.in_ok-push_stmt-in-None.ensures.fits context ended
+    (subst (λ (s : Stmt). IsScoped context (stmt_tree s)) (sym c.deref-in-None.ensures) body) in
+    let entered = c.in_ok-push-in-None.ensures.fits context done (tt {0}) scoped in
+    c.push_start-in-None.ensures.fits context entered scoped
 
 pub push_stmts-loop-left-preserved : goal.push_stmts-loop-left-preserved
 push_stmts-loop-left-preserved t c =

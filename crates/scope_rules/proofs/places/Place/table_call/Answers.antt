@@ -18,5 +18,5 @@ returns-in-Ok-clause-faults c =
     let fa = expr_faults names (raw_expr_tree c.args.argument.now) in
     let is : c.find-found.result ≡ find n.text names = c.find-found.ensures ∙ ap (λ t. find t names) c.deref.ensures.value in
     let e1 : o1 ≡ least_of old ft = c.check_table_name.ensures ∙ ap (λ x. least_of old (table_name_faults x n.at)) is in
-    least_of_then old o1 c.then_expr.new.least ft (fi ++ fa) e1
-    (least_of_then o1 c.expr.new.least c.then_expr.new.least fi fa c.in_ok-index.ensures.faults c.in-Ok.ensures.faults)
+    least_of_then old o1 c.then_boxed.new.least ft (fi ++ fa) e1
+    (least_of_then o1 c.expr.new.least c.then_boxed.new.least fi fa c.in_ok-index.ensures.faults c.in-Ok.ensures.faults)

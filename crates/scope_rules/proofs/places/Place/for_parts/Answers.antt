@@ -1,0 +1,18 @@
+use Rattle.std.proofs.Common.{map}
+use Rattle.std.specs.Prelude.{option_map}
+use Rattle.c_tree.specs.RawViews.{raw_expr_tree, raw_simple_tree}
+use Rattle.scope_rules.specs.Places.{spot_of}
+use Rattle.scope_rules.proofs.ForLoops.{parts_broken}
+use Rattle.scope_rules.proofs.places.Place.for_parts.Goals as goal
+
+pub returns-in_ok-parts-in-Ok-clause-faults : goal.returns-in_ok-parts-in-Ok-clause-faults
+returns-in_ok-parts-in-Ok-clause-faults c =
+    let raw = c.args.raw.now in
+    let place = rw c.deref.ensures.value at c.in_ok-init.ensures.place in
+    let broken = rw c.deref.ensures.value at c.in_ok-init.ensures.faults in
+    let same = rw c.in_ok-before.ensures.next at c.condition.ensures.place in
+    let tested = rw c.in_ok-before.ensures.next at c.condition.ensures.faults in
+    parts_broken (spot_of c.args.self.now) (spot_of c.simples.new.self) (spot_of c.condition.new.self)
+    (map raw_simple_tree raw.init.items) (option_map raw_expr_tree raw.condition) (option_map raw_simple_tree raw.step)
+    c.args.self.now.least c.simples.new.self.least c.condition.new.self.least c.then_step.new.self.least
+    place same broken tested c.in-Ok.ensures.faults
