@@ -1,7 +1,7 @@
 // The parts of a source thread's step: the values of expressions, and what a frame has still to do.
 //
 // In: an expression with the words of names and globals; statements to be done, and the stack on which they are to stand. Out:
-// the value or its first trap (`evaluate`); the stack with the statement's items on it (`push_stmt`, `push_body`, `push_turn`),
+// the value or its first trap (`evaluate`, or `composed` where `short_value`, which reads expressions of few parts, gave none); the stack with the statement's items on it (`push_stmt`, `push_body`, `push_turn`),
 // without what a jump passes over (`leave`, `skip`), or without its next item (`take_item`). Names have places of their own
 // among the words (`Rows`). An item is a part of a statement (`Item`), and a stack of them is the list of `c_mean`'s ToDo, the
 // next item on top (specs/Items.antt). The crate above, an interpreter of threads, cites these. The rules are those of ISO/IEC
@@ -18,4 +18,4 @@ pub use items::{
     step_of, take_item,
 };
 pub use rows::Rows;
-pub use values::evaluate;
+pub use values::{composed, evaluate, short_value};
