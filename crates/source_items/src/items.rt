@@ -48,6 +48,7 @@ fn push<'a>(items: &mut Vec<Item<'a>>, part: Part, stmt: &'a Stmt) -> Result<(),
 
 /// A statement is to be done next.
 #[cycle(before)]
+#[inline(always)]
 pub fn push_stmt<'a>(items: &mut Vec<Item<'a>>, stmt: &'a Stmt) -> Result<(), AllocError>
     ensures next { OnOk result (to_do items.new.items ≡ todo.before (stmt_tree stmt.now) (to_do items.old.items)) }
     ensures fits { (c : Context) → AreItems c items.old.items → IsScoped c (stmt_tree stmt.now) → OnOk result (AreItems c items.new.items) }
@@ -79,6 +80,7 @@ pub fn push_stmt<'a>(items: &mut Vec<Item<'a>>, stmt: &'a Stmt) -> Result<(), Al
 
 /// Statements are to be done next, one after another.
 #[cycle(before)]
+#[inline(never)]
 pub fn push_stmts<'a>(items: &mut Vec<Item<'a>>, stmts: &'a [Stmt]) -> Result<(), AllocError>
     ensures next { OnOk result (to_do items.new.items ≡ todo.all_before (stmt_trees stmts.now) (to_do items.old.items)) }
     ensures fits { (c : Context) (loop : Bool) (scope : List ℕ) → AreItems c items.old.items → AreStmtsScoped c loop scope (stmt_trees stmts.now) → OnOk result (AreItems c items.new.items) }
@@ -110,6 +112,7 @@ fn push_start<'a>(
 }
 
 /// The end of a loop's turn is to be done next: the step of a `for`, if it has one, and the jump back.
+#[inline(always)]
 fn push_end<'a>(items: &mut Vec<Item<'a>>, stmt: &'a Stmt) -> Result<(), AllocError>
     ensures next { OnOk result (to_do items.new.items ≡ todo.step_item (parts.step_of (stmt_tree stmt.now)) ++ todo.Back (loop_of (stmt_tree stmt.now)) ∷ to_do items.old.items) }
     ensures fits { (c : Context) → AreItems c items.old.items → IsLoop (stmt_tree stmt.now) → IsScoped c (stmt_tree stmt.now) → OnOk result (AreItems c items.new.items) }
@@ -122,6 +125,7 @@ fn push_end<'a>(items: &mut Vec<Item<'a>>, stmt: &'a Stmt) -> Result<(), AllocEr
 }
 
 /// The body of a loop is to be done next, and then the end of its turn.
+#[inline(always)]
 pub fn push_body<'a>(items: &mut Vec<Item<'a>>, stmt: &'a Stmt) -> Result<(), AllocError>
     ensures next { OnOk result (to_do items.new.items ≡ todo.body_before (loop_of (stmt_tree stmt.now)) (to_do items.old.items)) }
     ensures fits { (c : Context) → AreItems c items.old.items → IsLoop (stmt_tree stmt.now) → IsScoped c (stmt_tree stmt.now) → OnOk result (AreItems c items.new.items) }
@@ -202,7 +206,28 @@ pub fn skip(items: &mut Vec<Item>) -> Result<(), AllocError>
 }
 
 /// Takes the next item; marks of turns before it are passed over.
+#[inline(always)]
 pub fn take_item<'a>(items: &mut Vec<Item<'a>>) -> Option<Item<'a>>
+    ensures { (c : Context) → AreItems c items.old.items → MatchOption result
+        (entered (to_do items.old.items) ≡ [])
+        (λ item. (entered (to_do items.old.items) ≡ item_of item ∷ to_do items.new.items) × IsItem c item × AreItems c items.new.items) }
+{
+    match items.pop() {
+        None => None,
+        Some(item) => match item.part {
+            Part::Enter => take_entered(items),
+            Part::Whole => Some(item),
+            Part::Start(_) => Some(item),
+            Part::Test => Some(item),
+            Part::Step => Some(item),
+            Part::Back => Some(item),
+        },
+    }
+}
+
+/// Takes the next item after a mark of a turn. Few loops have marks, so this stays out of `take_item`'s callers.
+#[inline(never)]
+fn take_entered<'a>(items: &mut Vec<Item<'a>>) -> Option<Item<'a>>
     ensures { (c : Context) → AreItems c items.old.items → MatchOption result
         (entered (to_do items.old.items) ≡ [])
         (λ item. (entered (to_do items.old.items) ≡ item_of item ∷ to_do items.new.items) × IsItem c item × AreItems c items.new.items) }

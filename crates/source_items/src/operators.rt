@@ -33,6 +33,7 @@ pub(crate) fn unary(operator: UnaryOperator, a: u32) -> u32
 }
 
 /// The value of an operator between two operands.
+#[inline(always)]
 pub(crate) fn binary(operator: BinaryOperator, a: u32, b: u32) -> u32
     ensures { result ≡ binary_value operator a b }
 {

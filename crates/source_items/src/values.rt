@@ -1,6 +1,6 @@
 // The value of an expression.
 
-ghost use Rattle.std.specs.Prelude.{◌≡◌, Ok, MatchOption};
+ghost use Rattle.std.specs.Prelude.{◌≡◌, ℕ, List, Ok, IfSome, MatchOption};
 ghost use Rattle.c_tree.specs.Views.{expr_tree};
 ghost use Rattle.c_mean.specs.Chains.{joined_value, IsDecided, IsOpen};
 ghost use Rattle.c_mean.specs.Layout.{IsInRange};
@@ -24,6 +24,7 @@ fn decided(operator: Infix, left: u32) -> Option<u32>
 }
 
 /// The value of two operands.
+#[inline(always)]
 fn joined(operator: Infix, left: u32, right: u32) -> u32
     ensures { joined_value operator (Ok left) (Ok right) ≡ Ok result }
 {
@@ -49,6 +50,90 @@ pub fn evaluate(names: &Rows, globals: &Rows, expr: &Expr) -> Result<u32, TrapKi
     }
 }
 
+/// The value of an expression of at most two operators on numbers and names, or `None` for any other form. It makes no call,
+/// so that a caller that tries it before `composed` keeps the rows in registers.
+#[inline(always)]
+pub fn short_value(names: &Rows, globals: &Rows, expr: &Expr) -> Option<u32>
+    requires names { IsRows names.now }
+    requires globals { IsRows globals.now }
+    requires in_range { IsInRange names.now.widths.now globals.now.widths.now (expr_tree expr.now) }
+    ensures { IfSome result (λ word. value (rows_in names.now) (rows_in globals.now) (expr_tree expr.now) ≡ Ok word) }
+{
+    match expr {
+        Expr::Chain { first, rest } => {
+            if rest.len() != 1 {
+                return None;
+            }
+            let (operator, right) = &rest[0];
+            let left = pair(names, globals, inside(first))?;
+            let right = single(names, globals, right)?;
+            Some(joined(*operator, left, right))
+        }
+        _ => single(names, globals, expr),
+    }
+}
+
+/// The value of an operator between two numbers or names, or of one of them; `None` for any other form.
+#[inline(always)]
+fn pair(names: &Rows, globals: &Rows, expr: &Expr) -> Option<u32>
+    requires names { IsRows names.now }
+    requires globals { IsRows globals.now }
+    requires in_range { IsInRange names.now.widths.now globals.now.widths.now (expr_tree expr.now) }
+    ensures { IfSome result (λ word. value (rows_in names.now) (rows_in globals.now) (expr_tree expr.now) ≡ Ok word) }
+{
+    match expr {
+        Expr::Chain { first, rest } => {
+            if rest.len() != 1 {
+                return None;
+            }
+            let (operator, right) = &rest[0];
+            let left = single(names, globals, first)?;
+            let right = single(names, globals, right)?;
+            Some(joined(*operator, left, right))
+        }
+        _ => single(names, globals, expr),
+    }
+}
+
+/// `short_value`, as a call.
+#[inline(never)]
+fn short_chain(names: &Rows, globals: &Rows, expr: &Expr) -> Option<u32>
+    requires names { IsRows names.now }
+    requires globals { IsRows globals.now }
+    requires in_range { IsInRange names.now.widths.now globals.now.widths.now (expr_tree expr.now) }
+    ensures { IfSome result (λ word. value (rows_in names.now) (rows_in globals.now) (expr_tree expr.now) ≡ Ok word) }
+{
+    short_value(names, globals, expr)
+}
+
+/// The expression within one pair of parentheses, or the expression itself where there are none.
+#[inline(always)]
+fn inside(expr: &Expr) -> &Expr
+    ensures same { (names globals : List (List ℕ)) → value names globals (expr_tree result.now) ≡ value names globals (expr_tree expr.now) }
+    ensures in_range { (sizes widths : List ℕ) → IsInRange sizes widths (expr_tree expr.now) → IsInRange sizes widths (expr_tree result.now) }
+{
+    match expr {
+        Expr::Parenthesized(inner) => inner,
+        _ => expr,
+    }
+}
+
+/// The value of a number or a name, or `None` for any other form.
+#[inline(always)]
+fn single(names: &Rows, globals: &Rows, expr: &Expr) -> Option<u32>
+    requires names { IsRows names.now }
+    requires globals { IsRows globals.now }
+    requires in_range { IsInRange names.now.widths.now globals.now.widths.now (expr_tree expr.now) }
+    ensures { IfSome result (λ word. value (rows_in names.now) (rows_in globals.now) (expr_tree expr.now) ≡ Ok word) }
+{
+    match expr {
+        Expr::Number(number) => Some(*number),
+        Expr::Local(x) => Some(word_of(names, *x)),
+        Expr::Global(g) => Some(word_of(globals, *g)),
+        _ => None,
+    }
+}
+
 /// The value of an expression, or `None` if an index is out of range. A number or a name takes no call.
 #[cycle(operand)]
 #[inline(always)]
@@ -62,6 +147,10 @@ fn operand(names: &Rows, globals: &Rows, expr: &Expr) -> Option<u32>
         Expr::Number(number) => Some(*number),
         Expr::Local(x) => Some(word_of(names, *x)),
         Expr::Global(g) => Some(word_of(globals, *g)),
+        Expr::Chain { .. } => match short_chain(names, globals, expr) {
+            Some(word) => Some(word),
+            None => composed(names, globals, expr),
+        },
         _ => composed(names, globals, expr),
     }
 }
@@ -69,7 +158,7 @@ fn operand(names: &Rows, globals: &Rows, expr: &Expr) -> Option<u32>
 /// The value of an expression of any form, or `None` if an index is out of range.
 #[cycle(operand)]
 #[inline(never)]
-fn composed(names: &Rows, globals: &Rows, expr: &Expr) -> Option<u32>
+pub fn composed(names: &Rows, globals: &Rows, expr: &Expr) -> Option<u32>
     requires names { IsRows names.now }
     requires globals { IsRows globals.now }
     requires in_range { IsInRange names.now.widths.now globals.now.widths.now (expr_tree expr.now) }

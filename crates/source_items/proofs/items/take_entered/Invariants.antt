@@ -1,7 +1,7 @@
 use Rattle.std.proofs.Common.{◌≡◌, vec_len}
 use Rattle.c_tree.specs.WellScoped.{Context}
 use Rattle.source_items.specs.Items.{AreItems, entered, to_do}
-use Rattle.source_items.proofs.items.take_item.Given as goal
+use Rattle.source_items.proofs.items.take_entered.Given as goal
 
 abbrev pub invariant-loop-item : goal.invariant-loop-item
 invariant-loop-item l = record {
