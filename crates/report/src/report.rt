@@ -366,10 +366,13 @@ fn put_numbers(
 /// Appends between which clocks the run is told, if not all are.
 fn put_window(text: &mut Text, window: Option<Window>) {
     if let Some(Window { from, to }) = window {
-        text.form(
-            "window: the requests that arrived from $ to $, and the waits, choices and segments that ended then\n",
-            &[from, to],
-        )
+        text.form("window: the requests that arrived from $ ", &[from]);
+        if to < u64::MAX {
+            text.form("to $", &[to])
+        } else {
+            text.words("on")
+        }
+        text.words(", and the waits, choices and segments that ended then\n")
     }
 }
 
