@@ -9,7 +9,7 @@ import re
 NUMBER = r"\d+"
 SPREAD = ("least", "median", "90th", "99th", "greatest")
 WAITS = ("count", "total", "median", "99th", "greatest")
-FOREIGN = "this log is not of this source and trace: what follows joins what isn't of one run"
+FOREIGN = "this log is not of this source and trace: the numbers below mix two runs"
 PAIRINGS = {
     "answers: the N-th output is that to the N-th request": "first",
     "answers: an output is that to the first request of its value that has none": "value",

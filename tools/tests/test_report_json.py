@@ -14,7 +14,7 @@ REPORTS = sorted([*TOP.glob("examples/*/report*"), TOP / "crates/report/stdout"]
 # The lines that no stored report has, by docs/REPORT.md.
 RARE = """circle: thread 1 → resource 2 → thread 2 → resource 1 → thread 1
 circle: thread 7 → resource 3 → thread 7
-this log is not of this source and trace: what follows joins what isn't of one run
+this log is not of this source and trace: the numbers below mix two runs
 answers: the N-th output is that to the N-th request
 window: the requests that arrived from 5 to 400, and the waits, choices and segments that ended then
 requests: 70 came, 3 dropped, 69 taken, 0 answered
@@ -43,7 +43,7 @@ stopped: thread 2 in get: index -4 of 9 members, at server.c:5:10 a or server.c:
 stop fuel 2 10000000 7
 """
 STOPS = {
-    "stopped: thread 2 behind its last return: as many instructions are done as --fuel says\nstop fuel 2 1 2\n": "fuel",
+    "stopped: thread 2 behind its last return: the instructions that `--fuel` allows are spent\nstop fuel 2 1 2\n": "fuel",
     "stopped: thread 0 in main: resource 1 isn't there; `--caps 1=N` gives it N units, at server.c:2:3 take(n, 1) in main: take(1, 1)\nstop trap 0 resource 5 1023\n": "trap",
     "stopped: thread 0 in main: a resource that isn't there, or an amount out of range, at server.c:2:3 take(1, 9) in main\nstop trap 0 resource 5 1023\n": "trap",
     "stopped: thread 0 in main: an amount out of range, as 0 of 4 units of resource 2 are in use, at server.c:2:3 give(r, 1) in main: give(2, 1)\nstop trap 0 resource 5 1023\n": "trap",

@@ -328,8 +328,7 @@ fn put_pairing(text: &mut Text, answering: Answering) {
 }
 
 /// The first line on a log of another source or trace.
-const FOREIGN: &str =
-    "this log is not of this source and trace: what follows joins what isn't of one run\n";
+const FOREIGN: &str = "this log is not of this source and trace: the numbers below mix two runs\n";
 
 /// Appends what was read off a log. The answer is how many threads are left.
 fn put_numbers(
