@@ -74,6 +74,17 @@ class Given:
         except OSError:
             return None
 
+    def whole_trace(self):
+        """The lines of the trace as bytes, from the first on; none where they can't be read again."""
+        if self.run.trace:
+            tail = self.run.trace.tail
+            yield from tail.text.removesuffix(b"\n").split(b"\n") if tail.text and not tail.lines_before else []
+        elif self.run.trace_start is not None:
+            with open("/proc/self/fd/0", "rb") as it:
+                it.seek(self.run.trace_start)
+                while line := it.readline(MOST_LINE):
+                    yield line.rstrip(b"\n")
+
     def report_call(self):
         """How the report on the same run is called: with the trace, where it is a file."""
         folder = os.path.dirname(self.run.called)

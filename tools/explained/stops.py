@@ -36,10 +36,18 @@ def why(given, line):
 
 def where(given, name):
     """Which call shows more."""
-    if given.is_report or given.command not in ("serve", "run") or name == "trace":
+    if given.command not in ("serve", "run") or name == "trace":
         return []
+    if given.is_report:
+        return more_by_why(given)
     shows = "who waits where" if name == "idle" else "the function, the line and the numbers" if name == "trap" else "where each thread was"
     return [f"{given.report_call()} shows {shows}"]
+
+
+def more_by_why(given):
+    """What `--why` adds to a report on a run whose log doesn't tell when the gate was closed."""
+    is_told = "--caps" not in given.options or given.options.get("--rule") == "stride" or {"--why", "--log"} & set(given.of_report)
+    return [] if is_told else ["`--why` before the command also shows when the gate was closed, which keeps requests in the queue"]
 
 
 def idle(stop):

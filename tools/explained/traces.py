@@ -10,12 +10,24 @@ FORMS = "a line is `arrive TIME VALUE` or `data TIME CHANNEL VALUE` with single 
 
 
 def refused(given, number):
-    """The notes on a trace that is refused at the line of this number; 0 where that isn't known."""
+    """The notes on a trace that is refused at the line of this number; 0 where that isn't known, as
+    standard output can't be seen: it is then the first line with a cause."""
+    number = number or first_refused(given.whole_trace())
     found = given.trace_lines(number) if number else None
     if not found:
         return [f"line {number:,} of the trace is refused: {FORMS}" if number else f"a line of the trace is refused; the last line of the log has its number: {FORMS}"]
     line, before = found
     return [f"line {number:,} of the trace: {quoted(line.decode(errors='backslashreplace'))}", cause(line, before, number) or FORMS]
+
+
+def first_refused(lines):
+    """The number of the first line that is refused, from 1, or 0."""
+    before = b""
+    for number, line in enumerate(lines, 1):
+        if cause(line, before, number):
+            return number
+        before = line
+    return 0
 
 
 def cause(line, before, number):

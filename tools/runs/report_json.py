@@ -9,7 +9,7 @@ import re
 NUMBER = r"\d+"
 SPREAD = ("least", "median", "90th", "99th", "greatest")
 WAITS = ("count", "total", "median", "99th", "greatest")
-FOREIGN = "this log is not of this source and trace: what follows joins what isn't of one run"
+FOREIGN = "this log is not of this source and trace: the numbers below mix two runs"
 PAIRINGS = {
     "answers: the N-th output is that to the N-th request": "first",
     "answers: an output is that to the first request of its value that has none": "value",
@@ -53,11 +53,13 @@ LATENCY = form("latency to the {which} answer: {spread} (arrived {arrived}, thre
 OUTPUTS = form("outputs by threads that served no request: {count}{threads}[, the others by {more} more thread[s]]", threads=r"(?:, \d+ by thread \d+)*")
 BY_THREAD = re.compile(r"(-?\d+) by thread (\d+)")
 REQUEST = form(
-    "request {number}{slowest}: {rest}", slowest="(?:, the slowest)?", rest=r"no accept took it|arrived \d+, taken by thread \d+, and its parts until when"
+    "request {number}{slowest}: {rest}",
+    slowest="(?:, the slowest)?", rest=r"no accept took it|\d+ requests? came in all|arrived \d+, taken by thread \d+, and its parts until when",
 )
 SHORTER = form("  {count} shorter part[s]: {ticks}")
 PART = form("  {what}: {ticks}, {until}", what=".*")
-WINDOW = form("window: the requests that arrived from {from} to {to}, and the waits, choices and segments that ended then")
+WINDOW = form("window: the requests that arrived from {from} {until}, and the waits, choices and segments that ended then", until=r"to \d+|on")
+OTHERS = re.compile(r"until thread (\d+) answers")
 PLACES = "waits by place: count, total, median, 99th, greatest"
 QUEUE = "queue, from arrival to accept"
 WAIT = form("  {what}: {spread} ([request {request}, ]thread {thread}, until {until})", what=".*", spread=r"\d+(?:, \d+){4}")
@@ -93,7 +95,7 @@ class Report:
             "other": [],
         }
         self.lines = [
-            (REQUESTS, self.requests), (WINDOW, self.numbers("window")), (LATENCY, self.latency), (OUTPUTS, self.outputs), (REQUEST, self.request), (CHUNKS, self.numbers("chunks")),
+            (REQUESTS, self.requests), (WINDOW, self.window), (LATENCY, self.latency), (OUTPUTS, self.outputs), (REQUEST, self.request), (CHUNKS, self.numbers("chunks")),
             (CHOICES, self.numbers("choices")), (GATE, self.gate), (NEVER_RAN, self.count("never_ran")), (MORE_LEFT, self.count("more_left")), (LEFT, self.left),
             (RESOURCE, self.resource), (STOPPED, self.stopped), (re.compile("circle: (.*)"), self.circle), (re.compile("stop (.*)"), self.stop),
         ]
@@ -119,6 +121,10 @@ class Report:
     def count(self, name):
         return lambda found: self.value.update({name: int(found["count"])})
 
+    def window(self, found):
+        end = found["until"].removeprefix("to ")
+        self.value["window"] = {"from": int(found["from"]), "to": int(end) if end.isdecimal() else None}
+
     def requests(self, found):
         self.value["requests"] = given(found)
 
@@ -135,12 +141,17 @@ class Report:
         if taken := re.match(r"arrived (\d+), taken by thread (\d+)", found["rest"]):
             self.value["request"] |= {"arrived": int(taken[1]), "thread": int(taken[2]), "parts": [], "shorter": None}
             self.below = [(SHORTER, self.shorter), (PART, self.part)]
+        elif came := re.match(r"(\d+) requests? came", found["rest"]):
+            self.value["request"]["came"] = int(came[1])
 
     def part(self, found):
-        kind, _, place = found["what"].partition(" at ")
-        kind = "others" if kind == "until another thread answers" else kind
-        part = {"kind": kind, "ticks": int(found["ticks"]), "until": int(found["until"])}
-        self.value["request"]["parts"].append(part | ({"place": place_of(place)} if place else {}))
+        part = {"ticks": int(found["ticks"]), "until": int(found["until"])}
+        if other := OTHERS.fullmatch(found["what"]):
+            part = {"kind": "others", "thread": int(other[1])} | part
+        else:
+            kind, _, place = found["what"].partition(" at ")
+            part = {"kind": kind} | part | ({"place": place_of(place)} if place else {})
+        self.value["request"]["parts"].append(part)
 
     def shorter(self, found):
         self.value["request"]["shorter"] = given(found)

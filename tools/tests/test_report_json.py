@@ -14,7 +14,7 @@ REPORTS = sorted([*TOP.glob("examples/*/report*"), TOP / "crates/report/stdout"]
 # The lines that no stored report has, by docs/REPORT.md.
 RARE = """circle: thread 1 → resource 2 → thread 2 → resource 1 → thread 1
 circle: thread 7 → resource 3 → thread 7
-this log is not of this source and trace: what follows joins what isn't of one run
+this log is not of this source and trace: the numbers below mix two runs
 answers: the N-th output is that to the N-th request
 window: the requests that arrived from 5 to 400, and the waits, choices and segments that ended then
 requests: 70 came, 3 dropped, 69 taken, 0 answered
@@ -24,7 +24,7 @@ request 5, the slowest: arrived 10, taken by thread 1, and its parts until when
   runs: 10, 60
   waits at a b/x:1.c:16:5 take in worker: 500, 560
   1 shorter part: 12
-  until another thread answers: 40, 600
+  until thread 3 answers: 40, 600
 waits by place: count, total, median, 99th, greatest
   queue, from arrival to accept: 3, 171, 59, 72, 72 (request 3, thread 3, until 192)
   site 8: 2, 23, 0, 23, 23 (thread 2, until 202)
@@ -43,9 +43,10 @@ stopped: thread 2 in get: index -4 of 9 members, at server.c:5:10 a or server.c:
 stop fuel 2 10000000 7
 """
 STOPS = {
-    "stopped: thread 2 behind its last return: as many instructions are done as --fuel says\nstop fuel 2 1 2\n": "fuel",
+    "stopped: thread 2 behind its last return: the instructions that `--fuel` allows are spent\nstop fuel 2 1 2\n": "fuel",
     "stopped: thread 0 in main: resource 1 isn't there; `--caps 1=N` gives it N units, at server.c:2:3 take(n, 1) in main: take(1, 1)\nstop trap 0 resource 5 1023\n": "trap",
     "stopped: thread 0 in main: a resource that isn't there, or an amount out of range, at server.c:2:3 take(1, 9) in main\nstop trap 0 resource 5 1023\n": "trap",
+    "stopped: thread 0 in main: an amount out of range, as 0 of 4 units of resource 2 are in use, at server.c:2:3 give(r, 1) in main: give(2, 1)\nstop trap 0 resource 5 1023\n": "trap",
     "stopped: thread 0 in function 3: no free chunk is large enough, at site 4\nstop nochunk 0 5 0\n": "nochunk",
     "stopped: thread 9\nstop threads 9 5 1\n": "threads",
     "stop trace 7\n": "trace",
@@ -86,7 +87,8 @@ def first_lines(value):
         yield report_json.FOREIGN
     yield from [line for line, pairing in report_json.PAIRINGS.items() if pairing == value["answers"]]
     if it := value["window"]:
-        yield "window: the requests that arrived from {from} to {to}, and the waits, choices and segments that ended then".format(**it)
+        end = "on" if it["to"] is None else f"to {it['to']}"
+        yield f"window: the requests that arrived from {it['from']} {end}, and the waits, choices and segments that ended then"
     yield "requests: {came} came, {dropped} dropped, {taken} taken, {answered} answered".format(**value["requests"])
     for which, it in value["latency"].items():
         if it:
@@ -100,14 +102,17 @@ def request_lines(value):
     it = value["request"]
     if it:
         head = f"request {it['number']}" + ", the slowest" * it["is_slowest"]
-        yield f"{head}: arrived {it['arrived']}, taken by thread {it['thread']}, and its parts until when" if "parts" in it else f"{head}: no accept took it"
+        if "parts" in it:
+            yield f"{head}: arrived {it['arrived']}, taken by thread {it['thread']}, and its parts until when"
+        else:
+            yield f"{head}: {counted(it['came'], 'request')} came in all" if "came" in it else f"{head}: no accept took it"
         parts = it.get("parts", ())
         for part in [each for each in parts if each["kind"] != "others"]:
             yield f"  {part['kind']}" + (f" at {place(part['place'])}" if "place" in part else "") + f": {part['ticks']}, {part['until']}"
         if it.get("shorter"):
             yield f"  {counted(it['shorter']['count'], 'shorter part')}: {it['shorter']['ticks']}"
         for part in [each for each in parts if each["kind"] == "others"]:
-            yield "  until another thread answers: {ticks}, {until}".format(**part)
+            yield "  until thread {thread} answers: {ticks}, {until}".format(**part)
 
 
 def wait_lines(value):
@@ -160,6 +165,8 @@ def texts():
     for stop, kind in STOPS.items():
         yield f"stop {kind}", REST + stop
     yield "no accept", REST.replace("waits by", "request 9: no accept took it\nwaits by") + "stop idle\n"
+    yield "no request", REST.replace("waits by", "request 99: 70 requests came in all\nwaits by") + "stop idle\n"
+    yield "a window to the end", "window: the requests that arrived from 5 on, and the waits, choices and segments that ended then\n" + REST + "stop idle\n"
 
 
 def whole(text):

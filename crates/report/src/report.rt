@@ -335,8 +335,7 @@ fn put_pairing(text: &mut Text, answering: Answering) {
 }
 
 /// The first line on a log of another source or trace.
-const FOREIGN: &str =
-    "this log is not of this source and trace: what follows joins what isn't of one run\n";
+const FOREIGN: &str = "this log is not of this source and trace: the numbers below mix two runs\n";
 
 /// Appends what was read off a log. The answer is how many threads are left.
 fn put_numbers(
@@ -373,10 +372,13 @@ fn put_numbers(
 /// Appends between which clocks the run is told, if not all are.
 fn put_window(text: &mut Text, window: Option<Window>) {
     if let Some(Window { from, to }) = window {
-        text.form(
-            "window: the requests that arrived from $ to $, and the waits, choices and segments that ended then\n",
-            &[from, to],
-        )
+        text.form("window: the requests that arrived from $ ", &[from]);
+        if to < u64::MAX {
+            text.form("to $", &[to])
+        } else {
+            text.words("on")
+        }
+        text.words(", and the waits, choices and segments that ended then\n")
     }
 }
 

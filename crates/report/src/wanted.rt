@@ -41,7 +41,7 @@ enum Next {
 }
 
 impl Wanted {
-    /// What these words ask for. `Words` comes where a number is none.
+    /// What these words ask for. `Words` comes where a number is none, or a window ends before it begins.
     pub fn read(alloc: Global, words: Vec<String>) -> Result<Wanted, Failure> {
         let mut wanted = Wanted {
             timeline: None,
@@ -104,7 +104,19 @@ impl Wanted {
                 }
             };
         }
-        Ok(())
+        if self.has_window() {
+            Ok(())
+        } else {
+            Err(Failure::Words)
+        }
+    }
+
+    /// Whether a clock lies between those that are given.
+    fn has_window(&self) -> bool {
+        match (self.from, self.to) {
+            (Some(from), Some(to)) => from <= to,
+            _ => true,
+        }
     }
 
     /// Takes a word that may be one of the report's options; the first that is none begins the words of the run.

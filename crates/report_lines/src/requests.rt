@@ -5,7 +5,7 @@ use crate::scopes::Scope;
 use crate::told::{LinesError, told_by};
 use cap_text::Lines;
 use report_text::Text;
-use run_history::{History, Numbers, Part, Parts, queued_of};
+use run_history::{Happening, History, Numbers, Part, Parts, queued_of};
 use source_places::Places;
 use std::alloc::{AllocError, Global};
 
@@ -55,7 +55,7 @@ pub fn put_parts(
         ""
     });
     let Some(queued) = queued_of(scope.numbers, scope.times, asked.request as usize) else {
-        text.words(": no accept took it\n");
+        put_untaken(text, scope.numbers.arrivals.len() as u64, asked.request);
         return Ok(());
     };
     text.form(
@@ -64,34 +64,61 @@ pub fn put_parts(
     );
     text.form("  queue: $, $\n", &[ticks_of(queued), queued.taken]);
     let mut parts = Parts::new(alloc, asked.request);
-    let read = read_parts(alloc, &mut parts, log, accepts, asked);
-    put_listed(alloc, text, places, parts.parts.as_slice(), asked);
-    put_rest(
-        text,
-        end_of(parts.parts.as_slice(), queued.taken),
-        asked.until,
-    );
+    let read = match read_parts(alloc, &mut parts, log, accepts, asked) {
+        Ok(other) => {
+            let end = end_of(parts.parts.as_slice(), queued.taken);
+            put_listed(alloc, text, places, parts.parts.as_slice(), asked);
+            put_rest(text, end, asked.until, other);
+            Ok(())
+        }
+        Err(error) => Err(error),
+    };
     drop(parts);
     read
 }
 
-/// Reads a log for the parts of a request, up to its last answer, where it has one.
+/// Appends why a request of that number, from 0, has no parts, where so many came.
+fn put_untaken(text: &mut Text, came: u64, request: u64) {
+    if request < came {
+        text.words(": no accept took it\n")
+    } else {
+        text.words(": ");
+        text.counted(came, "request came", "requests came");
+        text.words(" in all\n")
+    }
+}
+
+/// Reads a log for the parts of a request, up to its last answer, where it has one. The answer is the thread that put that, if it is
+/// another than the one that took the request.
 fn read_parts(
     alloc: Global,
     parts: &mut Parts,
     log: &[u8],
     accepts: &[bool],
     asked: Asked,
-) -> Result<(), LinesError> {
+) -> Result<Option<u32>, LinesError> {
     let mut history = History::new(alloc);
     for line in Lines::new(log) {
         let told = told_by(&mut history, line, accepts)?;
         parts.add(told)?;
         if is_over(parts.parts.as_slice(), asked.until) {
-            return Ok(());
+            return Ok(None);
+        }
+        if let Some(thread) = answering_in(told, asked.until) {
+            return Ok(Some(thread));
         }
     }
-    Ok(())
+    Ok(None)
+}
+
+/// The thread whose segment ends at the clock of the last answer, if it does.
+fn answering_in(told: Happening, until: Option<u64>) -> Option<u32> {
+    match (told, until) {
+        (Happening::Ran { segment, .. }, Some(clock)) if segment.ended == clock => {
+            Some(segment.thread)
+        }
+        _ => None,
+    }
 }
 
 /// The clock at which the last of these parts ends, of a request that was taken at that clock.
@@ -104,11 +131,14 @@ fn end_of(parts: &[Part], taken: u64) -> u64 {
 }
 
 /// Appends the time from then to the last answer, where another thread put it.
-fn put_rest(text: &mut Text, end: u64, until: Option<u64>) {
-    if let Some(clock) = until {
+fn put_rest(text: &mut Text, end: u64, until: Option<u64>, other: Option<u32>) {
+    if let (Some(clock), Some(thread)) = (until, other) {
         if end < clock {
             let ticks = clock.saturating_sub(end);
-            text.form("  until another thread answers: $, $\n", &[ticks, clock])
+            text.form(
+                "  until thread $ answers: $, $\n",
+                &[u64::from(thread), ticks, clock],
+            )
         }
     }
 }

@@ -59,7 +59,7 @@ pub fn put_drawing(alloc: Global, text: &mut Text, names: &[String], edges: &[Gr
 
 /// What the labels mean, and the end of the picture.
 const MEANING: &str =
-    "<text x=\"$\" y=\"$\">from - to: n x c: n segments went so, with c instructions on average; then the average change of what they hold, where there is one</text>\n</svg>\n";
+    "<text x=\"$\" y=\"$\">from - to: n x c: n segments went from one node to the other, with c instructions on average; then the average change of what they hold, if any</text>\n</svg>\n";
 
 /// The tip of the arrows.
 const TIP: &str =

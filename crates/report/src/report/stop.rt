@@ -157,7 +157,7 @@ fn put_reason(text: &mut Text, world: &World, stop: Stop, standing: Standing) {
         Stop::Trap(TrapKind::Resource) => put_resource(text, world, standing),
         Stop::Trap(TrapKind::Channel) => text.words(": a channel outside 0 to 63"),
         Stop::NoChunk => text.words(": no free chunk is large enough"),
-        Stop::Fuel => text.words(": as many instructions are done as --fuel says"),
+        Stop::Fuel => text.words(": the instructions that `--fuel` allows are spent"),
         Stop::Threads => text.words(": 65,535 threads live"),
     }
 }
@@ -188,7 +188,14 @@ fn put_unusable(text: &mut Text, world: &World, resource: u32) {
             &[number, number],
         )
     } else {
-        text.words(": an amount out of range")
+        text.form(
+            ": an amount out of range, as $ of $ units of resource $ are in use",
+            &[
+                u64::from(world.used(resource)),
+                u64::from(world.cap(resource)),
+                u64::from(resource),
+            ],
+        )
     }
 }
 
