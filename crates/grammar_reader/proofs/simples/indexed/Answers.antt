@@ -1,10 +1,12 @@
-use Rattle.std.proofs.Common.{ℕ, List, [], ◌∷◌}
+use Rattle.std.proofs.Common.{ℕ, List, [], ◌∷◌, subst, sym}
 use Rattle.std.proofs.lemmas.Result.{IfOk-at_ok, IfErr-at_err}
 use Rattle.c_lex.specs.declared.tokens.Token.{Token}
 use Rattle.c_tree.specs.declared.raw_expressions.RawExpr.{RawExpr}
+use Rattle.c_tree.specs.RawTrees.{RawSetElement, RawTableCalling}
 use Rattle.c_tree.specs.RawViews.{name_tree, raw_expr_tree}
 use Rattle.c_grammar.specs.Machine.{Expr, Parenthesized}
 use Rattle.grammar_reader.specs.Steps.{Refused, ReadsExpr, ReadsParenthesized}
+use Rattle.grammar_reader.specs.StmtSteps.{ReadsIndexed}
 use Rattle.grammar_reader.proofs.Paths.{exit}
 use Rattle.grammar_reader.proofs.SignTests.{is_sign, other_sign}
 use Rattle.grammar_reader.proofs.SimpleRules.{indexed_call, indexed_call_refused, indexed_no_assign, indexed_set_refused, indexed_set}
@@ -19,13 +21,22 @@ ReadsValue source end depth before after e = ReadsExpr source end depth before (
 pub returns-in_err-called-clause-refused : goal.returns-in_err-called-clause-refused
 returns-in_err-called-clause-refused c =
     let refused = IfErr-at_err (Refused c.args.text.end c.args.depth (Parenthesized ∷ []) c.args.cursor.now.tokens.now) c.in_err-called.ensures.refused c.parenthesized.ensures.refused in
-    exit _ _ c.from_residual.ensures.1 (indexed_call_refused c.args.text.end c.args.depth c.args.cursor.now.tokens.now c.in_err-called.field-0.0 (is_sign c.sign.ensures c.if-eq.ensures) refused)
+    exit _ _ c.from_residual-in_err-called.ensures.1 (indexed_call_refused c.args.text.end c.args.depth c.args.cursor.now.tokens.now c.in_err-called.field-0.0 (is_sign c.sign.ensures c.if-eq.ensures) refused)
 
 pub returns-then-eq-clause-read : goal.returns-then-eq-clause-read
 returns-then-eq-clause-read c =
-    let read = IfOk-at_ok (ReadsArgument c.args.text.bytes.now c.args.text.end c.args.depth c.args.cursor.now.tokens.now c.parenthesized.new.cursor.tokens.now) c.in_ok-called.ensures.had c.parenthesized.ensures.read in
+    let source = c.args.text.bytes.now in
+    let end = c.args.text.end in
+    let depth = c.args.depth in
+    let name = name_tree c.args.name in
+    let index = raw_expr_tree c.args.index in
+    let before = c.args.cursor.now.tokens.now in
+    let after = c.parenthesized.new.cursor.tokens.now in
+    let read = IfOk-at_ok (ReadsArgument source end depth before after) c.in_ok-called.ensures.had c.parenthesized.ensures.read in
+    let called = indexed_call source end depth name index (raw_expr_tree c.in_ok-called.argument) before after read in
+    let boxed = subst (λ (e : RawExpr). ReadsIndexed source end depth name index before (RawTableCalling name (raw_expr_tree e) (raw_expr_tree c.in_ok-called.argument)) after) (sym c.in_ok-index.ensures.ok) called in
     rw c.in_ok-called.ensures.held
-    (indexed_call c.args.text.bytes.now c.args.text.end c.args.depth (name_tree c.args.name) (raw_expr_tree c.args.index) (raw_expr_tree c.in_ok-called.argument) c.args.cursor.now.tokens.now c.parenthesized.new.cursor.tokens.now read)
+    (subst (λ (e : RawExpr). ReadsIndexed source end depth name index before (RawTableCalling name (raw_expr_tree c.in_ok-index.index.value) (raw_expr_tree e)) after) (sym c.in_ok-argument.ensures.ok) boxed)
 
 pub returns-in_err-target-clause-refused : goal.returns-in_err-target-clause-refused
 returns-in_err-target-clause-refused c =
@@ -40,6 +51,16 @@ returns-in_err-target-2-clause-refused c =
 
 pub returns-clause-read : goal.returns-clause-read
 returns-clause-read c =
-    let read = IfOk-at_ok (ReadsValue c.args.text.bytes.now c.args.text.end c.args.depth c.before_sign.new.cursor.tokens.now c.expression.new.cursor.tokens.now) c.in_ok-target-2.ensures.had c.expression.ensures.read in
+    let source = c.args.text.bytes.now in
+    let end = c.args.text.end in
+    let depth = c.args.depth in
+    let name = name_tree c.args.name in
+    let index = raw_expr_tree c.args.index in
+    let value = raw_expr_tree c.in_ok-target-2.value in
+    let before = c.args.cursor.now.tokens.now in
+    let inner = c.before_sign.new.cursor.tokens.now in
+    let after = c.expression.new.cursor.tokens.now in
+    let read = IfOk-at_ok (ReadsValue source end depth inner after) c.in_ok-target-2.ensures.had c.expression.ensures.read in
+    let set = indexed_set source end depth name index value before inner after c.requires c.in_ok-target.ensures.taken read in
     rw (c.in_ok-target-2.ensures.held, c.in_ok-target.ensures.held)
-    (indexed_set c.args.text.bytes.now c.args.text.end c.args.depth (name_tree c.args.name) (raw_expr_tree c.args.index) (raw_expr_tree c.in_ok-target-2.value) c.args.cursor.now.tokens.now c.before_sign.new.cursor.tokens.now c.expression.new.cursor.tokens.now c.requires c.in_ok-target.ensures.taken read)
+    (subst (λ (e : RawExpr). ReadsIndexed source end depth name index before (RawSetElement name (raw_expr_tree e) value) after) (sym c.in_ok-index.ensures.ok) set)

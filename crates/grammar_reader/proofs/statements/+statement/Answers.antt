@@ -123,5 +123,5 @@ for_statement-returns-in-Err-clause-refused t c = rules.for_body_refused _ _ _ _
 
 pub for_statement-returns-in-Ok-clause-read : goal.for_statement-returns-in-Ok-clause-read
 for_statement-returns-in-Ok-clause-read t c =
-    rw (raw_stmt_tree-For _ c.in-Ok.body)
+    rw (raw_stmt_tree-For c.in_ok-parts-2.parts c.in-Ok.body, c.in_ok-parts-2.ensures.ok)
     (rules.for_read _ _ _ _ _ _ _ _ _ _ _ _ c.requires.keyword c.in_ok-inside.ensures.taken c.in_ok-inside.ensures.fits c.in_ok-parts.ensures.read c.in-Ok.ensures.read)
