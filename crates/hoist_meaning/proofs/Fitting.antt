@@ -195,19 +195,19 @@ module _ (program : ProgramTree) where
     StartsFit (Asks question waiting) = IsStarted question.call
     StartsFit (Stops end) = Unit {0}
 
-    table_fits : (call : ModelledCall) (a b : ℕ) → IsStarted (call_with call a b)
-    table_fits ModelledCall.Accept a b = tt
-    table_fits ModelledCall.Wait a b = tt
-    table_fits ModelledCall.Sleep a b = tt
-    table_fits ModelledCall.Yield a b = tt
-    table_fits ModelledCall.Take a b = tt
-    table_fits ModelledCall.WaitFor a b = tt
-    table_fits ModelledCall.Put a b = tt
-    table_fits ModelledCall.Give a b = tt
-    table_fits ModelledCall.SelfNumber a b = tt
+    modelled_starts : (call : ModelledCall) (a b : ℕ) → IsStarted (call_with call a b)
+    modelled_starts ModelledCall.Accept a b = tt
+    modelled_starts ModelledCall.Wait a b = tt
+    modelled_starts ModelledCall.Sleep a b = tt
+    modelled_starts ModelledCall.Yield a b = tt
+    modelled_starts ModelledCall.Take a b = tt
+    modelled_starts ModelledCall.WaitFor a b = tt
+    modelled_starts ModelledCall.Put a b = tt
+    modelled_starts ModelledCall.Give a b = tt
+    modelled_starts ModelledCall.SelfNumber a b = tt
 
     call_of_fits : (number : ℕ) (arguments : List ℕ) → IsOption (call_of number arguments)
-    call_of_fits number arguments = each_made IsOption tt table_fits number arguments
+    call_of_fits number arguments = each_made IsOption tt modelled_starts number arguments
 
     value_starts : {A : Type 0} (thread : Running) (result : Result A TrapKind) (use_it : A → SourceMove) → ((a : A) → StartsFit (use_it a)) → StartsFit (on_value thread result use_it)
     value_starts thread (Ok a) use_it h = h a
