@@ -10,7 +10,7 @@ use Rattle.source_items.proofs.items.+before.Goals as goal
 
 pub push_stmt-returns-in_ok-push-in-None-clause-fits : goal.push_stmt-returns-in_ok-push-in-None-clause-fits
 push_stmt-returns-in_ok-push-in-None-clause-fits t c = λ context all scoped.
-    let f = c.in-For-default-None-default-default in
+    let f = c.in-For in
     let is = ap stmt_tree f.is ∙ stmt_tree-For f.parts f.body in
     let ended = c.in_ok-push_end-in-None.ensures.fits context all (subst IsLoop (sym is) (tt {0})) scoped in
     let body : IsScoped context (stmt_tree f.body.value) = body-scoped context _ (subst (IsScoped context) is scoped) in

@@ -11,5 +11,5 @@ pub returns-in-For : goal.returns-in-For
 returns-in-For c =
     let f = c.in-For in
     let is = ap stmt_tree f.is ∙ stmt_tree-For f.parts f.body in
-    let found = rw c.deref.ensures.value at c.get.ensures.lookup in
+    let found = rw (c.deref-in-For.ensures.value, c.deref.ensures) at c.get.ensures.lookup in
     get-item simple_tree f.parts.value.init.items c.args.number c.get.result _ found.1 found.3 ∙ ap (λ (t : StmtTree). slice_get (parts.start_of t) c.args.number) (sym is)
