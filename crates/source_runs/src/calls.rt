@@ -17,6 +17,7 @@ ghost use Rattle.source_runs.specs.Threads.{IsFrame, IsPlace, IsThread, below_of
 use crate::frames::{Place, Thread, WaitingFrame, push};
 use crate::halts::Halt;
 use crate::interpreter::{Interpreter, Move};
+use crate::spare::Spare;
 use crate::steps::went;
 use c_tree::{Call, Expr, ModelledCall};
 use cap_word::{Ask, Block, TrapKind};
@@ -113,9 +114,10 @@ impl<'a> Interpreter<'a> {
         requires in_range { IsInRange (sizes_at (tree_of self.now) thread.now.front.function) (widths_of (tree_of self.now).globals) (expr_tree expr.now) }
         ensures { result ≡ value (rows_of (sizes_at (tree_of self.now) thread.now.front.function) thread.now.front.names.items) (globals_of (tree_of self.now) globals.now.items) (expr_tree expr.now) }
     {
-        let names = self.name_rows(&thread.front);
-        let globals = self.global_rows(globals);
-        evaluate(&names, &globals, expr)
+        match self.word(thread, globals, expr) {
+            Some(word) => Ok(word),
+            None => Err(TrapKind::Index),
+        }
     }
 
     /// A call whose result goes to a place. Arguments come from left to right, and a table's index before its argument.
@@ -123,6 +125,7 @@ impl<'a> Interpreter<'a> {
         &self,
         thread: &mut Thread<'a>,
         globals: &Vec<u32>,
+        spare: &mut Spare<'a>,
         place: Place,
         call: &Call,
     ) -> Result<Move, Halt>
@@ -138,8 +141,8 @@ impl<'a> Interpreter<'a> {
                 function,
                 arguments,
             } => {
-                let words = self.arguments(thread, globals, *function, arguments)?;
-                went(self.enter(thread, *site, place, *function, words))
+                let words = self.arguments(thread, globals, spare, *function, arguments)?;
+                went(self.enter(thread, spare, *site, place, *function, words))
             }
             Call::Table {
                 site,
@@ -154,8 +157,8 @@ impl<'a> Interpreter<'a> {
                     return Err(Halt::Trap(TrapKind::Table));
                 }
                 let function = members[index as usize];
-                let words = self.one_word(function, argument)?;
-                went(self.enter(thread, *site, place, function, words))
+                let words = self.one_word(spare, function, argument)?;
+                went(self.enter(thread, spare, *site, place, function, words))
             }
             Call::Spawn {
                 site,
@@ -210,6 +213,7 @@ impl<'a> Interpreter<'a> {
         &self,
         thread: &Thread<'a>,
         globals: &Vec<u32>,
+        spare: &mut Spare<'a>,
         function: u32,
         arguments: &[Expr],
     ) -> Result<Vec<u32>, Halt>
@@ -222,7 +226,7 @@ impl<'a> Interpreter<'a> {
             (λ words. values (rows_of (sizes_at (tree_of self.now) thread.now.front.function) thread.now.front.names.items) (globals_of (tree_of self.now) globals.now.items) (map expr_tree arguments.now) ≡ Ok words.items)
             (λ halt. HasHalted (values (rows_of (sizes_at (tree_of self.now) thread.now.front.function) thread.now.front.names.items) (globals_of (tree_of self.now) globals.now.items) (map expr_tree arguments.now)) halt) }
     {
-        let mut words = Vec::with_capacity(self.alloc, self.layout(function).words)?;
+        let mut words = spare.words(self.layout(function).words)?;
         for argument in arguments {
             let word = self.value(thread, globals, argument)?;
             push(&mut words, word)?;
@@ -231,20 +235,27 @@ impl<'a> Interpreter<'a> {
     }
 
     /// One argument of a function.
-    fn one_word(&self, function: u32, argument: u32) -> Result<Vec<u32>, AllocError>
+    fn one_word(
+        &self,
+        spare: &mut Spare<'a>,
+        function: u32,
+        argument: u32,
+    ) -> Result<Vec<u32>, AllocError>
         requires ready { IsReady self.now }
         requires there { function < length (tree_of self.now).functions }
         ensures { IfOk result (λ words. words.items ≡ argument ∷ []) }
     {
-        let mut words = Vec::with_capacity(self.alloc, self.layout(function).words)?;
+        let mut words = spare.words(self.layout(function).words)?;
         words.push(argument)?;
         Ok(words)
     }
 
     /// A function is called: a frame is pushed, and the running one waits at a site for a result that goes to a place.
+    #[inline(always)]
     fn enter(
         &self,
         thread: &mut Thread<'a>,
+        spare: &mut Spare<'a>,
         site: u32,
         place: Place,
         function: u32,
@@ -263,7 +274,7 @@ impl<'a> Interpreter<'a> {
             }) }
         ensures thread { (globals : List ℕ) → IsThread (tree_of self.now) thread.old globals → OnOk result (IsThread (tree_of self.now) thread.new globals) }
     {
-        let pushed = self.frame(function, words)?;
+        let pushed = self.frame(spare, function, words)?;
         let frame = mem::replace(&mut thread.front, pushed);
         thread.place = Place::Nowhere;
         push(&mut thread.below, WaitingFrame { frame, site, place })

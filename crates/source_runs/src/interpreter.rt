@@ -11,6 +11,7 @@ ghost use Rattle.source_runs.specs.Threads.{IsFrame, IsThread, frame_of, globals
 use crate::frames::{Frame, Next, Place, Thread};
 use crate::halts::Halt;
 use crate::layout::{Layout, first_words, layout_of, layouts_of, widths_of};
+use crate::spare::Spare;
 use c_tree::Program;
 use cap_word::{Ask, Block, TrapKind};
 use source_items::push_stmts;
@@ -86,7 +87,8 @@ impl<'a> Interpreter<'a> {
         ensures thread { (words : List ℕ) → length words ≡ sum (rows.widths_of (tree_of self.now).globals) → IfOk result (λ thread. IsThread (tree_of self.now) thread words) }
     {
         let names = self.given(argument)?;
-        let front = self.frame(function, names)?;
+        let mut spare = Spare::new(self.alloc);
+        let front = self.frame(&mut spare, function, names)?;
         Ok(Thread {
             front,
             below: Vec::new(self.alloc),
@@ -110,7 +112,13 @@ impl<'a> Interpreter<'a> {
     }
 
     /// A frame at its function's start: it has its arguments, and 0 in every other name.
-    pub(crate) fn frame(&self, function: u32, mut names: Vec<u32>) -> Result<Frame<'a>, AllocError>
+    #[inline(always)]
+    pub(crate) fn frame(
+        &self,
+        spare: &mut Spare<'a>,
+        function: u32,
+        mut names: Vec<u32>,
+    ) -> Result<Frame<'a>, AllocError>
         requires ready { IsReady self.now }
         requires there { function < length (tree_of self.now).functions }
         requires fits { params_at (tree_of self.now) function ≡ length names.items }
@@ -120,7 +128,7 @@ impl<'a> Interpreter<'a> {
     {
         names.resize(self.layout(function).words, 0)?;
         let body = &self.program.functions()[function as usize].body;
-        let mut items = Vec::with_capacity(self.alloc, body.len())?;
+        let mut items = spare.stack(body.len())?;
         push_stmts(&mut items, body)?;
         Ok(Frame {
             function,
@@ -143,9 +151,10 @@ impl<'a> Interpreter<'a> {
         ensures came { IfOk result (HasCome (tree_of self.now) thread.old globals.old.items left.old left.new thread.new globals.new.items) }
         ensures fewer { left.new ≤ left.old }
     {
+        let mut spare = Spare::new(self.alloc);
         while *left > 0 {
             *left -= 1;
-            match self.step(thread, globals) {
+            match self.step(thread, globals, &mut spare) {
                 Ok(Move::Goes) => (),
                 Ok(Move::Asks(ask)) => return Ok(Coming::Asks(ask)),
                 Ok(Move::Blocks(block)) => return Ok(Coming::Blocks(block)),

@@ -15,6 +15,7 @@ ghost use Rattle.source_runs.specs.declared.interpreter.Move.TheVariants as move
 use crate::frames::{Next, Place, Thread};
 use crate::halts::Halt;
 use crate::interpreter::{Interpreter, Move};
+use crate::spare::Spare;
 use c_tree::{Expr, RightSide, Simple, Stmt};
 use source_items::{
     Item, Part, condition_of, leave, push_body, push_stmt, push_turn, skip, start_of, step_of,
@@ -35,17 +36,22 @@ pub(crate) fn went(pushed: Result<(), AllocError>) -> Result<Move, Halt>
 impl<'a> Interpreter<'a> {
     /// One step. A function that reaches its end returns 0 if it is an `int` function.
     #[inline(always)]
-    pub(crate) fn step(&self, thread: &mut Thread<'a>, globals: &mut Vec<u32>) -> Result<Move, Halt>
+    pub(crate) fn step(
+        &self,
+        thread: &mut Thread<'a>,
+        globals: &mut Vec<u32>,
+        spare: &mut Spare<'a>,
+    ) -> Result<Move, Halt>
         requires ready { IsReady self.now }
         requires thread { IsThread (tree_of self.now) thread.old globals.old.items }
         ensures { HasStepped (tree_of self.now) (source_step (tree_of self.now) (running_of (tree_of self.now) thread.old globals.old.items)) thread.new globals.new.items result }
     {
         match thread.front.next {
             Next::Items => match take_item(&mut thread.front.items) {
-                None => Ok(self.give_back(thread, globals, 0)),
-                Some(item) => self.perform(thread, globals, item),
+                None => Ok(self.give_back(thread, globals, spare, 0)),
+                Some(item) => self.perform(thread, globals, spare, item),
             },
-            Next::GiveBack(word) => Ok(self.give_back(thread, globals, word)),
+            Next::GiveBack(word) => Ok(self.give_back(thread, globals, spare, word)),
             Next::Fail(kind) => Err(Halt::Trap(kind)),
         }
     }
@@ -56,6 +62,7 @@ impl<'a> Interpreter<'a> {
         &self,
         thread: &mut Thread<'a>,
         globals: &mut Vec<u32>,
+        spare: &mut Spare<'a>,
         item: Item<'a>,
     ) -> Result<Move, Halt>
         requires ready { IsReady self.now }
@@ -65,9 +72,9 @@ impl<'a> Interpreter<'a> {
         ensures { HasStepped (tree_of self.now) (performs (tree_of self.now) (running_of (tree_of self.now) thread.old globals.old.items) (item_of item.entry) (to_do thread.old.front.items.items)) thread.new globals.new.items result }
     {
         match item.part {
-            Part::Whole => self.whole(thread, globals, item.stmt),
+            Part::Whole => self.whole(thread, globals, spare, item.stmt),
             Part::Start(number) => match start_of(item.stmt, number) {
-                Some(simple) => self.simply(thread, globals, simple),
+                Some(simple) => self.perform_simple(thread, globals, spare, simple),
                 None => unreachable!(),
             },
             Part::Test => match condition_of(item.stmt) {
@@ -76,7 +83,7 @@ impl<'a> Interpreter<'a> {
             },
             Part::Enter => Ok(Move::Goes),
             Part::Step => match step_of(item.stmt) {
-                Some(simple) => self.simply(thread, globals, simple),
+                Some(simple) => self.perform_simple(thread, globals, spare, simple),
                 None => unreachable!(),
             },
             Part::Back => { went(push_turn(&mut thread.front.items, item.stmt)) }
@@ -89,6 +96,7 @@ impl<'a> Interpreter<'a> {
         &self,
         thread: &mut Thread<'a>,
         globals: &mut Vec<u32>,
+        spare: &mut Spare<'a>,
         stmt: &'a Stmt,
     ) -> Result<Move, Halt>
         requires ready { IsReady self.now }
@@ -99,7 +107,7 @@ impl<'a> Interpreter<'a> {
         ensures { HasStepped (tree_of self.now) (performs (tree_of self.now) (running_of (tree_of self.now) thread.old globals.old.items) (whole_item (stmt_tree stmt.now)) (to_do thread.old.front.items.items)) thread.new globals.new.items result }
     {
         match stmt {
-            Stmt::Simple(simple) => self.perform_simple(thread, globals, simple),
+            Stmt::Simple(simple) => self.perform_simple(thread, globals, spare, simple),
             Stmt::If { condition, then } => self.choose(thread, globals, condition, then, None),
             Stmt::IfElse {
                 condition,
@@ -112,7 +120,7 @@ impl<'a> Interpreter<'a> {
                 Ok(Move::Goes)
             }
             Stmt::Continue => { went(skip(&mut thread.front.items)) }
-            Stmt::Return(value) => self.return_right(thread, globals, value),
+            Stmt::Return(value) => self.return_right(thread, globals, spare, value),
             Stmt::Empty => unreachable!(),
             Stmt::Block(_) => unreachable!(),
             Stmt::For { .. } => unreachable!(),
@@ -179,6 +187,7 @@ impl<'a> Interpreter<'a> {
         &self,
         thread: &mut Thread<'a>,
         globals: &mut Vec<u32>,
+        spare: &mut Spare<'a>,
         value: &Option<RightSide>,
     ) -> Result<Move, Halt>
         requires ready { IsReady self.now }
@@ -187,29 +196,13 @@ impl<'a> Interpreter<'a> {
         ensures { HasStepped (tree_of self.now) (gives_back (tree_of self.now) (running_of (tree_of self.now) thread.old globals.old.items) (option_map right_tree value.now)) thread.new globals.new.items result }
     {
         match value {
-            None => Ok(self.give_back(thread, globals, 0)),
+            None => Ok(self.give_back(thread, globals, spare, 0)),
             Some(RightSide::Expr(expr)) => {
                 let word = self.value(thread, globals, expr)?;
-                Ok(self.give_back(thread, globals, word))
+                Ok(self.give_back(thread, globals, spare, word))
             }
-            Some(RightSide::Call(call)) => self.call(thread, globals, Place::Returned, call),
+            Some(RightSide::Call(call)) => self.call(thread, globals, spare, Place::Returned, call),
         }
-    }
-
-    /// A declaration of one name, an assignment or a call.
-    #[inline(never)]
-    fn simply(
-        &self,
-        thread: &mut Thread<'a>,
-        globals: &mut Vec<u32>,
-        simple: &Simple,
-    ) -> Result<Move, Halt>
-        requires ready { IsReady self.now }
-        requires thread { IsThread (tree_of self.now) thread.old globals.old.items }
-        requires scoped { InSomeScope (λ scope. IsSimpleScoped (context_at (tree_of self.now) thread.old.front.function) scope (simple_tree simple.now)) }
-        ensures { HasStepped (tree_of self.now) (does (tree_of self.now) (running_of (tree_of self.now) thread.old globals.old.items) (simple_tree simple.now)) thread.new globals.new.items result }
-    {
-        self.perform_simple(thread, globals, simple)
     }
 
     /// A declaration of one name, an assignment or a call. In `a[i] = e` the index comes before the right side, and the range
@@ -219,6 +212,7 @@ impl<'a> Interpreter<'a> {
         &self,
         thread: &mut Thread<'a>,
         globals: &mut Vec<u32>,
+        spare: &mut Spare<'a>,
         simple: &Simple,
     ) -> Result<Move, Halt>
         requires ready { IsReady self.now }
@@ -236,13 +230,13 @@ impl<'a> Interpreter<'a> {
                 Ok(Move::Goes)
             }
             Simple::DeclareWith { variable, value } => {
-                self.assign(thread, globals, Place::Local(*variable), value)
+                self.assign(thread, globals, spare, Place::Local(*variable), value)
             }
             Simple::SetLocal { variable, value } => {
-                self.assign(thread, globals, Place::Local(*variable), value)
+                self.assign(thread, globals, spare, Place::Local(*variable), value)
             }
             Simple::SetGlobal { global, value } => {
-                self.assign(thread, globals, Place::Global(*global), value)
+                self.assign(thread, globals, spare, Place::Global(*global), value)
             }
             Simple::SetLocalElement {
                 array,
@@ -251,7 +245,13 @@ impl<'a> Interpreter<'a> {
             } => {
                 let array = *array;
                 let index = self.value(thread, globals, index)?;
-                self.assign(thread, globals, Place::LocalElement { array, index }, value)
+                self.assign(
+                    thread,
+                    globals,
+                    spare,
+                    Place::LocalElement { array, index },
+                    value,
+                )
             }
             Simple::SetGlobalElement {
                 array,
@@ -263,11 +263,12 @@ impl<'a> Interpreter<'a> {
                 self.assign(
                     thread,
                     globals,
+                    spare,
                     Place::GlobalElement { array, index },
                     value,
                 )
             }
-            Simple::Call(call) => self.call(thread, globals, Place::Nowhere, call),
+            Simple::Call(call) => self.call(thread, globals, spare, Place::Nowhere, call),
         }
     }
 
@@ -277,6 +278,7 @@ impl<'a> Interpreter<'a> {
         &self,
         thread: &mut Thread<'a>,
         globals: &mut Vec<u32>,
+        spare: &mut Spare<'a>,
         place: Place,
         value: &RightSide,
     ) -> Result<Move, Halt>
@@ -292,7 +294,7 @@ impl<'a> Interpreter<'a> {
                 self.store(thread, globals, place, word)?;
                 Ok(Move::Goes)
             }
-            RightSide::Call(call) => self.call(thread, globals, place, call),
+            RightSide::Call(call) => self.call(thread, globals, spare, place, call),
         }
     }
 }

@@ -10,6 +10,7 @@ ghost use Rattle.source_runs.specs.Threads.{IsFrame, IsPlace, IsThread, IsWaitin
 
 use crate::frames::{Next, Place, Thread};
 use crate::interpreter::{Interpreter, Move};
+use crate::spare::Spare;
 use cap_word::TrapKind;
 
 /// All words of a name are 0: so many, from where they start on.
@@ -133,6 +134,7 @@ impl<'a> Interpreter<'a> {
         &self,
         thread: &mut Thread<'a>,
         globals: &mut Vec<u32>,
+        spare: &mut Spare<'a>,
         word: u32,
     ) -> Move
         requires ready { IsReady self.now }
@@ -143,6 +145,7 @@ impl<'a> Interpreter<'a> {
         match thread.below.pop() {
             None => Move::Ends,
             Some(waiting) => {
+                spare.keep(&mut thread.front);
                 thread.front = waiting.frame;
                 thread.place = Place::Nowhere;
                 self.deliver(thread, globals, waiting.place, word);

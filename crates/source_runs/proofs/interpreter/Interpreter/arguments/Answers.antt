@@ -16,7 +16,7 @@ loop-argument-init c =
     let tree = tree_of c.args.self.now in
     let names = rows_of (sizes_at tree c.args.thread.now.front.function) c.args.thread.now.front.names.items in
     let globals = globals_of tree c.args.globals.now.items in
-    ap (λ (xs : List ℕ). after_words xs (of names globals c.args.arguments.now)) c.in_ok-words.ensures.items ∙ after-none (of names globals c.args.arguments.now)
+    ap (λ (xs : List ℕ). after_words xs (of names globals c.args.arguments.now)) c.in_ok-words.ensures ∙ after-none (of names globals c.args.arguments.now)
 
 pub loop-argument-preserved : goal.loop-argument-preserved
 loop-argument-preserved c =

@@ -39,7 +39,7 @@ returns-clause-pushed c =
     let is : function_at tree f ≡ function_tree found = function-is tree all f code c.functions.ensures within c.index-functions-function.is ∙ ap function_tree c.index-functions-function.is in
     let body = c.in_ok-push_stmts.ensures.next
     ∙ (ap (λ (ss : List Stmt). todo.all_before (stmt_trees ss) (to_do c.in_ok-items.items.items)) c.deref.ensures.value
-    ∙ (ap (λ (xs : List Item). todo.all_before (stmt_trees found.body.items) (to_do xs)) c.in_ok-items.ensures.items
+    ∙ (ap (λ (xs : List Item). todo.all_before (stmt_trees found.body.items) (to_do xs)) c.in_ok-items.ensures
     ∙ ap (λ (t : FunctionTree). todo.all_before t.body []) (sym is))) in
     let frame : List (List ℕ) → List todo.Item → source.Frame = λ r t. record { function = f; names = r; to_do = t } in
     ap (λ (r : List (List ℕ)). frame r (to_do c.push_stmts.new.items.items)) rows ∙ ap (λ (t : List todo.Item). frame (source.pushed tree f names).names t) body
@@ -68,6 +68,6 @@ returns-clause-frame c =
     record {
       function = c.requires.there;
       full = ap length list ∙ (length-append names (replicate more 0) ∙ omega (arith, length-replicate {A = ℕ} more 0, full));
-      items = c.in_ok-push_stmts.ensures.fits context false scope (subst (AreItems context) (sym c.in_ok-items.ensures.items) (tt {0}))
+      items = c.in_ok-push_stmts.ensures.fits context false scope (subst (AreItems context) (sym c.in_ok-items.ensures) (tt {0}))
           (subst (λ (ss : List Stmt). AreStmtsScoped context false scope (stmt_trees ss)) (sym c.deref.ensures.value) (subst (λ (t : FunctionTree). AreStmtsScoped context false scope t.body) is scoped.body));
     }

@@ -17,11 +17,11 @@ whole-requires-clause-whole c = subst (λ (p : Part). HasPart p (stmt_tree c.arg
 pub whole-requires-clause-scoped : goal.whole-requires-clause-scoped
 whole-requires-clause-scoped c = c.requires.item.scoped
 
-pub simply-requires-clause-scoped : goal.simply-requires-clause-scoped
-simply-requires-clause-scoped c = start-scoped _ _ _ _ c.in-Some.ensures c.requires.item.scoped
+pub perform_simple-requires-clause-scoped : goal.perform_simple-requires-clause-scoped
+perform_simple-requires-clause-scoped c = start-scoped _ _ _ _ c.in-Some.ensures c.requires.item.scoped
 
-pub simply-requires-in-Some-step_of-clause-scoped : goal.simply-requires-in-Some-step_of-clause-scoped
-simply-requires-in-Some-step_of-clause-scoped c = step-scoped _ _ _ c.in-Some-step_of.ensures c.requires.item.scoped
+pub perform_simple-requires-in-Some-step_of-clause-scoped : goal.perform_simple-requires-in-Some-step_of-clause-scoped
+perform_simple-requires-in-Some-step_of-clause-scoped c = step-scoped _ _ _ c.in-Some-step_of.ensures c.requires.item.scoped
 
 pub test-requires-clause-condition : goal.test-requires-clause-condition
 test-requires-clause-condition c = condition-scoped _ _ _ c.in-Some-condition_of.ensures c.requires.item.scoped
@@ -45,7 +45,7 @@ returns-in-Some c =
     let thread = c.args.thread.now in
     let running = running_of tree thread words in
     let rest = to_do thread.front.items.items in
-    part-so tree running rest c.simply.new.thread c.simply.new.globals.items c.simply.result _ _ (stmt_tree c.args.item.stmt.now) c.in-Start.is (start-so tree running rest c.simply.new.thread c.simply.new.globals.items c.simply.result (stmt_tree c.args.item.stmt.now) c.in-Start.number (simple_tree c.in-Some.simple.now) c.in-Some.ensures c.simply.ensures)
+    part-so tree running rest c.perform_simple.new.thread c.perform_simple.new.globals.items c.perform_simple.result _ _ (stmt_tree c.args.item.stmt.now) c.in-Start.is (start-so tree running rest c.perform_simple.new.thread c.perform_simple.new.globals.items c.perform_simple.result (stmt_tree c.args.item.stmt.now) c.in-Start.number (simple_tree c.in-Some.simple.now) c.in-Some.ensures c.perform_simple.ensures)
 
 pub returns-in-Some-condition_of : goal.returns-in-Some-condition_of
 returns-in-Some-condition_of c =
@@ -63,7 +63,7 @@ returns-in-Some-step_of c =
     let thread = c.args.thread.now in
     let running = running_of tree thread words in
     let rest = to_do thread.front.items.items in
-    part-so tree running rest c.simply-in-Some-step_of.new.thread c.simply-in-Some-step_of.new.globals.items c.simply-in-Some-step_of.result _ _ (stmt_tree c.args.item.stmt.now) c.in-Step.is (step-so tree running rest c.simply-in-Some-step_of.new.thread c.simply-in-Some-step_of.new.globals.items c.simply-in-Some-step_of.result (stmt_tree c.args.item.stmt.now) (simple_tree c.in-Some-step_of.simple.now) c.in-Some-step_of.ensures c.simply-in-Some-step_of.ensures)
+    part-so tree running rest c.perform_simple-in-Some-step_of.new.thread c.perform_simple-in-Some-step_of.new.globals.items c.perform_simple-in-Some-step_of.result _ _ (stmt_tree c.args.item.stmt.now) c.in-Step.is (step-so tree running rest c.perform_simple-in-Some-step_of.new.thread c.perform_simple-in-Some-step_of.new.globals.items c.perform_simple-in-Some-step_of.result (stmt_tree c.args.item.stmt.now) (simple_tree c.in-Some-step_of.simple.now) c.in-Some-step_of.ensures c.perform_simple-in-Some-step_of.ensures)
 
 pub returns-in-Enter : goal.returns-in-Enter
 returns-in-Enter c =
