@@ -14,10 +14,10 @@ use crate::spare::Spare;
 use cap_word::TrapKind;
 
 /// All words of a name are 0: so many, from where they start on.
-fn clear_row(words: &mut Vec<u32>, start: usize, width: usize)
-    requires { start + width ≤ length words.old.items }
-    ensures rows { (ns : List ℕ) (x : ℕ) → x < length ns → start ≡ sum (take x ns) → width ≡ slice_index ns x → length words.old.items ≡ sum ns → rows_of ns words.new.items ≡ with_zeros (rows_of ns words.old.items) x }
-    ensures count { length words.new.items ≡ length words.old.items }
+fn clear_row(words: &mut [u32], start: usize, width: usize)
+    requires { start + width ≤ length words.old }
+    ensures rows { (ns : List ℕ) (x : ℕ) → x < length ns → start ≡ sum (take x ns) → width ≡ slice_index ns x → length words.old ≡ sum ns → rows_of ns words.new ≡ with_zeros (rows_of ns words.old) x }
+    ensures count { length words.new ≡ length words.old }
 {
     for i in 0..width {
         words[start + i] = 0;

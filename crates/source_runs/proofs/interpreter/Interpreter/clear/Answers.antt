@@ -1,4 +1,7 @@
-use Rattle.std.proofs.Common.{arith, ℕ, List, ap, ◌∙◌}
+use Rattle.std.proofs.Common.{arith, ℕ, List, length, ap, sym, ◌∙◌}
+use Rattle.std.proofs.lemmas.List.{with_items_is}
+use Rattle.cap_word.specs.Rows.{with_zeros}
+use Rattle.c_mean.specs.Layout.{rows_of}
 use Rattle.std.specs.Prelude.{slice_index}
 use Rattle.c_mean.proofs.LayoutLemmas.{sum_next-le}
 use Rattle.c_mean.specs.Steps.{with_names}
@@ -22,19 +25,27 @@ pub clear_row-requires : goal.clear_row-requires
 clear_row-requires c =
     let ns = sizes_at (tree_of c.args.self.now) c.args.thread.now.front.function in
     let width = ap (λ (ms : List ℕ). slice_index ms c.args.x) c.sizes.ensures in
-    omega (arith, sum_next-le ns c.args.x c.requires.named, c.local_start-start.ensures, c.requires.frame.full, width)
+    omega (arith, sum_next-le ns c.args.x c.requires.named, c.local_start-start.ensures, ap (λ (xs : List ℕ). length xs) c.deref_mut.ensures.value, c.requires.frame.full, width)
 
 pub returns-clause-cleared : goal.returns-clause-cleared
 returns-clause-cleared c = λ words.
     let tree = tree_of c.args.self.now in
     let ns = sizes_at tree c.args.thread.now.front.function in
     let width = ap (λ (ms : List ℕ). slice_index ms c.args.x) c.sizes.ensures in
-    ap (with_names (running_of tree c.args.thread.now words)) (c.clear_row.ensures.rows ns c.args.x c.requires.named c.local_start-start.ensures width c.requires.frame.full)
+    let full = ap (λ (xs : List ℕ). length xs) c.deref_mut.ensures.value ∙ c.requires.frame.full in
+    let rows = c.clear_row.ensures.rows ns c.args.x c.requires.named c.local_start-start.ensures width full in
+    let running = running_of tree c.args.thread.now words in
+    let is = with_items_is c.args.thread.now.front.names c.clear_row.new.words (c.clear_row.ensures.count ∙ (ap (λ (xs : List ℕ). length xs) c.deref_mut.ensures.value ∙ sym c.args.thread.now.front.names.ok.0)) in
+    ap (λ (xs : List ℕ). with_names running (rows_of ns xs)) is ∙ ap (with_names running) (rows ∙ ap (λ (xs : List ℕ). with_zeros (rows_of ns xs) c.args.x) c.deref_mut.ensures.value)
 
 pub returns-clause-thread : goal.returns-clause-thread
-returns-clause-thread c = λ words h. record {
-  front = record { function = h.front.function; full = c.clear_row.ensures.count ∙ h.front.full; items = h.front.items };
-  place = h.place;
-  below = h.below;
-  globals = h.globals;
-}
+returns-clause-thread c = λ words h.
+    let names = c.args.thread.now.front.names in
+    let count = c.clear_row.ensures.count ∙ ap (λ (xs : List ℕ). length xs) c.deref_mut.ensures.value in
+    let is = with_items_is names c.clear_row.new.words (count ∙ sym names.ok.0) in
+    record {
+      front = record { function = h.front.function; full = ap (λ (xs : List ℕ). length xs) is ∙ (count ∙ h.front.full); items = h.front.items };
+      place = h.place;
+      below = h.below;
+      globals = h.globals;
+    }
