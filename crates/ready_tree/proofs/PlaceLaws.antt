@@ -1,5 +1,5 @@
 -- Places, and the tree above their blocks.
-use Rattle.std.proofs.Common.{◌≡◌, ◌≢◌, ℕ, zero, suc, ◌+◌, ◌-◌, ◌*◌, ◌/◌, ◌<◌, ◌≤◌, ◌⊎◌, inl, inr, Bool, true, false, Option, Some, None, List, [], ◌∷◌, ◌++◌, length, take, nat_lt, cond, position, refl, ◌∙◌, sym, ap, arith, slice_set}
+use Rattle.std.proofs.Common.{◌≡◌, ◌≢◌, ℕ, zero, suc, ◌+◌, ◌-◌, ◌*◌, ◌/◌, ◌<◌, ◌≤◌, ◌⊎◌, inl, inr, Bool, true, false, Option, Some, None, List, [], ◌∷◌, ◌++◌, length, take, nat_lt, cond, filter, position, refl, ◌∙◌, sym, ap, arith, slice_set}
 use Rattle.std.proofs.lemmas.List.{get_or-set_same, get_or-set_other, length-set, length_push, get_or_append_left, take_more, append-nil, length-append}
 use Rattle.std.proofs.lemmas.Bool.Decides.{nat_tests}
 use Rattle.std.proofs.lemmas.List.Sums.{position_or_len_is}
@@ -9,7 +9,7 @@ use Rattle.ready_tree.specs.declared.entries.Entry.{Entry}
 use Rattle.ready_tree.specs.declared.needs.Needs.{Needs}
 use Rattle.ready_tree.specs.Needs.{is_some_met}
 use Rattle.ready_tree.specs.Nodes.{doubled, AreJoined, AreJoinedBut, node_at, no_needs}
-use Rattle.ready_tree.specs.Entries.{entries_of, place_at, may_go}
+use Rattle.ready_tree.specs.Entries.{entries_of, place_at, may_go, is_taken}
 use Rattle.ready_tree.specs.Trees.{Covers, CoversAll, HasPlaces, IsAbove, IsAboveBut, IsAboveIf, IsBlankIf}
 use Rattle.ready_tree.proofs.NextLaws.{unmet_below}
 use Rattle.ready_tree.proofs.NodeLaws.{doubled_more, leaf_set}
@@ -141,6 +141,17 @@ pub entries_more_some : (places : List (Option Entry)) (i : ℕ) (entry : Entry)
     entries_of (take (i + 1) places) ≡ entries_of (take i places) ++ entry ∷ []
 entries_more_some places i entry there some =
     ap entries_of (take_more places i None there ∙ ap (λ place. take i places ++ place ∷ []) some) ∙ entries_push (take i places) entry
+
+-- the places without the empty ones
+pub entries_gathered : (places : List (Option Entry)) → entries_of (filter is_taken places) ≡ entries_of places
+entries_gathered [] = refl
+entries_gathered (None ∷ places) = entries_gathered places
+entries_gathered (Some entry ∷ places) = ap (λ (entries : List Entry). entry ∷ entries) (entries_gathered places)
+
+pub full_gathered : (places : List (Option Entry)) → length (filter is_taken places) ≡ length (entries_of places)
+full_gathered [] = refl
+full_gathered (None ∷ places) = full_gathered places
+full_gathered (Some entry ∷ places) = ap suc (full_gathered places)
 
 -- ---- the first place at which a need is met
 

@@ -1,5 +1,5 @@
 -- The threads of a queue.
-use Rattle.std.specs.Prelude.{ℕ, Bool, false, Option, Some, None, List, [], ◌∷◌, ◌==◌, ◌&&◌, slice_index_or}
+use Rattle.std.specs.Prelude.{ℕ, Bool, true, false, Option, Some, None, List, [], ◌∷◌, ◌==◌, ◌&&◌, slice_index_or}
 use Rattle.cap_word.specs.declared.threads.ThreadId.{ThreadId}
 use Rattle.ready_tree.specs.declared.bounds.Bounds.{Bounds}
 use Rattle.ready_tree.specs.declared.entries.Entry.{Entry}
@@ -10,6 +10,11 @@ abbrev pub entries_of : List (Option Entry) → List Entry
 entries_of [] = []
 entries_of (None ∷ places) = entries_of places
 entries_of (Some entry ∷ places) = entry ∷ entries_of places
+
+-- whether somebody waits at a place
+abbrev pub is_taken : Option Entry → Bool
+is_taken None = false
+is_taken (Some entry) = true
 
 abbrev pub place_at : List (Option Entry) → ℕ → Option Entry
 place_at places place = slice_index_or places place None

@@ -1,8 +1,8 @@
 // The places of a queue with the tree above their blocks. Where there is one block there is no tree.
-ghost use Rattle.std.specs.Prelude.{◌≡◌, ℕ, ◌+◌, ◌*◌, ◌/◌, ◌<◌, ◌≤◌, ◌^◌, ◌++◌, ◌∷◌, [], None, Some, Option, false, length, position, slice_set, IfOk, OnOk, OnErr};
+ghost use Rattle.std.specs.Prelude.{◌≡◌, ℕ, ◌+◌, ◌*◌, ◌/◌, ◌<◌, ◌≤◌, ◌^◌, ◌++◌, ◌∷◌, [], None, Some, Option, true, false, length, position, slice_set, IfOk, OnOk, OnErr};
 ghost use Rattle.ready_tree.specs.declared.entries.Entry.{Entry};
-ghost use Rattle.ready_tree.specs.Entries.{entries_of, place_at, may_go, is_of};
-ghost use Rattle.ready_tree.specs.Trees.{Covers, CoversAll, IsAboveIf, IsAboveButIf, HasRoom, IsBlankIf, IsGathered};
+ghost use Rattle.ready_tree.specs.Entries.{entries_of, place_at, may_go, is_of, is_taken};
+ghost use Rattle.ready_tree.specs.Trees.{Covers, CoversAll, AreJoinedIf, IsAboveIf, IsAboveButIf, HasPlaces, HasRoom, IsBlankIf, IsGathered};
 
 use crate::bounds::Bounds;
 use crate::entries::Entry;
@@ -222,6 +222,61 @@ fn is_full(places: &Vec<Option<Entry>>, nodes: &[Needs]) -> bool
     }
 }
 
+/// Whether somebody waits at a place.
+fn is_taken(place: &Option<Entry>) -> bool
+    ensures { result ≡ is_taken place.now }
+{
+    match place {
+        Some(_) => true,
+        None => false,
+    }
+}
+
+/// Builds the tree anew above the places, block by block.
+fn rebuild(places: &[Option<Entry>], nodes: &mut [Needs])
+    requires joined { AreJoinedIf nodes.old }
+    requires room { HasRoom nodes.old places.now }
+    ensures above { IsAboveIf nodes.new places.now }
+    ensures room { HasRoom nodes.new places.now }
+{
+    let mut end = 0;
+    while end < places.len() {
+        let start = end;
+        end = places.len().min(start + BLOCK);
+        renew(&places[..end], nodes, start);
+    }
+}
+
+/// Takes the empty places out, in the memory that they have.
+fn gather(
+    places: &mut Vec<Option<Entry>>,
+    nodes: &mut Vec<Needs>,
+    live: usize,
+) -> Result<(), AllocError>
+    requires above { IsAboveIf nodes.old.items places.old.items }
+    requires live { live ≡ length (entries_of places.old.items) }
+    requires room { HasPlaces nodes.old.items live }
+    ensures same { entries_of places.new.items ≡ entries_of places.old.items }
+    ensures above { IsAboveIf nodes.new.items places.new.items }
+    ensures room { OnOk result (HasRoom nodes.new.items places.new.items) }
+{
+    places.retain(|place| is_taken(place));
+    let count = nodes.len();
+    nodes.clear();
+    nodes.resize(count, Needs::NONE)?;
+    rebuild(places, nodes);
+    Ok(())
+}
+
+/// Whether a fifth of the places or more are empty, so that they are gathered in the memory that they have. Where three quarters
+/// are, less memory is made for them.
+fn is_roomy(places: &Vec<Option<Entry>>, nodes: &[Needs], live: usize) -> bool
+    ensures { result ≡ true → HasPlaces nodes.now live }
+{
+    let room = places.capacity();
+    room / 4 <= live && live <= room - room / 5 && live / BLOCK < nodes.len() / 2
+}
+
 /// Makes room for one more. So many threads join before it is to be made again that each costs a few steps for it.
 pub(crate) fn make_room(
     places: &mut Vec<Option<Entry>>,
@@ -234,11 +289,15 @@ pub(crate) fn make_room(
     ensures above { IsAboveIf nodes.new.items places.new.items }
     ensures room { OnOk result (HasRoom nodes.new.items places.new.items) }
 {
-    if is_full(places, nodes) {
-        let alloc = *places.allocator();
-        let (kept, tree) = gathered(alloc, places, live)?;
-        *places = kept;
-        *nodes = tree;
+    if !is_full(places, nodes) {
+        return Ok(());
     }
+    if is_roomy(places, nodes, live) {
+        return gather(places, nodes, live);
+    }
+    let alloc = *places.allocator();
+    let (kept, tree) = gathered(alloc, places, live)?;
+    *places = kept;
+    *nodes = tree;
     Ok(())
 }

@@ -1,0 +1,15 @@
+use Rattle.std.proofs.Common.{◌≡◌, ◌-◌, ◌<◌, ◌≤◌, ◌*◌, ◌/◌, length, take}
+use Rattle.ready_tree.specs.Trees.{AreJoinedIf, IsAboveIf, HasRoom}
+use Rattle.ready_tree.proofs.places.rebuild.Given as goal
+
+abbrev pub invariant-loop-end : goal.invariant-loop-end
+invariant-loop-end l = record {
+  end : l.end ≤ length l.places;
+  block : l.end < length l.places → l.end ≡ 16 * (l.end / 16);
+  room : HasRoom l.nodes l.places;
+  joined : AreJoinedIf l.nodes;
+  above : IsAboveIf l.nodes (take l.end l.places);
+}
+
+abbrev pub decreases-loop-end : goal.decreases-loop-end
+decreases-loop-end l = length l.places - l.end
