@@ -4,4 +4,5 @@ pub mod LineLaws
 pub mod PieceLaws
 pub mod PieceSteps
 pub mod Refusals
+pub mod ShortNumbers
 pub mod Spellings

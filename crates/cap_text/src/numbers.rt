@@ -1,8 +1,11 @@
 // Reading a number.
-ghost use Rattle.std.specs.Prelude.{◌≡◌, ℕ, ℤ, pos, negsuc, ◌+◌, ◌^◌, FitsSigned, ◌<◌, ◌≤◌, ◌↔◌, MatchOption, Ok, Err, IfOk, IsTrue, All};
+ghost use Rattle.std.specs.Prelude.{◌≡◌, ℕ, ℤ, pos, negsuc, ◌+◌, ◌^◌, FitsSigned, ◌<◌, ◌≤◌, ◌↔◌, MatchOption, Ok, Err, IfOk, IfSome, IsTrue, All};
 ghost use Rattle.std.specs.Bool.{MatchBool};
 ghost use Rattle.std.specs.Int.{w32, w128};
 ghost use Rattle.cap_text.specs.Decimals.{canonical_decimal, canonical_integer, IsDecimal, IsInteger};
+
+/// The most digits with which every number fits 64 bits.
+const MOST_SHORT_DIGITS: usize = 19;
 
 /// Why bytes are refused as a number.
 #[derive(Clone, Copy, PartialEq, Eq)]
@@ -25,8 +28,55 @@ pub fn read_dec(bytes: &[u8], max: u64) -> Result<u64, NumberError>
     ensures too_large { (result ≡ Err NumberError.TooLarge)
         ↔ ((n : ℕ) × (bytes.now ≡ canonical_decimal n) × (max < n)) }
 {
+    match short_number(bytes) {
+        Some(number) => {
+            if number <= max {
+                Ok(number)
+            } else {
+                Err(NumberError::TooLarge)
+            }
+        }
+        None => read_any_dec(bytes, max),
+    }
+}
+
+// The same, however many digits there are.
+#[inline(never)]
+fn read_any_dec(bytes: &[u8], max: u64) -> Result<u64, NumberError>
+    ensures number { IfOk result (λ n. (bytes.now ≡ canonical_decimal n) × (n ≤ max)) }
+    ensures reads { (n : ℕ) → n ≤ max → bytes.now ≡ canonical_decimal n → result ≡ Ok n }
+    ensures not_a_number { (result ≡ Err NumberError.NotANumber) ↔ (¬ IsDecimal bytes.now) }
+    ensures too_large { (result ≡ Err NumberError.TooLarge)
+        ↔ ((n : ℕ) × (bytes.now ≡ canonical_decimal n) × (max < n)) }
+{
     let number = read_up_to(bytes, u128::from(max))?;
     Ok(number as u64)
+}
+
+// The number of at most 19 digits of which the bytes are the canonical decimal: it fits 64 bits, so no step is tested.
+fn short_number(bytes: &[u8]) -> Option<u64>
+    ensures { IfSome result (λ n. (bytes.now ≡ canonical_decimal n) × (n < 2 ^ 64)) }
+{
+    let Some((first, rest)) = bytes.split_first() else {
+        return None;
+    };
+    if *first == b'0' {
+        if rest.is_empty() {
+            return Some(0);
+        }
+        return None;
+    }
+    if rest.len() >= MOST_SHORT_DIGITS {
+        return None;
+    }
+    let mut number: u64 = 0;
+    for byte in bytes {
+        if *byte < b'0' || b'9' < *byte {
+            return None;
+        }
+        number = number * 10 + u64::from(*byte - b'0');
+    }
+    Some(number)
 }
 
 // The same in 128 bits.
@@ -67,36 +117,8 @@ fn all_digits(bytes: &[u8]) -> bool
 }
 
 // The number of a canonical decimal, if it fits 128 bits.
-fn number_of(digits: &[u8]) -> Option<u128>
-    requires { IsDecimal digits.now }
-    ensures { MatchOption result
-        ((n : ℕ) × (digits.now ≡ canonical_decimal n) × (2 ^ 128 ≤ n))
-        (λ n. digits.now ≡ canonical_decimal n) }
-{
-    match small_number_of(digits) {
-        Some(number) => Some(u128::from(number)),
-        None => wide_number_of(digits),
-    }
-}
-
-// The same, if it fits 64 bits, in which the arithmetic takes far fewer instructions.
-fn small_number_of(digits: &[u8]) -> Option<u64>
-    requires { IsDecimal digits.now }
-    ensures { MatchOption result
-        ((n : ℕ) × (digits.now ≡ canonical_decimal n) × (2 ^ 64 ≤ n))
-        (λ n. digits.now ≡ canonical_decimal n) }
-{
-    let mut number: u64 = 0;
-    for digit in digits {
-        let tens = number.checked_mul(10)?;
-        number = tens.checked_add(u64::from(*digit - b'0'))?;
-    }
-    Some(number)
-}
-
-// The same in 128 bits.
 #[inline(never)]
-fn wide_number_of(digits: &[u8]) -> Option<u128>
+fn number_of(digits: &[u8]) -> Option<u128>
     requires { IsDecimal digits.now }
     ensures { MatchOption result
         ((n : ℕ) × (digits.now ≡ canonical_decimal n) × (2 ^ 128 ≤ n))
@@ -152,6 +174,20 @@ pub fn read_wide(bytes: &[u8]) -> Result<i128, NumberError>
 
 // The number from 0 up, of 127 bits at most.
 fn read_natural(bytes: &[u8]) -> Result<i128, NumberError>
+    ensures number { IfOk result (λ z. (n : ℕ) × (z ≡ pos n) × (bytes.now ≡ canonical_decimal n)) }
+    ensures not_a_number { (result ≡ Err NumberError.NotANumber) ↔ (¬ IsDecimal bytes.now) }
+    ensures too_large { (result ≡ Err NumberError.TooLarge)
+        ↔ ((n : ℕ) × (bytes.now ≡ canonical_decimal n) × (2 ^ 127 ≤ n)) }
+{
+    match short_number(bytes) {
+        Some(number) => Ok(i128::from(number)),
+        None => read_any_natural(bytes),
+    }
+}
+
+// The same, however many digits there are.
+#[inline(never)]
+fn read_any_natural(bytes: &[u8]) -> Result<i128, NumberError>
     ensures number { IfOk result (λ z. (n : ℕ) × (z ≡ pos n) × (bytes.now ≡ canonical_decimal n)) }
     ensures not_a_number { (result ≡ Err NumberError.NotANumber) ↔ (¬ IsDecimal bytes.now) }
     ensures too_large { (result ≡ Err NumberError.TooLarge)

@@ -4,7 +4,7 @@ use Rattle.std.proofs.lemmas.List.{take_all}
 use Rattle.cap_text.specs.Decimals.{canonical_decimal}
 use Rattle.cap_text.proofs.DecimalLaws.{decimal_value}
 use Rattle.cap_text.proofs.Spellings.{prefix_le, prefix_more, digit_range}
-use Rattle.cap_text.proofs.numbers.wide_number_of.Goals as goal
+use Rattle.cap_text.proofs.numbers.number_of.Goals as goal
 
 pub returns-in_err-tens : goal.returns-in_err-tens
 returns-in_err-tens c =
