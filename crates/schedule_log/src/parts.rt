@@ -15,6 +15,7 @@ use cap_text::Fields;
 use cap_word::{Stop, TrapKind};
 
 // Whether two texts are the same.
+#[inline(always)]
 pub fn is_same(text: &[u8], other: &[u8]) -> bool
     ensures { MatchBool result (text.now ≡ other.now) (text.now ≡ other.now → ⊥) }
 {
@@ -22,6 +23,7 @@ pub fn is_same(text: &[u8], other: &[u8]) -> bool
 }
 
 // A signed number that ends the line.
+#[inline(always)]
 pub fn last_signed(fields: &mut Fields) -> Option<i32>
     ensures found { IfSome result (λ z. (fields.old ≡ canonical_integer z ∷ []) × FitsSigned w32 z) }
     ensures none { IfNone result ((z : ℤ) → FitsSigned w32 z → fields.old ≡ canonical_integer z ∷ [] → ⊥) }
@@ -42,6 +44,7 @@ pub fn last_count(fields: &mut Fields) -> Option<u64>
 }
 
 // A number of 32 bits that ends the line.
+#[inline(always)]
 pub fn last_word(fields: &mut Fields) -> Option<u32>
     ensures found { IfSome result (λ n. (fields.old ≡ canonical_decimal n ∷ []) × (n < 2 ^ 32)) }
     ensures none { IfNone result ((n : ℕ) → n < 2 ^ 32 → fields.old ≡ canonical_decimal n ∷ [] → ⊥) }
@@ -52,6 +55,7 @@ pub fn last_word(fields: &mut Fields) -> Option<u32>
 }
 
 // A number of 32 bits and a signed one that ends the line.
+#[inline(always)]
 pub fn word_and_signed(fields: &mut Fields) -> Option<(u32, i32)>
     ensures found { IfSome result (λ pair. (fields.old ≡ canonical_decimal pair.0 ∷ canonical_integer pair.1 ∷ [])
         × (pair.0 < 2 ^ 32) × FitsSigned w32 pair.1) }
@@ -64,6 +68,7 @@ pub fn word_and_signed(fields: &mut Fields) -> Option<(u32, i32)>
 }
 
 // The cost of a segment and the free chunks after it, which end the line.
+#[inline(always)]
 pub fn read_segment(fields: &mut Fields) -> Option<(u64, u32)>
     ensures found { IfSome result (λ pair. (fields.old ≡ canonical_decimal pair.0 ∷ canonical_decimal pair.1 ∷ [])
         × (pair.0 < 2 ^ 64) × (pair.1 < 2 ^ 32)) }
@@ -76,6 +81,7 @@ pub fn read_segment(fields: &mut Fields) -> Option<(u64, u32)>
 }
 
 // An item, which ends the line.
+#[inline(always)]
 pub fn read_item(fields: &mut Fields) -> Option<Item>
     ensures found { IfSome result (SpellsItem fields.old) }
     ensures none { IfNone result (SpellsNoItem fields.old) }
@@ -93,6 +99,7 @@ pub fn read_item(fields: &mut Fields) -> Option<Item>
 }
 
 // A clock and an item, which end the line.
+#[inline(always)]
 pub fn clock_and_item(fields: &mut Fields) -> Option<(u64, Item)>
     ensures found { IfSome result (λ pair. (pair.0 < 2 ^ 64) × FitsItem pair.1
         × (fields.old ≡ canonical_decimal pair.0 ∷ item_fields pair.1)) }
@@ -161,6 +168,7 @@ pub fn read_cause(word: &[u8], fields: &mut Fields) -> Option<Stop>
 }
 
 // Why the run stopped, which ends the line.
+#[inline(never)]
 pub fn read_stop(fields: &mut Fields) -> Option<StopLine>
     ensures found { IfSome result (SpellsStop fields.old) }
     ensures none { IfNone result (SpellsNoStop fields.old) }

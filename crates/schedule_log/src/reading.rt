@@ -29,6 +29,7 @@ pub fn read_entry(line: &[u8]) -> Result<Entry, LogError>
     entry_of(line).ok_or(LogError::Line)
 }
 
+#[inline(always)]
 fn entry_of(line: &[u8]) -> Option<Entry>
     ensures found { IfSome result (λ entry. FitsEntry entry × (entry_text entry ≡ line.now)) }
     ensures none { IfNone result (¬ IsLogLine line.now) }
@@ -38,6 +39,7 @@ fn entry_of(line: &[u8]) -> Option<Entry>
     read_line(word, &mut fields)
 }
 
+#[inline(always)]
 fn read_line(word: &[u8], fields: &mut Fields) -> Option<Entry>
     ensures found { IfSome result (SpellsEntry word.now fields.old) }
     ensures none { IfNone result (SpellsNoEntry word.now fields.old) }
@@ -57,6 +59,7 @@ fn read_line(word: &[u8], fields: &mut Fields) -> Option<Entry>
 }
 
 // A line that is none of `run`, `out`, `block` and `end`.
+#[inline(always)]
 fn read_rare(word: &[u8], fields: &mut Fields) -> Option<Entry>
     requires run { word.now ≡ codes "run" → ⊥ }
     requires out { word.now ≡ codes "out" → ⊥ }
@@ -81,6 +84,7 @@ fn read_rare(word: &[u8], fields: &mut Fields) -> Option<Entry>
     }
 }
 
+#[inline(always)]
 fn read_run(fields: &mut Fields) -> Option<Entry>
     ensures found { IfSome result (SpellsEntry (codes "run") fields.old) }
     ensures none { IfNone result (SpellsNoEntry (codes "run") fields.old) }
@@ -95,6 +99,7 @@ fn read_run(fields: &mut Fields) -> Option<Entry>
     })
 }
 
+#[inline(always)]
 fn read_block(fields: &mut Fields) -> Option<Entry>
     ensures found { IfSome result (SpellsEntry (codes "block") fields.old) }
     ensures none { IfNone result (SpellsNoEntry (codes "block") fields.old) }
@@ -113,6 +118,7 @@ fn read_block(fields: &mut Fields) -> Option<Entry>
     })
 }
 
+#[inline(always)]
 fn read_end(fields: &mut Fields) -> Option<Entry>
     ensures found { IfSome result (SpellsEntry (codes "end") fields.old) }
     ensures none { IfNone result (SpellsNoEntry (codes "end") fields.old) }
