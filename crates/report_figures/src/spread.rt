@@ -1,4 +1,4 @@
-ghost use Rattle.std.specs.Prelude.{◌≡◌, ◌<◌, ◌≤◌, [], length, Some, IfOk, IfSome, IfNone, IsPermutation, OnOk, slice_get};
+ghost use Rattle.std.specs.Prelude.{◌≡◌, ◌<◌, ◌≤◌, [], length, Some, IfOk, IfSome, IfNone, IsPermutation, OnErr, OnOk, slice_get};
 ghost use Rattle.report_figures.specs.Ranks.{place_at, IsReadOff, IsSpread};
 ghost use Rattle.tick_lists.specs.Ticks.{ticks_in};
 
@@ -20,12 +20,13 @@ pub struct Spread {
     pub greatest: u64,
 }
 
-/// How the numbers are spread; there is none only where there are no numbers. It leaves them in order of size, and takes no memory
-/// while each is kept in 4 bytes.
+/// How the numbers are spread; there is none only where there are no numbers. It leaves them in order of size. It is refused only where
+/// a number is kept in 8 bytes, and takes no memory else.
 pub fn spread_of(numbers: &mut TickList) -> Result<Option<Spread>, AllocError>
     ensures spread { IfOk result (λ read. IfSome read (IsSpread (ticks_in numbers.old))) }
     ensures none { IfOk result (λ read. IfNone read (ticks_in numbers.old ≡ [])) }
     ensures same { OnOk result (IsPermutation (ticks_in numbers.old) (ticks_in numbers.new)) }
+    ensures refused { OnErr result (numbers.old.large.items ≡ [] → ⊥) }
 {
     numbers.sort()?;
     if numbers.len() == 0 {

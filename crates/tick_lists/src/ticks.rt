@@ -12,7 +12,7 @@ pub struct TickList {
 }
 
 impl TickList {
-    ghost use Rattle.std.specs.Prelude.{◌≡◌, ℕ, ◌<◌, ◌+◌, ◌-◌, ◌++◌, ◌∷◌, [], IfOk, IsPermutation, IsSorted, OnOk, get_or, length, set, slice_get};
+    ghost use Rattle.std.specs.Prelude.{◌≡◌, ℕ, ◌<◌, ◌+◌, ◌-◌, ◌++◌, ◌∷◌, [], IfOk, IsPermutation, IsSorted, OnErr, OnOk, get_or, length, set, slice_get};
     ghost use Rattle.std.specs.Ordering.{nat_cmp};
     ghost use Rattle.tick_lists.specs.Ticks.{ticks_in};
 
@@ -107,11 +107,13 @@ impl TickList {
         })
     }
 
-    /// Puts the numbers in order of size. It takes no memory while each is kept in 4 bytes. After a refusal nothing is said.
+    /// Puts the numbers in order of size. It is refused only where a number is kept in 8 bytes, and takes no memory else. After a
+    /// refusal nothing else is said.
     pub fn sort(&mut self) -> Result<(), AllocError>
         ensures same { OnOk result (IsPermutation (ticks_in self.old) (ticks_in self.new)) }
         ensures sorted { OnOk result (IsSorted nat_cmp (ticks_in self.new)) }
         ensures count { OnOk result (length (ticks_in self.new) ≡ length (ticks_in self.old)) }
+        ensures refused { OnErr result (self.old.large.items ≡ [] → ⊥) }
     {
         if self.large.is_empty() {
             self.small.sort_unstable();
