@@ -59,6 +59,7 @@ impl History {
     /// One entry more; the answer is what it tells. At the number of each site stands in `accepts` whether its call is `accept`.
     ///
     /// `Count` comes only where a clock or a count would be 2^64 or more, as in no run's log, and else `Memory`.
+    #[inline(always)]
     pub fn tell(&mut self, entry: &Entry, accepts: &[bool]) -> Result<Happening, HistoryError>
         ensures known { OnOk result (self.new ≡ with_entry accepts.now entry.now self.old) }
         ensures told { IfOk result (λ told. told ≡ happening accepts.now entry.now self.old) }
@@ -140,6 +141,7 @@ impl History {
     }
 
     /// A thread has blocked.
+    #[inline(always)]
     fn block(
         &mut self,
         thread: u32,

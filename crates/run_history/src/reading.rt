@@ -63,7 +63,7 @@ struct Course<'a> {
 /// The numbers of the run that has this log, with so many chunks, where these outputs are the answers. At the number of each site
 /// stands in `accepts` whether its call is `accept`. With a window the waits are those that ended in it. It keeps no entry: the log is read once, line by line, and `watch` sees each entry.
 ///
-/// A log is refused with `Line` exactly where a line that is read is no entry's.
+/// `Line` comes only where a line is no entry's and each line before it is an entry's. When `Count` or `Memory` comes isn't proved.
 pub fn numbers_of<W: Watch>(
     alloc: Global,
     log: &[u8],
@@ -116,6 +116,7 @@ impl<'a> Course<'a> {
     ghost use Rattle.run_history.specs.Sights.{Sight};
 
     /// One entry more.
+    #[inline(always)]
     fn take<W: Watch>(
         &mut self,
         entry: &Entry,
@@ -137,6 +138,7 @@ impl<'a> Course<'a> {
     }
 
     /// What that entry tells.
+    #[inline(always)]
     fn take_told<W: Watch>(
         &mut self,
         entry: &Entry,
