@@ -28,6 +28,7 @@ use run_history::{
 use schedule_log::{Entry, Item};
 use source_places::Places;
 use std::alloc::{AllocError, Global};
+use std::mem;
 use thread_core::World;
 use tick_lists::TickList;
 
@@ -91,6 +92,7 @@ impl<'a> Watch for Course<'a> {
 
     ghost has_seen = { λ _ _. ⊤ };
 
+    #[inline(always)]
     fn see(
         &mut self,
         entry: &Entry,
@@ -144,6 +146,7 @@ impl<'a> Course<'a> {
     }
 
     /// Takes one entry more, and what it tells; at a choice the gate is as it was before.
+    #[inline(always)]
     fn take(&mut self, entry: &Entry, told: Happening) -> Result<(), HistoryError> {
         match entry {
             Entry::Run { thread, clock, .. } => {
@@ -302,8 +305,8 @@ fn put_course(
         run.answering,
         &mut course,
     ) {
-        Ok(reading) => {
-            let put = put_numbers(alloc, text, places, run, &course, &reading);
+        Ok(mut reading) => {
+            let put = put_numbers(alloc, text, places, run, &course, &mut reading);
             drop(reading);
             match put {
                 Ok(left) => Ok(Found {
@@ -344,8 +347,10 @@ fn put_numbers(
     places: &Places,
     run: RunLog,
     course: &Course,
-    reading: &Reading,
+    reading: &mut Reading,
 ) -> Result<u64, Failure> {
+    let empty = TickList::new(alloc);
+    let mut firsts = mem::replace(&mut reading.numbers.answers.firsts, empty);
     let numbers = &reading.numbers;
     if !course.fits {
         text.words(FOREIGN);
@@ -353,7 +358,8 @@ fn put_numbers(
     put_window(text, run.window);
     put_pairing(text, run.answering);
     let scope = course.counts.scope(numbers, run.times);
-    let slowest = put_requests(alloc, text, scope, course.counts.dropped_in(numbers))?;
+    let dropped = course.counts.dropped_in(numbers);
+    let slowest = put_requests(text, scope, &mut firsts, dropped)?;
     put_unasked(text, &course.unasked);
     let asked = match run.request {
         Some(number) => Some(Asked::of(numbers, number)),
@@ -363,9 +369,10 @@ fn put_numbers(
         put_parts(alloc, text, places, scope, run.log, course.accepts, request)?;
     }
     text.words("waits by place: count, total, median, 99th, greatest\n");
-    put_queue(alloc, text, scope);
-    put_waits(text, places, numbers);
-    put_choices(text, numbers, course, run.decided);
+    put_queue(text, scope, &mut firsts);
+    drop(firsts);
+    put_waits(text, places, &mut reading.numbers.waits);
+    put_choices(text, &reading.numbers, course, run.decided);
     Ok(put_left(alloc, text, places, &reading.history, course, run.world))
 }
 

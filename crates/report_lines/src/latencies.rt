@@ -1,9 +1,10 @@
 use crate::lines::RequestsLine;
 use crate::requests::Asked;
 use crate::scopes::Scope;
+use crate::ticks::cut;
 use report_figures::spread_of;
 use report_text::Text;
-use std::alloc::{AllocError, Global};
+use std::alloc::AllocError;
 use tick_lists::TickList;
 
 /// How long a request took: from when it arrived to an answer, its number, and the thread that took it.
@@ -15,37 +16,50 @@ struct Latency {
     thread: u32,
 }
 
+/// A request that was answered: when it arrived, when its last answer was there, and the thread that took it.
+#[derive(Clone, Copy)]
+struct Taken {
+    arrived: u64,
+    last: u64,
+    thread: u32,
+}
+
 /// Appends the lines on requests, of which so many were dropped: how many came, were dropped, were taken and were answered, and how
 /// long that took, from a request's time in the trace to its first answer and to its last one. The answer is the request that took
 /// longest to its last answer, the earliest of such.
+///
+/// `firsts` has the clocks of the first answers, at the places of their requests. It is used up for the ticks, so that no list is
+/// made beside those of the run.
 pub fn put_requests(
-    alloc: Global,
     text: &mut Text,
     scope: Scope,
+    firsts: &mut TickList,
     dropped: u64,
 ) -> Result<Option<Asked>, AllocError> {
     let arrivals = scope.numbers.arrivals.len();
     let takes = scope.numbers.takers.len();
-    let mut ticks = TickList::new(alloc);
-    let slowest = add_latencies(&mut ticks, scope, false)?;
+    let slowest = to_latencies(firsts, scope)?;
     let line = RequestsLine {
         came: scope.count(arrivals),
         dropped,
         taken: scope.count(takes),
-        answered: ticks.len() as u64,
+        answered: firsts.len() as u64,
     };
     text.line(&line);
     text.words("\n");
-    put_latencies(text, FIRST, &mut ticks, slowest)?;
-    drop(ticks);
-    put_lasts(alloc, text, scope)
+    put_latencies(text, FIRST, firsts, slowest)?;
+    cut(firsts, 0);
+    put_lasts(text, scope, firsts)
 }
 
 /// Appends the line on latencies to the last answer. The answer is the request that took longest, the earliest of such.
-fn put_lasts(alloc: Global, text: &mut Text, scope: Scope) -> Result<Option<Asked>, AllocError> {
-    let mut ticks = TickList::new(alloc);
-    let slowest = add_latencies(&mut ticks, scope, true)?;
-    put_latencies(text, LAST, &mut ticks, slowest)?;
+fn put_lasts(
+    text: &mut Text,
+    scope: Scope,
+    ticks: &mut TickList,
+) -> Result<Option<Asked>, AllocError> {
+    let slowest = add_latencies(ticks, scope)?;
+    put_latencies(text, LAST, ticks, slowest)?;
     match slowest {
         Some(latency) => Ok(Some(Asked {
             request: latency.request as u64,
@@ -64,16 +78,56 @@ fn slower_of(before: Option<Latency>, latency: Latency) -> Option<Latency> {
     }
 }
 
-/// Adds how long each request that was answered took to its first answer, or to its last one. The answer is the one that took
+/// Puts in place of the clocks of the first answers how long each request took to its first answer. The answer is the one that took
 /// longest, the earliest of such.
-fn add_latencies(
-    ticks: &mut TickList,
-    scope: Scope,
-    to_last: bool,
-) -> Result<Option<Latency>, AllocError> {
+fn to_latencies(firsts: &mut TickList, scope: Scope) -> Result<Option<Latency>, AllocError> {
+    let mut slowest: Option<Latency> = None;
+    let mut count: usize = 0;
+    for request in 0..firsts.len() {
+        let first = firsts.at(request);
+        if let Some(
+            Taken {
+                arrived,
+                thread,
+                ..
+            },
+        ) = taken_of(scope, request)
+        {
+            let latency = Latency {
+                request,
+                ticks: first.saturating_sub(arrived),
+                arrived,
+                thread,
+            };
+            slowest = slower_of(slowest, latency);
+            if count < firsts.len() {
+                firsts.set(count, latency.ticks)?;
+                count += 1;
+            }
+        }
+    }
+    cut(firsts, count);
+    Ok(slowest)
+}
+
+/// Adds how long each request that was answered took to its last answer. The answer is the one that took longest, the earliest of such.
+fn add_latencies(ticks: &mut TickList, scope: Scope) -> Result<Option<Latency>, AllocError> {
     let mut slowest: Option<Latency> = None;
     for request in 0..scope.numbers.answers.len() {
-        if let Some(latency) = latency_of(scope, request, to_last) {
+        if let Some(
+            Taken {
+                arrived,
+                last,
+                thread,
+            },
+        ) = taken_of(scope, request)
+        {
+            let latency = Latency {
+                request,
+                ticks: last.saturating_sub(arrived),
+                arrived,
+                thread,
+            };
             slowest = slower_of(slowest, latency);
             ticks.push(latency.ticks)?;
         }
@@ -81,22 +135,18 @@ fn add_latencies(
     Ok(slowest)
 }
 
-/// How long the request of that number took to its first answer, or to its last one; none where it has none.
-fn latency_of(scope: Scope, request: usize, to_last: bool) -> Option<Latency> {
+/// The request of that number, where it is told of and was answered.
+fn taken_of(scope: Scope, request: usize) -> Option<Taken> {
     let arrived = scope.arrived(request)?;
     match (
         scope.numbers.answers.get(request),
         scope.numbers.takers.as_slice().get(request),
     ) {
-        (Some(given), Some(thread)) => {
-            let answered = if to_last { given.last } else { given.first };
-            Some(Latency {
-                request,
-                ticks: answered.saturating_sub(arrived),
-                arrived,
-                thread: *thread,
-            })
-        }
+        (Some(given), Some(thread)) => Some(Taken {
+            arrived,
+            last: given.last,
+            thread: *thread,
+        }),
         _ => None,
     }
 }

@@ -12,6 +12,7 @@ mod lines;
 mod queues;
 mod requests;
 mod scopes;
+mod ticks;
 mod told;
 mod unasked;
 mod waits;

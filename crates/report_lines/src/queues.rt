@@ -1,8 +1,9 @@
 use crate::scopes::Scope;
+use crate::ticks::cut;
 use crate::waits::put_part;
 use report_text::Text;
 use run_history::{Queued, queued_of};
-use std::alloc::{AllocError, Global};
+use std::alloc::AllocError;
 use tick_lists::TickList;
 
 /// The request that was queued longest: its number, from 0, and how it was queued.
@@ -13,8 +14,10 @@ struct Longest {
 }
 
 /// Appends the row on how long requests were queued, from their arrival to the `accept` that took them; nothing where none was taken.
-pub fn put_queue(alloc: Global, text: &mut Text, scope: Scope) {
-    if put_row(alloc, text, scope).is_err() {
+/// The ticks are put into `room`, in place of what is there.
+pub fn put_queue(text: &mut Text, scope: Scope, room: &mut TickList) {
+    cut(room, 0);
+    if put_row(text, scope, room).is_err() {
         text.lack()
     }
 }
@@ -50,13 +53,12 @@ pub(crate) fn ticks_of(queued: Queued) -> u64 {
 }
 
 /// Appends the row.
-fn put_row(alloc: Global, text: &mut Text, scope: Scope) -> Result<(), AllocError> {
-    let mut ticks = TickList::new(alloc);
-    let Some(longest) = add_queued(&mut ticks, scope)? else {
+fn put_row(text: &mut Text, scope: Scope, ticks: &mut TickList) -> Result<(), AllocError> {
+    let Some(longest) = add_queued(ticks, scope)? else {
         return Ok(());
     };
     text.words("  queue, from arrival to accept: ");
-    put_part(text, &mut ticks)?;
+    put_part(text, ticks)?;
     text.form(
         " (request $, thread $, until $)\n",
         &[

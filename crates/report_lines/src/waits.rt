@@ -1,14 +1,14 @@
 use crate::lines::WaitsPart;
 use report_figures::{spread_of, total_of};
 use report_text::Text;
-use run_history::{Numbers, SiteWaits};
+use run_history::{SiteWaits, WaitLists};
 use source_places::Places;
 use std::alloc::AllocError;
 use tick_lists::TickList;
 
-/// Appends the rows of waits by the place at which threads waited.
-pub fn put_waits(text: &mut Text, places: &Places, numbers: &Numbers) {
-    for (site, waits) in &numbers.waits.sites {
+/// Appends the rows of waits by the place at which threads waited. It leaves the waits of each in order of size.
+pub fn put_waits(text: &mut Text, places: &Places, lists: &mut WaitLists) {
+    for (site, waits) in &mut lists.sites {
         if put_site_waits(text, places, *site, waits).is_err() {
             text.lack()
         }
@@ -20,13 +20,12 @@ fn put_site_waits(
     text: &mut Text,
     places: &Places,
     site: u32,
-    waits: &SiteWaits,
+    waits: &mut SiteWaits,
 ) -> Result<(), AllocError> {
-    let mut ticks = waits.ticks.copy()?;
     text.words("  ");
     places.put_site(text, site);
     text.words(": ");
-    put_part(text, &mut ticks)?;
+    put_part(text, &mut waits.ticks)?;
     let longest = waits.longest;
     text.form(
         " (thread $, until $)\n",
