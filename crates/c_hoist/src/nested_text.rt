@@ -1,20 +1,25 @@
 // From the bytes of a source to a program.
-ghost use Rattle.std.specs.Prelude.{◌≡◌, ◌≢◌, ◌≤◌, ◌⊎◌, length, IfOk, IfErr, IsErrOf, MatchResult};
+ghost use Rattle.std.specs.Prelude.{◌≡◌, ◌≢◌, ◌≤◌, ◌⊎◌, ◌∷◌, ◌++◌, [], List, length, IfOk, OnOk, IfErr, IsErrOf, MatchResult};
+ghost use Rattle.c_tree.specs.RawTrees.{RawItemTree};
 ghost use Rattle.c_tree.specs.Trees.{ProgramTree};
 ghost use Rattle.c_tree.specs.ProgramView.{program_tree};
 ghost use Rattle.c_tree.specs.RawProgramView.{raw_program_tree};
-ghost use Rattle.c_tree.specs.WholeCalls.{AreCallsWhole};
-ghost use Rattle.whole_calls.specs.WholeForParts.{AreForPartsWhole};
-ghost use Rattle.hoist_parts.specs.Statements.{items_hoisted};
+ghost use Rattle.c_tree.specs.RawViews.{raw_item_tree, raw_item_trees};
+ghost use Rattle.whole_calls.specs.WholeForParts.{IsItemForWhole, AreForPartsWhole};
+ghost use Rattle.grammar_places.specs.Nested.{is_call};
+ghost use Rattle.grammar_places.specs.Places.{item_places, items_places};
+ghost use Rattle.scope_rules.specs.Reading.{HasRead};
+ghost use Rattle.hoist_parts.specs.Statements.{item_hoisted, items_hoisted};
 ghost use Rattle.c_hoist.specs.NestedText.{IsHoistedTo, IsRefusedHoisted, ReadsNested, IsNestedSourceErrorOf, MeansText};
 
 use c_lex::lex;
 use c_parse::parse_nested;
 use c_scope::{SourceError, of_lex, of_parse, of_scope};
-use c_tree::{Program, RawProgram};
-use call_numbers::site_numbers;
-use hoist_rules::hoist;
-use scope_rules::{ScopeError, resolve_numbered};
+use c_tree::{Program, RawItem, RawProgram};
+use call_numbers::numbers_by_places;
+use call_places::add_places_of_calls;
+use hoist_rules::hoist_item;
+use scope_rules::{Resolver, ScopeError};
 use std::alloc::{AllocError, Global};
 
 /// The program that a source of at most 1,048,576 bytes is, where a call may stand inside an expression everywhere but in the
@@ -63,28 +68,58 @@ fn read(alloc: Global, source: &[u8]) -> Result<Program, SourceError>
     }
 }
 
-// The rewritten tree. It frees the tree as it is read.
-fn rewritten(alloc: Global, raw: RawProgram) -> Result<RawProgram, AllocError>
-    requires { AreForPartsWhole (raw_program_tree raw) }
-    ensures rewritten { IfOk result (λ p. raw_program_tree p ≡ items_hoisted (raw_program_tree raw)) }
-    ensures whole { IfOk result (λ p. AreCallsWhole (raw_program_tree p)) }
-{
-    Ok(hoist(alloc, &raw)?)
+// What the rewritten items of a source make, and the places of their calls, in the order of the rewritten tree.
+#[derive(Drop)]
+struct Rewritten {
+    resolver: Resolver,
+    places: Vec<u32>,
 }
 
-// The program of the rewritten tree, or a refusal of it.
+impl Rewritten {
+    // One more item. What it is rewritten to is freed.
+    fn item(&mut self, alloc: Global, raw: &RawItem) -> Result<(), AllocError>
+        requires { IsItemForWhole (raw_item_tree raw.now) }
+        ensures read { OnOk result ((all read : List RawItemTree) → HasRead self.old.resolver all read → HasRead self.new.resolver all (read ++ item_hoisted (raw_item_tree raw.now) ∷ [])) }
+        ensures places { OnOk result (self.new.places.items ≡ self.old.places.items ++ item_places is_call (item_hoisted (raw_item_tree raw.now))) }
+    {
+        let hoisted = hoist_item(alloc, raw)?;
+        add_places_of_calls(&mut self.places, &hoisted)?;
+        self.resolver.item(&hoisted)?;
+        Ok(())
+    }
+}
+
+// What the items make, each of which is rewritten and resolved before the next is.
+fn rewritten(alloc: Global, raw: &[RawItem]) -> Result<Rewritten, AllocError>
+    requires { AreForPartsWhole (raw_item_trees raw.now) }
+    ensures read { IfOk result (λ w. HasRead w.resolver (items_hoisted (raw_item_trees raw.now)) (items_hoisted (raw_item_trees raw.now))) }
+    ensures places { IfOk result (λ w. w.places.items ≡ items_places is_call (items_hoisted (raw_item_trees raw.now))) }
+{
+    let mut rewritten = Rewritten {
+        resolver: Resolver::new(alloc, raw)?,
+        places: Vec::new(alloc),
+    };
+    for item in raw {
+        rewritten.item(alloc, item)?;
+    }
+    Ok(rewritten)
+}
+
+// The program of the rewritten tree, or a refusal of it. It frees the tree as it is read.
 fn resolve_hoisted(alloc: Global, raw: RawProgram) -> Result<Program, ScopeError>
     requires { AreForPartsWhole (raw_program_tree raw) }
     ensures resolved { IfOk result (λ p. IsHoistedTo (raw_program_tree raw) (program_tree p)) }
     ensures refused { IfErr result (λ e. IsRefusedHoisted (raw_program_tree raw) e) }
 {
-    let Ok(hoisted) = rewritten(alloc, raw) else {
+    let Ok(Rewritten { resolver, places }) = rewritten(alloc, raw.items()) else {
         return Err(ScopeError::Memory);
     };
-    let Ok(numbers) = site_numbers(alloc, &hoisted) else {
+    drop(raw);
+    let Ok(numbers) = numbers_by_places(alloc, &places) else {
         return Err(ScopeError::Memory);
     };
-    match resolve_numbered(alloc, &hoisted, &numbers) {
+    drop(places);
+    match resolver.finish(alloc, &numbers) {
         Ok(program) => Ok(program),
         Err(error) => Err(error),
     }

@@ -1,11 +1,10 @@
 // The numbers of a tree's calls, by the places of their names.
 //
-// `site_numbers` takes a tree and returns, for each call in the order of the tree, how many calls
-// have their names earlier in the text (specs/Ranks.antt of `grammar_places`). The places are those
-// of `call_places`. `c_hoist` gives these numbers to the calls of a rewritten tree, in which calls
-// aren't in the order of the text.
+// `numbers_by_places` takes the places of the calls' names, in the order of the tree (`call_places`),
+// and returns for each how many are less (specs/Ranks.antt of `grammar_places`). `c_hoist` gives
+// these numbers to the calls of a rewritten tree, in which calls aren't in the order of the text.
 #![tactic(auto)]
 
 mod numbers;
 
-pub use numbers::site_numbers;
+pub use numbers::numbers_by_places;

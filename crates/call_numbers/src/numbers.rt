@@ -1,27 +1,23 @@
 // The numbers of calls by the places of their names.
 ghost use Rattle.std.specs.Prelude.{◌≡◌, ◌<◌, ◌^◌, ℕ, length, slice_index, EachIndex, IfOk};
-ghost use Rattle.c_tree.specs.RawProgramView.{raw_program_tree};
 ghost use Rattle.c_tree.specs.WellScoped.{AreSiteNumbers};
-ghost use Rattle.grammar_places.specs.Ranks.{lesser, ranks, site_numbers};
+ghost use Rattle.grammar_places.specs.Ranks.{lesser, ranks};
 
-use c_tree::RawProgram;
-use call_places::places_of_calls;
 use std::alloc::{AllocError, Global};
 
-/// The number of each call of a tree, in the order of the tree: how many calls have their names before its name in the text.
+/// The number of each call, by the places of the calls' names, in the order of the tree: how many of the places are less.
 ///
 /// # Errors
 ///
-/// There is no room for them, or there are 2^32 calls or more.
-pub fn site_numbers(alloc: Global, raw: &RawProgram) -> Result<Vec<u32>, AllocError>
-    ensures numbers { IfOk result (λ ns. ns.items ≡ site_numbers (raw_program_tree raw.now)) }
+/// There is no room for them, or there are 2^32 places or more.
+pub fn numbers_by_places(alloc: Global, places: &[u32]) -> Result<Vec<u32>, AllocError>
+    ensures numbers { IfOk result (λ ns. ns.items ≡ ranks places.now) }
     ensures distinct { IfOk result (λ ns. AreSiteNumbers ns.items) }
 {
-    let places = places_of_calls(alloc, raw)?;
     if places.len() > u32::MAX as usize {
         return Err(AllocError);
     }
-    let numbers = ranks(alloc, &places)?;
+    let numbers = ranks(alloc, places)?;
     Ok(numbers)
 }
 

@@ -22,12 +22,13 @@ fn add_items(places: &mut Vec<u32>, items: &[RawItem]) -> Result<(), AllocError>
     ensures { OnOk result (places.new.items ≡ places.old.items ++ items_places is_call (raw_item_trees items.now)) }
 {
     for item in items {
-        add_item(places, item)?;
+        add_places_of_calls(places, item)?;
     }
     Ok(())
 }
 
-fn add_item(places: &mut Vec<u32>, item: &RawItem) -> Result<(), AllocError>
+/// Adds the places of the calls of one item, in the order of the tree.
+pub fn add_places_of_calls(places: &mut Vec<u32>, item: &RawItem) -> Result<(), AllocError>
     ensures { OnOk result (places.new.items ≡ places.old.items ++ item_places is_call (raw_item_tree item.now)) }
 {
     match item {

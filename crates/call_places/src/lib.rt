@@ -3,10 +3,11 @@
 // In: the tree of a source. Out: the place of each call's name, in the order of the tree. Sites are
 // numbered from 0 in the order of the text, which is the same (`places_rise` of `grammar_places`),
 // so the place of a site is the element at its number; `put`, `give`, `self`, `spawn` and the
-// blocking calls count like any other. `call_numbers` and `source_places` use the clause of
-// `places_of_calls` over `items_places` of `grammar_places`.
+// blocking calls count like any other. `source_places` uses the clause of `places_of_calls` over
+// `items_places` of `grammar_places`; `c_hoist` takes the places item by item, by
+// `add_places_of_calls`.
 #![tactic(auto)]
 
 mod calls;
 
-pub use calls::places_of_calls;
+pub use calls::{add_places_of_calls, places_of_calls};

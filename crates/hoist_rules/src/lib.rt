@@ -1,7 +1,7 @@
 // Moves calls inside expressions before their statements.
 //
-// `hoist` takes the tree of a source in which every call in the parentheses of a `for` is whole,
-// and returns a tree in which every call is whole. A call that isn't whole goes before its
+// `hoist_item` takes an item of a source in which every call in the parentheses of a `for` is whole,
+// and returns one in which every call is whole. A call that isn't whole goes before its
 // statement, as the declaration of a new name; so does what is evaluated before it, so that
 // evaluation stays from left to right (`hoist_parts`: specs/Expressions.antt, Statements.antt). New
 // names begin with a digit. `c_hoist` uses it between the readings into a tree and into a program.
@@ -25,4 +25,4 @@ pub use examples::{
     indexes_go_before, left_parts_have_names, logical_operators_decide, loops_test_calls,
     spawned_function_stays, tables_go_before, whole_calls_stay,
 };
-pub use programs::hoist;
+pub use programs::hoist_item;

@@ -1,36 +1,23 @@
-// The rewriting of a whole source.
+// The rewriting of what a source declares and defines outside functions.
 ghost use Rattle.std.specs.Prelude.{◌≡◌, map, option_map, IfOk};
-ghost use Rattle.c_tree.specs.RawViews.{name_tree, raw_stmt_trees, raw_item_tree, raw_item_trees};
-ghost use Rattle.c_tree.specs.RawProgramView.{raw_program_tree};
-ghost use Rattle.c_tree.specs.WholeCalls.{AreCallsWhole};
-ghost use Rattle.whole_calls.specs.WholeForParts.{AreForsWhole, IsItemForWhole, AreForPartsWhole};
-ghost use Rattle.hoist_parts.specs.Statements.{item_hoisted, items_hoisted};
+ghost use Rattle.c_tree.specs.RawViews.{name_tree, raw_stmt_trees, raw_item_tree};
+ghost use Rattle.c_tree.specs.WholeCalls.{IsItemWhole};
+ghost use Rattle.whole_calls.specs.WholeForParts.{AreForsWhole, IsItemForWhole};
+ghost use Rattle.hoist_parts.specs.Statements.{item_hoisted};
 
 use crate::built::copied;
 use crate::hoisting::Hoisting;
-use c_tree::{Name, RawFunction, RawItem, RawProgram, RawPrototype, RawTable};
+use c_tree::{Name, RawFunction, RawItem, RawPrototype, RawTable};
 use std::alloc::{AllocError, Global};
 
-/// The source in which every call is whole, of one in which every call in the parentheses of a `for` is: each other call that isn't
+/// The item in which every call is whole, of one in which every call in the parentheses of a `for` is: each other call that isn't
 /// whole goes before its statement, as the declaration of a name that no source has, and so does what is evaluated before it.
-pub fn hoist(alloc: Global, raw: &RawProgram) -> Result<RawProgram, AllocError>
-    requires { AreForPartsWhole (raw_program_tree raw.now) }
-    ensures rewritten { IfOk result (λ p. raw_program_tree p ≡ items_hoisted (raw_program_tree raw.now)) }
-    ensures whole { IfOk result (λ p. AreCallsWhole (raw_program_tree p)) }
+pub fn hoist_item(alloc: Global, raw: &RawItem) -> Result<RawItem, AllocError>
+    requires { IsItemForWhole (raw_item_tree raw.now) }
+    ensures rewritten { IfOk result (λ i. raw_item_tree i ≡ item_hoisted (raw_item_tree raw.now)) }
+    ensures whole { IfOk result (λ i. IsItemWhole (raw_item_tree i)) }
 {
-    let items = items_of(alloc, raw.items())?;
-    Ok(RawProgram::new(items))
-}
-
-fn items_of(alloc: Global, raw: &[RawItem]) -> Result<Vec<RawItem>, AllocError>
-    requires { AreForPartsWhole (raw_item_trees raw.now) }
-    ensures { IfOk result (λ is. raw_item_trees is.items ≡ items_hoisted (raw_item_trees raw.now)) }
-{
-    let mut items = Vec::new(alloc);
-    for item in raw {
-        items.push(item_of(alloc, item)?)?;
-    }
-    Ok(items)
+    Ok(item_of(alloc, raw)?)
 }
 
 fn item_of(alloc: Global, raw: &RawItem) -> Result<RawItem, AllocError>

@@ -1,3 +1,4 @@
+pub mod TextKeys
 pub mod Links
 pub mod Least
 pub mod Chains
@@ -33,4 +34,5 @@ pub mod OneOutcome
 pub mod MappedLists
 pub mod NumberedLists
 pub mod Made
+pub mod ReadItems
 pub mod HeldValues

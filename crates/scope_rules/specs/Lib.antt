@@ -13,3 +13,4 @@ pub mod ItemViews
 pub mod Limits
 pub mod Outcomes
 pub mod Numbered
+pub mod Reading

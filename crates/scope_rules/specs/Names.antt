@@ -1,10 +1,10 @@
 -- The names in scope at a place, and what a name is there.
-use Rattle.std.specs.Prelude.{ℕ, ◌≡◌, List, [], ◌∷◌, length, map, Option, Some, None, if◌then◌else◌}
+use Rattle.std.specs.Prelude.{ℕ, ◌≡◌, ◌≢◌, List, [], ◌∷◌, length, map, Option, Some, None, if◌then◌else◌}
 use Rattle.std.specs.Str.{bytes_eq}
 use Rattle.std.specs.Cmp.Lexicographic.{slice_cmp}
 use Rattle.std.specs.Ordering.{nat_cmp}
-use Rattle.std.specs.BTreeMap.{BTreeMap, get_by}
-use Rattle.std.specs.Borrow.{Bor}
+use Rattle.std.specs.BTreeMap.{BTreeMap, get_by, UpdatesBy}
+use Rattle.std.specs.Global.{Vec}
 use Rattle.scope_rules.specs.declared.meanings.Meaning.{Meaning}
 use Rattle.scope_rules.specs.declared.meanings.Found.{Found}
 use Rattle.scope_rules.specs.declared.names.Declared.{Declared}
@@ -20,13 +20,21 @@ find t [] = None
 find t (b ∷ bs) = if bytes_eq b.text t then Some (record { position = length bs; meaning = b.meaning }) else find t bs
 
 abbrev pub binding_of : Declared → Binding
-binding_of d = record { text = d.text.now; meaning = d.found.meaning }
+binding_of d = record { text = d.text.items; meaning = d.found.meaning }
 
 -- each entry tells how many names were there before it, and what its name was
 abbrev pub AreLinked : List Declared → Type 0
 AreLinked [] = Unit {0}
-AreLinked (d ∷ ds) = (d.found.position ≡ length ds) × (d.hidden ≡ find d.text.now (map binding_of ds)) × AreLinked ds
+AreLinked (d ∷ ds) = (d.found.position ≡ length ds) × (d.hidden ≡ find d.text.items (map binding_of ds)) × AreLinked ds
 
 -- the map finds what each name is
-abbrev pub Finds : BTreeMap (Bor (List ℕ)) Found → List Binding → Type 0
-Finds m bs = (t : List ℕ) → get_by (λ k. slice_cmp nat_cmp t k.now) m ≡ find t bs
+abbrev pub Finds : BTreeMap (Vec ℕ) Found → List Binding → Type 0
+Finds m bs = (t : List ℕ) → get_by (λ k. slice_cmp nat_cmp t k.items) m ≡ find t bs
+
+-- the map finds something by this text
+abbrev pub IsThere : List ℕ → BTreeMap (Vec ℕ) Found → Type 0
+IsThere t m = get_by (λ k. slice_cmp nat_cmp t k.items) m ≢ None
+
+-- n finds w by this text, and by each other what m finds
+abbrev pub Changes : List ℕ → BTreeMap (Vec ℕ) Found → BTreeMap (Vec ℕ) Found → Option Found → Type 0
+Changes t m n w = UpdatesBy (λ x y. slice_cmp nat_cmp x.items y.items) (λ k. slice_cmp nat_cmp t k.items) m n w

@@ -143,7 +143,7 @@ fn number_site(site: &mut u32) -> u32
     number
 }
 
-impl<'a> Place<'a> {
+impl Place {
     /// A call without an index, whose result is used or dropped.
     pub fn call(
         &mut self,

@@ -28,9 +28,9 @@ use std::mem;
 
 /// What the items so far make, and the functions that the source defines.
 #[derive(Drop)]
-pub struct Items<'a> {
-    pub place: Place<'a>,
-    pub definitions: Names<'a>,
+pub struct Items {
+    pub place: Place,
+    pub definitions: Names,
     pub globals: Vec<GlobalFact>,
     pub tables: Vec<TableFact>,
     pub functions: Vec<Function>,
@@ -130,11 +130,11 @@ fn is_defined(found: Option<Found>) -> bool
 }
 
 // A parameter of a prototype, which may have a name.
-fn prototype_name<'a>(
-    names: &mut Names<'a>,
+fn prototype_name(
+    names: &mut Names,
     least: &mut Option<Fault>,
     outer: usize,
-    param: &'a Option<Name>,
+    param: &Option<Name>,
 ) -> Result<(), AllocError>
     ensures names { OnOk result (names.new ≡ param_bound names.old (option_map name_tree param.now)) }
     ensures faults { OnOk result (least.new ≡ least_of least.old (param_faults names.old outer (option_map name_tree param.now))) }
@@ -153,10 +153,10 @@ fn prototype_name<'a>(
 }
 
 // The names in a prototype's parentheses.
-fn prototype_names<'a>(
-    names: &mut Names<'a>,
+fn prototype_names(
+    names: &mut Names,
     least: &mut Option<Fault>,
-    params: &'a [Option<Name>],
+    params: &[Option<Name>],
 ) -> Result<(), AllocError>
     ensures names { OnOk result (names.new ≡ names.old) }
     ensures faults { OnOk result (least.new ≡ least_of least.old (prototype_faults names.old (length names.old) (map (option_map name_tree) params.now))) }
@@ -199,7 +199,7 @@ fn members(
     Ok(members)
 }
 
-impl<'a> Place<'a> {
+impl Place {
     // The members of a table, by their numbers.
     fn table_members(&mut self, raw: &[Name]) -> Result<Vec<u32>, AllocError>
         ensures tree { IfOk result (λ fs. fs.items ≡ members_of self.old.names (map name_tree raw.now)) }
@@ -210,7 +210,7 @@ impl<'a> Place<'a> {
     }
 
     // The names in a prototype's parentheses.
-    fn prototype_params(&mut self, raw: &'a [Option<Name>]) -> Result<(), AllocError>
+    fn prototype_params(&mut self, raw: &[Option<Name>]) -> Result<(), AllocError>
         ensures place { OnOk result (spot_of self.new ≡ spot_of self.old) }
         ensures faults { OnOk result (self.new.least ≡ least_of self.old.least (prototype_faults self.old.names (length self.old.names) (map (option_map name_tree) raw.now))) }
     {
@@ -218,7 +218,7 @@ impl<'a> Place<'a> {
     }
 
     // The parameters of a definition.
-    fn params(&mut self, raw: &'a [Name]) -> Result<(), AllocError>
+    fn params(&mut self, raw: &[Name]) -> Result<(), AllocError>
         ensures place { OnOk result (spot_of self.new ≡ params_after (spot_of self.old) (map name_tree raw.now)) }
         ensures faults { OnOk result (self.new.least ≡ least_of self.old.least (params_faults (spot_of self.old) (map name_tree raw.now))) }
     {
@@ -230,7 +230,7 @@ impl<'a> Place<'a> {
     }
 
     // The parameters and the body of a definition, whose name is in scope already.
-    fn function_body(&mut self, raw: &'a RawFunction) -> Result<Vec<Stmt>, AllocError>
+    fn function_body(&mut self, raw: &RawFunction) -> Result<Vec<Stmt>, AllocError>
         ensures tree { IfOk result (λ ss. stmt_trees ss.items ≡ stmts_of (params_after (unsized (spot_of self.old)) (map name_tree raw.now.params.items)) (raw_stmt_trees raw.now.body.items)) }
         ensures place { OnOk result (spot_of self.new ≡ left (spot_of self.old) (stmts_after (params_after (unsized (spot_of self.old)) (map name_tree raw.now.params.items)) (raw_stmt_trees raw.now.body.items))) }
         ensures faults { OnOk result (self.new.least ≡ least_of self.old.least (params_faults (unsized (spot_of self.old)) (map name_tree raw.now.params.items) ++ stmts_faults raw.now.gives false (params_after (unsized (spot_of self.old)) (map name_tree raw.now.params.items)) (raw_stmt_trees raw.now.body.items))) }
@@ -245,7 +245,7 @@ impl<'a> Place<'a> {
 }
 
 // Adds the function that an item defines, if it defines one.
-fn define<'a>(definitions: &mut Names<'a>, item: &'a RawItem) -> Result<(), AllocError>
+fn define(definitions: &mut Names, item: &RawItem) -> Result<(), AllocError>
     ensures { OnOk result (definitions.new ≡ with_definition definitions.old (raw_item_tree item.now)) }
 {
     match item {
@@ -266,7 +266,7 @@ fn define<'a>(definitions: &mut Names<'a>, item: &'a RawItem) -> Result<(), Allo
 }
 
 /// The functions that a source defines.
-pub fn definitions<'a>(alloc: Global, raw: &'a [RawItem]) -> Result<Names<'a>, AllocError>
+pub fn definitions(alloc: Global, raw: &[RawItem]) -> Result<Names, AllocError>
     ensures { IfOk result (λ ds. ds ≡ definitions (raw_item_trees raw.now)) }
 {
     let mut definitions = Names::new(alloc);
@@ -277,7 +277,7 @@ pub fn definitions<'a>(alloc: Global, raw: &'a [RawItem]) -> Result<Names<'a>, A
 }
 
 // The names of the modelled calls and of `spawn`.
-fn modelled_names<'a>(alloc: Global) -> Result<Names<'a>, AllocError>
+fn modelled_names(alloc: Global) -> Result<Names, AllocError>
     ensures { IfOk result (λ names. names ≡ modelled_names) }
 {
     let mut names = Names::new(alloc);
@@ -287,11 +287,11 @@ fn modelled_names<'a>(alloc: Global) -> Result<Names<'a>, AllocError>
     names.with(b"spawn", Meaning::Spawn)
 }
 
-impl<'a> Items<'a> {
+impl Items {
     /// No items, in a source with these definitions.
-    pub fn new(alloc: Global, definitions: Names<'a>) -> Result<Items<'a>, AllocError>
+    pub fn new(alloc: Global, definitions: Names) -> Result<Items, AllocError>
         ensures sofar { IfOk result (λ w. sofar_of w ≡ at_start) }
-        ensures definitions { IfOk result (λ w. w.definitions ≡ definitions.entry) }
+        ensures definitions { IfOk result (λ w. w.definitions ≡ definitions) }
         ensures faults { IfOk result (λ w. w.place.least ≡ None) }
         ensures counted { IfOk result (λ w. IsCounted w) }
     {
@@ -326,13 +326,7 @@ impl<'a> Items<'a> {
     }
 
     // A global of so many words, each of which starts at `start`.
-    fn global(
-        &mut self,
-        name: &'a Name,
-        array: bool,
-        words: u32,
-        start: u32,
-    ) -> Result<(), AllocError>
+    fn global(&mut self, name: &Name, array: bool, words: u32, start: u32) -> Result<(), AllocError>
         ensures sofar { OnOk result (sofar_of self.new ≡ with_global (sofar_of self.old) (name_tree name.now) array (record { words = words; start = start })) }
         ensures definitions { OnOk result (self.new.definitions ≡ self.old.definitions) }
         ensures faults { OnOk result (self.new.place.least ≡ self.old.place.least) }
@@ -349,7 +343,7 @@ impl<'a> Items<'a> {
     }
 
     // A table.
-    fn table(&mut self, raw: &'a RawTable) -> Result<(), AllocError>
+    fn table(&mut self, raw: &RawTable) -> Result<(), AllocError>
         ensures sofar { OnOk result (sofar_of self.new ≡ item_after self.old.definitions (sofar_of self.old) (raw_item_tree (RawItem.Table raw.now))) }
         ensures definitions { OnOk result (self.new.definitions ≡ self.old.definitions) }
         ensures faults { OnOk result (self.new.place.least ≡ least_of self.old.place.least (item_faults self.old.definitions (sofar_of self.old) (raw_item_tree (RawItem.Table raw.now)))) }
@@ -370,7 +364,7 @@ impl<'a> Items<'a> {
     }
 
     // A prototype.
-    fn prototype(&mut self, raw: &'a RawPrototype) -> Result<(), AllocError>
+    fn prototype(&mut self, raw: &RawPrototype) -> Result<(), AllocError>
         ensures sofar { OnOk result (sofar_of self.new ≡ item_after self.old.definitions (sofar_of self.old) (raw_item_tree (RawItem.Prototype raw.now))) }
         ensures definitions { OnOk result (self.new.definitions ≡ self.old.definitions) }
         ensures faults { OnOk result (self.new.place.least ≡ least_of self.old.place.least (item_faults self.old.definitions (sofar_of self.old) (raw_item_tree (RawItem.Prototype raw.now)))) }
@@ -396,7 +390,7 @@ impl<'a> Items<'a> {
     }
 
     // A definition.
-    fn function(&mut self, raw: &'a RawFunction) -> Result<(), AllocError>
+    fn function(&mut self, raw: &RawFunction) -> Result<(), AllocError>
         ensures sofar { OnOk result (sofar_of self.new ≡ item_after self.old.definitions (sofar_of self.old) (raw_item_tree (RawItem.Function raw.now))) }
         ensures definitions { OnOk result (self.new.definitions ≡ self.old.definitions) }
         ensures faults { OnOk result (self.new.place.least ≡ least_of self.old.place.least (item_faults self.old.definitions (sofar_of self.old) (raw_item_tree (RawItem.Function raw.now)))) }
@@ -432,7 +426,7 @@ impl<'a> Items<'a> {
     }
 
     /// One more item.
-    pub fn item(&mut self, raw: &'a RawItem) -> Result<(), AllocError>
+    pub fn item(&mut self, raw: &RawItem) -> Result<(), AllocError>
         ensures sofar { OnOk result (sofar_of self.new ≡ item_after self.old.definitions (sofar_of self.old) (raw_item_tree raw.now)) }
         ensures definitions { OnOk result (self.new.definitions ≡ self.old.definitions) }
         ensures faults { OnOk result (self.new.place.least ≡ least_of self.old.place.least (item_faults self.old.definitions (sofar_of self.old) (raw_item_tree raw.now))) }
@@ -455,7 +449,7 @@ impl<'a> Items<'a> {
     }
 
     /// Items one after another.
-    pub fn items(&mut self, raw: &'a [RawItem]) -> Result<(), AllocError>
+    pub fn items(&mut self, raw: &[RawItem]) -> Result<(), AllocError>
         ensures sofar { OnOk result (sofar_of self.new ≡ items_after self.old.definitions (sofar_of self.old) (raw_item_trees raw.now)) }
         ensures definitions { OnOk result (self.new.definitions ≡ self.old.definitions) }
         ensures faults { OnOk result (self.new.place.least ≡ least_of self.old.place.least (items_faults self.old.definitions (sofar_of self.old) (raw_item_trees raw.now))) }

@@ -4,9 +4,10 @@
 // numbers in place of names, or the rule of scope or the limit that the source breaks. A name means
 // the latest declaration that is in scope at its place (specs/Names.antt). The rules
 // (specs/Expressions, Calls, Simples, Statements, Items) list the faults of each form of the tree,
-// and the least fault is reported (specs/Faults, Outcomes). `resolve_numbered` gives the calls
-// other numbers than those of the tree's order. `c_scope` and `c_hoist` use these calls after a
-// source was read into tokens and a tree. The rules are those of ISO/IEC 9899:2018, clauses 6.2.1,
+// and the least fault is reported (specs/Faults, Outcomes). `Resolver` reads a source item by item,
+// so that an item can be freed before the next is there, and gives the calls other numbers than
+// those of the tree's order. `c_scope` uses `resolve` and `c_hoist` uses `Resolver` after a source
+// was read into tokens and a tree. The rules are those of ISO/IEC 9899:2018, clauses 6.2.1,
 // 6.2.2, 6.5.2.2, 6.7 and 6.8, for the subset CapC.
 #![tactic(auto)]
 
@@ -27,4 +28,4 @@ mod simples;
 mod statements;
 
 pub use errors::ScopeError;
-pub use resolver::{resolve, resolve_numbered};
+pub use resolver::{Resolver, resolve};

@@ -1,7 +1,7 @@
 // The names in scope, as a map from a name to what it is and a list of what each name hides.
 
 ghost use Rattle.std.specs.Prelude.{◌≡◌, ◌<◌, ◌≤◌, ◌-◌, List, [], ◌∷◌, map, reverse, length, drop, IfOk, OnOk};
-ghost use Rattle.scope_rules.specs.Names.{Binding, find, binding_of, AreLinked, Finds};
+ghost use Rattle.scope_rules.specs.Names.{Binding, find, binding_of, AreLinked, Finds, IsThere, Changes};
 
 use crate::meanings::{Found, Meaning};
 use std::alloc::{AllocError, Global};
@@ -10,20 +10,37 @@ use std::marker::Model;
 
 // A name that was declared, and what it was before.
 #[derive(Drop)]
-pub struct Declared<'a> {
-    text: &'a [u8],
+pub struct Declared {
+    text: Vec<u8>,
     found: Found,
     hidden: Option<Found>,
 }
 
-/// The names in scope, the latest first.
-#[derive(Drop)]
-pub struct Names<'a> {
-    declared: Vec<Declared<'a>>,
-    found: BTreeMap<&'a [u8], Found>,
+// Gives a name, which is there, the meaning that it had, if it had one.
+fn restore(found: &mut BTreeMap<Vec<u8>, Found>, text: Vec<u8>, hidden: Option<Found>)
+    requires { IsThere text.items found.old }
+    ensures { Changes text.items found.old found.new hidden }
+{
+    match hidden {
+        Some(earlier) => match found.insert(text, earlier) {
+            Ok(_) => {}
+            Err(_) => {}
+        },
+        None => {
+            found.remove(text.as_slice());
+        }
+    }
 }
 
-impl<'a> Model for Names<'a> {
+/// The names in scope, the latest first. It owns their texts, so that the tree that they stand in can be freed.
+#[derive(Drop)]
+pub struct Names {
+    alloc: Global,
+    declared: Vec<Declared>,
+    found: BTreeMap<Vec<u8>, Found>,
+}
+
+impl Model for Names {
     ghost Value = { List Binding };
 
     ghost view = { λ n. map binding_of (reverse n.declared.items) };
@@ -31,12 +48,13 @@ impl<'a> Model for Names<'a> {
     ghost invariant = { λ n. AreLinked (reverse n.declared.items) × Finds n.found (map binding_of (reverse n.declared.items)) };
 }
 
-impl<'a> Names<'a> {
+impl Names {
     /// No names.
-    pub fn new(alloc: Global) -> Names<'a>
+    pub fn new(alloc: Global) -> Names
         ensures { result ≡ [] }
     {
         Names {
+            alloc,
             declared: Vec::new(alloc),
             found: BTreeMap::new(alloc),
         }
@@ -57,20 +75,22 @@ impl<'a> Names<'a> {
     }
 
     /// Adds a name, which hides what it was.
-    pub fn declare(&mut self, text: &'a [u8], meaning: Meaning) -> Result<(), AllocError>
+    pub fn declare(&mut self, text: &[u8], meaning: Meaning) -> Result<(), AllocError>
         ensures { OnOk result (self.new ≡ record { text = text.now; meaning = meaning } ∷ self.old) }
     {
+        let key = Vec::from_slice(self.alloc, text)?;
         let found = Found {
             position: self.declared.len(),
             meaning,
         };
         let hidden = self.found.get(text).copied();
+        let text = Vec::from_slice(self.alloc, text)?;
         self.declared.push(Declared {
             text,
             found,
             hidden,
         })?;
-        match self.found.insert(text, found) {
+        match self.found.insert(key, found) {
             Ok(_) => Ok(()),
             Err(failed) => {
                 self.declared.pop();
@@ -80,8 +100,8 @@ impl<'a> Names<'a> {
     }
 
     /// These names and one more, which hides what it was.
-    pub fn with(mut self, text: &'a [u8], meaning: Meaning) -> Result<Names<'a>, AllocError>
-        ensures { IfOk result (λ names. names ≡ record { text = text.now; meaning = meaning } ∷ self.entry) }
+    pub fn with(mut self, text: &[u8], meaning: Meaning) -> Result<Names, AllocError>
+        ensures { IfOk result (λ names. names ≡ record { text = text.now; meaning = meaning } ∷ self) }
     {
         self.declare(text, meaning)?;
         Ok(self)
@@ -93,15 +113,8 @@ impl<'a> Names<'a> {
         ensures { self.new ≡ drop 1 self.old }
     {
         if let Some(last) = self.declared.pop() {
-            match last.hidden {
-                Some(found) => match self.found.insert(last.text, found) {
-                    Ok(_) => {}
-                    Err(_) => {}
-                },
-                None => {
-                    self.found.remove(last.text);
-                }
-            }
+            let Declared { text, hidden, .. } = last;
+            restore(&mut self.found, text, hidden);
         }
     }
 

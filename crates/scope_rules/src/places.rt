@@ -6,9 +6,9 @@ use std::alloc::Global;
 
 /// What is in scope at a place, and what was counted and found so far.
 #[derive(Drop)]
-pub struct Place<'a> {
+pub struct Place {
     pub alloc: Global,
-    pub names: Names<'a>,
+    pub names: Names,
     /// How many of the names stand outside this scope.
     pub outer: usize,
     /// The words of the variables so far.

@@ -1,21 +1,21 @@
 // From a tree as it is read to a program.
 
-ghost use Rattle.std.specs.Prelude.{◌≡◌, ℕ, Some, None, Option, IfOk, IfErr, MatchResult, ◌⊎◌, map, length};
+ghost use Rattle.std.specs.Prelude.{◌≡◌, ◌∷◌, ◌++◌, [], ℕ, List, Some, None, Option, IfOk, IfErr, OnOk, MatchResult, ◌⊎◌, map, length};
 ghost use Rattle.cap_word.specs.declared.limits.Which.{Which};
+ghost use Rattle.c_tree.specs.RawTrees.{RawItemTree};
 ghost use Rattle.c_tree.specs.Trees.{ProgramTree};
 ghost use Rattle.c_tree.specs.Programs.{tree_of};
 ghost use Rattle.c_tree.specs.ProgramView.{program_tree};
 ghost use Rattle.c_tree.specs.RawProgramView.{raw_program_tree};
-ghost use Rattle.c_tree.specs.RawViews.{raw_item_trees};
-ghost use Rattle.c_tree.specs.TextOrder.{functions_sites, program_sites};
+ghost use Rattle.c_tree.specs.RawViews.{raw_item_tree, raw_item_trees};
+ghost use Rattle.c_tree.specs.TextOrder.{functions_sites};
 ghost use Rattle.c_tree.specs.Views.{function_tree};
 ghost use Rattle.c_tree.specs.Temporaries.{capped};
-ghost use Rattle.c_tree.specs.WellScoped.{IsWellScoped, AreSiteNumbers};
+ghost use Rattle.c_tree.specs.WellScoped.{IsWellScoped};
 ghost use Rattle.c_tree.specs.WholeCalls.{AreCallsWhole};
-ghost use Rattle.scope_rules.specs.Faults.{least_of};
-ghost use Rattle.scope_rules.specs.Items.{definitions, faults_of, parts_of, program_of};
 ghost use Rattle.scope_rules.specs.Numbered.{numbered, IsResolvedBy};
-ghost use Rattle.scope_rules.specs.ItemViews.{sofar_of, IsCounted};
+ghost use Rattle.scope_rules.specs.ItemViews.{IsCounted};
+ghost use Rattle.scope_rules.specs.Reading.{HaveRead, AreAllRead, HasRead, CanNumber};
 ghost use Rattle.scope_rules.specs.Limits.{exceeded, first_exceeded};
 ghost use Rattle.scope_rules.specs.Outcomes.{IsResolved, IsRefused, IsNoMemory, refusal_by};
 
@@ -86,11 +86,8 @@ fn exceeded(items: &Items) -> Option<Which>
 }
 
 // What the items of a source make.
-fn read_items<'a>(alloc: Global, raw: &'a [RawItem]) -> Result<Items<'a>, AllocError>
-    ensures sofar { IfOk result (λ w. sofar_of w ≡ parts_of (raw_item_trees raw.now)) }
-    ensures definitions { IfOk result (λ w. w.definitions ≡ definitions (raw_item_trees raw.now)) }
-    ensures faults { IfOk result (λ w. w.place.least ≡ least_of None (faults_of (raw_item_trees raw.now))) }
-    ensures counted { IfOk result (λ w. IsCounted w) }
+fn read_items(alloc: Global, raw: &[RawItem]) -> Result<Items, AllocError>
+    ensures { IfOk result (λ w. HaveRead w (raw_item_trees raw.now) (raw_item_trees raw.now)) }
 {
     let mut items = Items::new(alloc, definitions(alloc, raw)?)?;
     items.items(raw)?;
@@ -106,15 +103,13 @@ struct Parts {
     main: u32,
 }
 
-// The parts of the program that a source is, or a refusal of it.
-fn resolved_parts(alloc: Global, raw: &RawProgram) -> Result<Parts, ScopeError>
-    ensures resolved { IfOk result (λ w. IsResolved (raw_program_tree raw.now) (tree_of w.functions.items w.globals.items w.tables.items w.main)) }
+// The parts of the program that a source is whose items these are, or a refusal of it.
+fn resolved_parts(items: Items) -> Result<Parts, ScopeError>
+    requires { AreAllRead items }
+    ensures resolved { (is : List RawItemTree) → HaveRead items is is → IfOk result (λ w. IsResolved is (tree_of w.functions.items w.globals.items w.tables.items w.main)) }
     ensures scoped { IfOk result (λ w. IsWellScoped (tree_of w.functions.items w.globals.items w.tables.items w.main)) }
-    ensures refused { IfErr result (λ e. IsRefused (raw_program_tree raw.now) e) }
+    ensures refused { (is : List RawItemTree) → HaveRead items is is → IfErr result (λ e. IsRefused is e) }
 {
-    let Ok(items) = read_items(alloc, raw.items()) else {
-        return Err(ScopeError::Memory);
-    };
     if let Some(fault) = items.place.least {
         return Err(refusal(fault));
     }
@@ -161,7 +156,10 @@ fn decide(alloc: Global, raw: &RawProgram) -> Result<Program, ScopeError>
     ensures resolved { IfOk result (λ p. IsResolved (raw_program_tree raw.now) (program_tree p)) }
     ensures refused { IfErr result (λ e. IsRefused (raw_program_tree raw.now) e) }
 {
-    match resolved_parts(alloc, raw) {
+    let Ok(items) = read_items(alloc, raw.items()) else {
+        return Err(ScopeError::Memory);
+    };
+    match resolved_parts(items) {
         Ok(parts) => make_program(alloc, parts),
         Err(refusal) => Err(refusal),
     }
@@ -188,19 +186,6 @@ pub fn resolve(alloc: Global, raw: &RawProgram) -> Result<Program, ScopeError>
     }
 }
 
-// The program that a source is, with these numbers of its calls, or a refusal of it.
-fn decide_numbered(alloc: Global, raw: &RawProgram, numbers: &[u32]) -> Result<Program, ScopeError>
-    requires numbers { AreSiteNumbers numbers.now }
-    requires each { length numbers.now ≡ length (program_sites (program_of (raw_program_tree raw.now))) }
-    ensures resolved { IfOk result (λ p. IsResolvedBy numbers.now (raw_program_tree raw.now) (program_tree p)) }
-    ensures refused { IfErr result (λ e. IsRefused (raw_program_tree raw.now) e) }
-{
-    match resolved_parts(alloc, raw) {
-        Ok(parts) => make_program(alloc, numbered(parts, numbers)),
-        Err(refusal) => Err(refusal),
-    }
-}
-
 // The parts with these numbers of the calls.
 fn numbered(mut parts: Parts, numbers: &[u32]) -> Parts
     ensures { tree_of result.functions.items result.globals.items result.tables.items result.main ≡
@@ -210,27 +195,58 @@ fn numbered(mut parts: Parts, numbers: &[u32]) -> Parts
     parts
 }
 
-/// The program that a source is, as `resolve` gives it, whose calls have these numbers, in the order of the tree: as many as it
-/// has calls, each its own, and below their count.
-///
-/// # Errors
-///
-/// Those of `resolve`.
-pub fn resolve_numbered(
-    alloc: Global,
-    raw: &RawProgram,
-    numbers: &[u32],
-) -> Result<Program, ScopeError>
-    requires whole { AreCallsWhole (raw_program_tree raw.now) }
-    requires numbers { AreSiteNumbers numbers.now }
-    requires each { length numbers.now ≡ length (program_sites (program_of (raw_program_tree raw.now))) }
-    ensures resolved { IfOk result (λ p. IsResolvedBy numbers.now (raw_program_tree raw.now) (program_tree p)) }
-    ensures refused { IfErr result (λ e. IsRefused (raw_program_tree raw.now) e) }
-    ensures only_resolved { (p : ProgramTree) → IsResolvedBy numbers.now (raw_program_tree raw.now) p → MatchResult result (λ q. program_tree q ≡ p) (λ e. e ≡ ScopeError.Memory) }
-    ensures only_refused { (e : ScopeError) → IsRefused (raw_program_tree raw.now) e → IsNoMemory e → MatchResult result (λ q. ⊥) (λ d. (d ≡ e) ⊎ (d ≡ ScopeError.Memory)) }
-{
-    match decide_numbered(alloc, raw, numbers) {
-        Ok(program) => Ok(program),
-        Err(refusal) => Err(refusal),
+/// A source that is read item by item, so that an item can be freed before the next is there.
+#[derive(Drop)]
+pub struct Resolver {
+    items: Items,
+}
+
+impl Resolver {
+    /// No item was read yet, of a source that defines the functions that these items define.
+    pub fn new(alloc: Global, raw: &[RawItem]) -> Result<Resolver, AllocError>
+        ensures { IfOk result (λ r. HasRead r (raw_item_trees raw.now) []) }
+    {
+        Ok(Resolver {
+            items: Items::new(alloc, definitions(alloc, raw)?)?,
+        })
+    }
+
+    /// One more item was read.
+    pub fn item(&mut self, raw: &RawItem) -> Result<(), AllocError>
+        ensures { OnOk result ((all read : List RawItemTree) → HasRead self.old all read → HasRead self.new all (read ++ raw_item_tree raw.now ∷ [])) }
+    {
+        self.items.item(raw)?;
+        Ok(())
+    }
+
+    // The program that the source is, with these numbers of its calls, or a refusal of it.
+    fn decide(self, alloc: Global, numbers: &[u32]) -> Result<Program, ScopeError>
+        requires { CanNumber self numbers.now }
+        ensures resolved { (is : List RawItemTree) → HasRead self is is → IfOk result (λ p. IsResolvedBy numbers.now is (program_tree p)) }
+        ensures refused { (is : List RawItemTree) → HasRead self is is → IfErr result (λ e. IsRefused is e) }
+    {
+        match resolved_parts(self.items) {
+            Ok(parts) => make_program(alloc, numbered(parts, numbers)),
+            Err(refusal) => Err(refusal),
+        }
+    }
+
+    /// The program that the source is, as `resolve` gives it, whose calls have these numbers, in the order of the tree: as many as it
+    /// has calls, each its own, and below their count.
+    ///
+    /// # Errors
+    ///
+    /// Those of `resolve`.
+    pub fn finish(self, alloc: Global, numbers: &[u32]) -> Result<Program, ScopeError>
+        requires { CanNumber self numbers.now }
+        ensures resolved { (is : List RawItemTree) → HasRead self is is → IfOk result (λ p. IsResolvedBy numbers.now is (program_tree p)) }
+        ensures refused { (is : List RawItemTree) → HasRead self is is → IfErr result (λ e. IsRefused is e) }
+        ensures only_resolved { (is : List RawItemTree) → HasRead self is is → (p : ProgramTree) → IsResolvedBy numbers.now is p → MatchResult result (λ q. program_tree q ≡ p) (λ e. e ≡ ScopeError.Memory) }
+        ensures only_refused { (is : List RawItemTree) → HasRead self is is → (e : ScopeError) → IsRefused is e → IsNoMemory e → MatchResult result (λ q. ⊥) (λ d. (d ≡ e) ⊎ (d ≡ ScopeError.Memory)) }
+    {
+        match self.decide(alloc, numbers) {
+            Ok(program) => Ok(program),
+            Err(refusal) => Err(refusal),
+        }
     }
 }

@@ -37,7 +37,7 @@ pub fn check_size(least: &mut Option<Fault>, name: &Name, words: u32)
 }
 
 /// Puts a name into scope, unless it is a modelled call's.
-pub fn bind<'a>(names: &mut Names<'a>, text: &'a [u8], meaning: Meaning) -> Result<(), AllocError>
+pub fn bind(names: &mut Names, text: &[u8], meaning: Meaning) -> Result<(), AllocError>
     ensures { OnOk result (names.new ≡ bound names.old text.now meaning) }
 {
     if let Some(found) = names.find(text) {
@@ -83,9 +83,9 @@ fn element_set(array: Variable, index: Box<Expr>, value: RightSide) -> Simple
     }
 }
 
-impl<'a> Place<'a> {
+impl Place {
     // Declares a variable of so many words, and gives its number.
-    pub fn declare(&mut self, name: &'a Name, array: bool, words: u32) -> Result<u32, AllocError>
+    pub fn declare(&mut self, name: &Name, array: bool, words: u32) -> Result<u32, AllocError>
         ensures number { IfOk result (λ x. x ≡ next_variable (spot_of self.old)) }
         ensures place { OnOk result (spot_of self.new ≡ with_variable (spot_of self.old) (name_tree name.now) array words) }
         ensures faults { self.new.least ≡ self.old.least }
@@ -101,7 +101,7 @@ impl<'a> Place<'a> {
     }
 
     // Declares a variable of one word, and gives what stands before it and its number.
-    fn then_declare<T: Drop>(&mut self, before: T, name: &'a Name) -> Result<(T, u32), AllocError>
+    fn then_declare<T: Drop>(&mut self, before: T, name: &Name) -> Result<(T, u32), AllocError>
         ensures before { IfOk result (λ p. p.0 ≡ before) }
         ensures number { IfOk result (λ p. p.1 ≡ next_variable (spot_of self.old)) }
         ensures place { OnOk result (spot_of self.new ≡ with_variable (spot_of self.old) (name_tree name.now) false 1) }
@@ -120,7 +120,7 @@ impl<'a> Place<'a> {
     }
 
     // A declaration of one name with its initialiser, in which the name isn't in scope.
-    fn declare_with(&mut self, name: &'a Name, initial: &RawExpr) -> Result<Simple, AllocError>
+    fn declare_with(&mut self, name: &Name, initial: &RawExpr) -> Result<Simple, AllocError>
         ensures tree { IfOk result (λ s. simple_tree s ≡ simple_of (spot_of self.old) (RawDeclareWith (name_tree name.now) (raw_expr_tree initial.now))) }
         ensures place { OnOk result (spot_of self.new ≡ simple_after (spot_of self.old) (RawDeclareWith (name_tree name.now) (raw_expr_tree initial.now))) }
         ensures faults { OnOk result (self.new.least ≡ least_of self.old.least (simple_faults (spot_of self.old) (RawDeclareWith (name_tree name.now) (raw_expr_tree initial.now)))) }
@@ -154,7 +154,7 @@ impl<'a> Place<'a> {
     }
 
     /// A declaration of one name, an assignment, or a call.
-    pub fn simple(&mut self, raw: &'a RawSimple) -> Result<Simple, AllocError>
+    pub fn simple(&mut self, raw: &RawSimple) -> Result<Simple, AllocError>
         ensures tree { IfOk result (λ s. simple_tree s ≡ simple_of (spot_of self.old) (raw_simple_tree raw.now)) }
         ensures place { OnOk result (spot_of self.new ≡ simple_after (spot_of self.old) (raw_simple_tree raw.now)) }
         ensures faults { OnOk result (self.new.least ≡ least_of self.old.least (simple_faults (spot_of self.old) (raw_simple_tree raw.now))) }
@@ -203,7 +203,7 @@ impl<'a> Place<'a> {
     }
 
     /// Declarations, assignments and calls one after another.
-    pub fn simples(&mut self, raw: &'a [RawSimple]) -> Result<Vec<Simple>, AllocError>
+    pub fn simples(&mut self, raw: &[RawSimple]) -> Result<Vec<Simple>, AllocError>
         ensures tree { IfOk result (λ ps. map simple_tree ps.items ≡ simples_of (spot_of self.old) (map raw_simple_tree raw.now)) }
         ensures place { OnOk result (spot_of self.new ≡ simples_after (spot_of self.old) (map raw_simple_tree raw.now)) }
         ensures faults { OnOk result (self.new.least ≡ least_of self.old.least (simples_faults (spot_of self.old) (map raw_simple_tree raw.now))) }

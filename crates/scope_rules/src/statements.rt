@@ -31,7 +31,7 @@ fn check_step(least: &mut Option<Fault>, raw: &RawSimple)
     }
 }
 
-impl<'a> Place<'a> {
+impl Place {
     // The condition of a `for`.
     fn condition(&mut self, raw: &Option<RawExpr>) -> Result<Option<Expr>, AllocError>
         ensures tree { IfOk result (λ e. option_map expr_tree e ≡ option_map (expr_of self.old.names) (option_map raw_expr_tree raw.now)) }
@@ -48,7 +48,7 @@ impl<'a> Place<'a> {
     }
 
     // The step of a `for`.
-    fn step(&mut self, raw: &'a Option<RawSimple>) -> Result<Option<Simple>, AllocError>
+    fn step(&mut self, raw: &Option<RawSimple>) -> Result<Option<Simple>, AllocError>
         ensures tree { IfOk result (λ p. option_map simple_tree p ≡ option_map (simple_of (spot_of self.old)) (option_map raw_simple_tree raw.now)) }
         ensures place { OnOk result (spot_of self.new ≡ step_after (spot_of self.old) (option_map raw_simple_tree raw.now)) }
         ensures faults { OnOk result (self.new.least ≡ least_of self.old.least (step_faults (spot_of self.old) (option_map raw_simple_tree raw.now))) }
@@ -69,7 +69,7 @@ impl<'a> Place<'a> {
     fn then_step<T: Drop>(
         &mut self,
         before: T,
-        raw: &'a Option<RawSimple>,
+        raw: &Option<RawSimple>,
     ) -> Result<(T, Option<Simple>), AllocError>
         ensures before { IfOk result (λ p. p.0 ≡ before) }
         ensures tree { IfOk result (λ p. option_map simple_tree p.1 ≡ option_map (simple_of (spot_of self.old)) (option_map raw_simple_tree raw.now)) }
@@ -80,7 +80,7 @@ impl<'a> Place<'a> {
     }
 
     // What stands in the parentheses of a `for`.
-    fn for_parts(&mut self, raw: &'a RawForParts) -> Result<Box<ForParts>, AllocError>
+    fn for_parts(&mut self, raw: &RawForParts) -> Result<Box<ForParts>, AllocError>
         ensures init { IfOk result (λ p. map simple_tree p.value.init.items ≡ simples_of (spot_of self.old) (map raw_simple_tree raw.now.init.items)) }
         ensures condition { IfOk result (λ p. option_map expr_tree p.value.condition ≡ option_map (expr_of (simples_after (spot_of self.old) (map raw_simple_tree raw.now.init.items)).names) (option_map raw_expr_tree raw.now.condition)) }
         ensures step { IfOk result (λ p. option_map simple_tree p.value.step ≡ option_map (simple_of (simples_after (spot_of self.old) (map raw_simple_tree raw.now.init.items))) (option_map raw_simple_tree raw.now.step)) }
@@ -139,7 +139,7 @@ pub struct Scope {
     pub count: usize,
 }
 
-impl<'a> Place<'a> {
+impl Place {
     // Begins a scope.
     pub fn enter(&mut self) -> Scope
         ensures outer { result.outer ≡ self.old.outer }
@@ -164,7 +164,7 @@ impl<'a> Place<'a> {
 
     // A statement, in a function that gives a result or not and in a loop or not.
     #[cycle(statements)]
-    fn stmt(&mut self, gives: bool, loops: bool, raw: &'a RawStmt) -> Result<Stmt, AllocError>
+    fn stmt(&mut self, gives: bool, loops: bool, raw: &RawStmt) -> Result<Stmt, AllocError>
         ensures tree { IfOk result (λ s. stmt_tree s ≡ stmt_of (spot_of self.old) (raw_stmt_tree raw.now)) }
         ensures place { OnOk result (spot_of self.new ≡ stmt_after (spot_of self.old) (raw_stmt_tree raw.now)) }
         ensures faults { OnOk result (self.new.least ≡ least_of self.old.least (stmt_faults gives loops (spot_of self.old) (raw_stmt_tree raw.now))) }
@@ -235,7 +235,7 @@ impl<'a> Place<'a> {
         &mut self,
         gives: bool,
         loops: bool,
-        raw: &'a RawStmt,
+        raw: &RawStmt,
         condition: &RawExpr,
     ) -> Result<(Expr, Box<Stmt>), AllocError>
         ensures condition { IfOk result (λ p. expr_tree p.0 ≡ expr_of self.old.names (raw_expr_tree condition.now)) }
@@ -249,7 +249,7 @@ impl<'a> Place<'a> {
 
     // A body, which is a scope of its own.
     #[cycle(statements)]
-    fn body(&mut self, gives: bool, loops: bool, raw: &'a RawStmt) -> Result<Box<Stmt>, AllocError>
+    fn body(&mut self, gives: bool, loops: bool, raw: &RawStmt) -> Result<Box<Stmt>, AllocError>
         ensures tree { IfOk result (λ s. stmt_tree s.value ≡ stmt_of (inside (spot_of self.old)) (raw_stmt_tree raw.now)) }
         ensures place { OnOk result (spot_of self.new ≡ left (spot_of self.old) (stmt_after (inside (spot_of self.old)) (raw_stmt_tree raw.now))) }
         ensures faults { OnOk result (self.new.least ≡ least_of self.old.least (stmt_faults gives loops (inside (spot_of self.old)) (raw_stmt_tree raw.now))) }
@@ -262,12 +262,7 @@ impl<'a> Place<'a> {
 
     // A block, which is a scope of its own.
     #[cycle(statements)]
-    fn block(
-        &mut self,
-        gives: bool,
-        loops: bool,
-        raw: &'a [RawStmt],
-    ) -> Result<Vec<Stmt>, AllocError>
+    fn block(&mut self, gives: bool, loops: bool, raw: &[RawStmt]) -> Result<Vec<Stmt>, AllocError>
         ensures tree { IfOk result (λ ss. stmt_trees ss.items ≡ stmts_of (inside (spot_of self.old)) (raw_stmt_trees raw.now)) }
         ensures place { OnOk result (spot_of self.new ≡ left (spot_of self.old) (stmts_after (inside (spot_of self.old)) (raw_stmt_trees raw.now))) }
         ensures faults { OnOk result (self.new.least ≡ least_of self.old.least (stmts_faults gives loops (inside (spot_of self.old)) (raw_stmt_trees raw.now))) }
@@ -284,7 +279,7 @@ impl<'a> Place<'a> {
         &mut self,
         gives: bool,
         loops: bool,
-        raw: &'a [RawStmt],
+        raw: &[RawStmt],
     ) -> Result<Vec<Stmt>, AllocError>
         ensures tree { IfOk result (λ ss. stmt_trees ss.items ≡ stmts_of (spot_of self.old) (raw_stmt_trees raw.now)) }
         ensures place { OnOk result (spot_of self.new ≡ stmts_after (spot_of self.old) (raw_stmt_trees raw.now)) }

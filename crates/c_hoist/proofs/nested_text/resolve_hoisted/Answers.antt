@@ -1,18 +1,44 @@
-use Rattle.std.proofs.Common.{ap, ◌∙◌, length}
+use Rattle.std.proofs.Common.{◌≡◌, ap, sym, subst, ◌∙◌, length}
 use Rattle.c_tree.specs.RawProgramView.{raw_program_tree}
 use Rattle.c_tree.specs.ProgramView.{program_tree}
+use Rattle.c_tree.specs.WellScoped.{AreSiteNumbers}
+use Rattle.whole_calls.specs.WholeForParts.{AreForPartsWhole}
+use Rattle.grammar_places.specs.Nested.{is_call}
+use Rattle.grammar_places.specs.Places.{items_places}
+use Rattle.grammar_places.specs.Ranks.{ranks}
+use Rattle.scope_rules.specs.Reading.{HasRead}
+use Rattle.scope_rules.specs.Numbered.{IsResolvedBy}
+use Rattle.hoist_parts.specs.Statements.{items_hoisted}
+use Rattle.hoist_parts.proofs.Temporaries.{items_small}
+use Rattle.hoist_parts.proofs.Whole.{items_hoisted_whole}
 use Rattle.hoist_meaning.proofs.TreeCounts.{each_call}
-use Rattle.c_hoist.proofs.Hoisted.{hoisted_by, refused_by}
 use Rattle.c_hoist.proofs.nested_text.resolve_hoisted.Goals as goal
 
-pub resolve_numbered-requires-clause-each : goal.resolve_numbered-requires-clause-each
-resolve_numbered-requires-clause-each c =
-    ap length (c.deref.ensures.value ∙ c.in-Ok-site_numbers.ensures.numbers) ∙ each_call (raw_program_tree c.in-Ok.hoisted) c.in-Ok.ensures.whole
+pub rewritten-requires : goal.rewritten-requires
+rewritten-requires c = subst AreForPartsWhole (sym c.items.ensures) c.requires
 
-pub returns-in-Ok-resolve_numbered-clause-resolved : goal.returns-in-Ok-resolve_numbered-clause-resolved
-returns-in-Ok-resolve_numbered-clause-resolved c =
-    hoisted_by (raw_program_tree c.args.raw) (raw_program_tree c.in-Ok.hoisted) c.deref.result.now (program_tree c.in-Ok-resolve_numbered.program) c.in-Ok.ensures.rewritten
-    (c.deref.ensures.value ∙ c.in-Ok-site_numbers.ensures.numbers) c.in-Ok-resolve_numbered.ensures.resolved
+pub finish-requires : goal.finish-requires
+finish-requires c =
+    let t = raw_program_tree c.args.raw in
+    let whole = items_hoisted_whole t c.requires in
+    let ns = c.deref-2.ensures.value ∙ (c.in-Ok-numbers_by_places.ensures.numbers ∙ (ap ranks (c.deref.ensures.value ∙ c.in-Ok.ensures.places) ∙ ap (λ x. ranks (items_places is_call (items_hoisted x))) c.items.ensures)) in
+    record {
+      source = items_hoisted t;
+      read = subst (λ x. HasRead c.in-Ok.resolver (items_hoisted x) (items_hoisted x)) c.items.ensures c.in-Ok.ensures.read;
+      within = items_small t c.args.raw.within;
+      whole = whole;
+      each = ap length ns ∙ each_call (items_hoisted t) whole;
+      distinct = subst AreSiteNumbers (sym c.deref-2.ensures.value) c.in-Ok-numbers_by_places.ensures.distinct;
+    }
 
-pub returns-clause-refused : goal.returns-clause-refused
-returns-clause-refused c = refused_by (raw_program_tree c.args.raw) (raw_program_tree c.in-Ok.hoisted) c.in-Err.error c.in-Ok.ensures.rewritten c.in-Err.ensures.refused
+pub returns-in-Ok-clause-resolved : goal.returns-in-Ok-clause-resolved
+returns-in-Ok-clause-resolved c =
+    let t = raw_program_tree c.args.raw in
+    let ns = c.deref-2.ensures.value ∙ (c.in-Ok-numbers_by_places.ensures.numbers ∙ (ap ranks (c.deref.ensures.value ∙ c.in-Ok.ensures.places) ∙ ap (λ x. ranks (items_places is_call (items_hoisted x))) c.items.ensures)) in
+    let read = subst (λ x. HasRead c.in-Ok.resolver (items_hoisted x) (items_hoisted x)) c.items.ensures c.in-Ok.ensures.read in
+    subst (λ n. IsResolvedBy n (items_hoisted t) (program_tree c.in-Ok-finish.program)) ns (c.in-Ok-finish.ensures.resolved (items_hoisted t) read)
+
+pub returns-in-Err-clause-refused : goal.returns-in-Err-clause-refused
+returns-in-Err-clause-refused c =
+    let t = raw_program_tree c.args.raw in
+    c.in-Err.ensures.refused (items_hoisted t) (subst (λ x. HasRead c.in-Ok.resolver (items_hoisted x) (items_hoisted x)) c.items.ensures c.in-Ok.ensures.read)

@@ -1,0 +1,17 @@
+use Rattle.std.proofs.Common.{◌≡◌, List, ◌++◌, drop}
+use Rattle.c_tree.specs.RawTrees.{RawItemTree}
+use Rattle.c_tree.specs.RawViews.{raw_item_trees}
+use Rattle.whole_calls.specs.WholeForParts.{AreForPartsWhole}
+use Rattle.grammar_places.specs.Nested.{is_call}
+use Rattle.grammar_places.specs.Places.{items_places}
+use Rattle.scope_rules.specs.Reading.{HasRead}
+use Rattle.hoist_parts.specs.Statements.{items_hoisted}
+use Rattle.c_hoist.proofs.nested_text.rewritten.Given as goal
+
+abbrev pub invariant-loop-item : goal.invariant-loop-item
+invariant-loop-item l =
+    (read : List RawItemTree)
+    × HasRead l.rewritten.resolver (raw_item_trees l.raw) read
+    × (read ++ items_hoisted (raw_item_trees (drop l.item-index l.raw)) ≡ items_hoisted (raw_item_trees l.raw))
+    × (l.rewritten.places.items ≡ items_places is_call read)
+    × AreForPartsWhole (raw_item_trees (drop l.item-index l.raw))

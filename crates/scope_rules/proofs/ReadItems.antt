@@ -1,0 +1,39 @@
+-- One more item of a source that is read item by item.
+use Rattle.std.proofs.Common.{◌≡◌, refl, sym, ap, ◌∙◌, List, [], ◌∷◌, ◌++◌, append_assoc, append-nil, None}
+use Rattle.c_tree.specs.RawTrees.{RawItemTree}
+use Rattle.scope_rules.specs.declared.items.Items.{Items}
+use Rattle.scope_rules.specs.Names.{Binding}
+use Rattle.scope_rules.specs.Faults.{least_of}
+use Rattle.scope_rules.specs.Items.{Sofar, definitions, at_start, item_after, item_faults, items_after, items_faults}
+use Rattle.scope_rules.specs.ItemViews.{sofar_of, IsCounted}
+use Rattle.scope_rules.specs.Reading.{HaveRead}
+use Rattle.scope_rules.proofs.Least.{least_of_append}
+
+after_one_more : (defs : List Binding) (w : Sofar) (is : List RawItemTree) (i : RawItemTree) → items_after defs w (is ++ i ∷ []) ≡ item_after defs (items_after defs w is) i
+after_one_more defs w [] i = refl
+after_one_more defs w (j ∷ is) i = after_one_more defs (item_after defs w j) is i
+
+faults_of_one_more : (defs : List Binding) (w : Sofar) (is : List RawItemTree) (i : RawItemTree) → items_faults defs w (is ++ i ∷ []) ≡ items_faults defs w is ++ item_faults defs (items_after defs w is) i
+faults_of_one_more defs w [] i = append-nil (item_faults defs w i)
+faults_of_one_more defs w (j ∷ is) i =
+    ap (λ fs. item_faults defs w j ++ fs) (faults_of_one_more defs (item_after defs w j) is i)
+    ∙ sym (append_assoc (item_faults defs w j) (items_faults defs (item_after defs w j) is) (item_faults defs (items_after defs (item_after defs w j) is) i))
+
+pub one_more : (w v : Items) (i : RawItemTree) → sofar_of v ≡ item_after w.definitions (sofar_of w) i → v.definitions ≡ w.definitions
+    → v.place.least ≡ least_of w.place.least (item_faults w.definitions (sofar_of w) i) → (IsCounted w → IsCounted v)
+    → (all read : List RawItemTree) → HaveRead w all read → HaveRead v all (read ++ i ∷ [])
+one_more w v i s d f n all read h =
+    let defs = definitions all in
+    let before = items_after defs at_start read in
+    let faults = items_faults defs at_start read in
+    record {
+      defined = d ∙ h.defined;
+      sofar = s ∙ (ap (λ x. item_after x (sofar_of w) i) h.defined ∙ (ap (λ x. item_after defs x i) h.sofar ∙ sym (after_one_more defs at_start read i)));
+      faults =
+          f
+          ∙ (ap (λ x. least_of w.place.least (item_faults x (sofar_of w) i)) h.defined
+          ∙ (ap (λ x. least_of w.place.least (item_faults defs x i)) h.sofar
+          ∙ (ap (λ x. least_of x (item_faults defs before i)) h.faults
+          ∙ (sym (least_of_append None faults (item_faults defs before i)) ∙ sym (ap (least_of None) (faults_of_one_more defs at_start read i))))));
+      counted = n h.counted;
+    }

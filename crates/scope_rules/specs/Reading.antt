@@ -1,0 +1,37 @@
+-- A source that is read item by item.
+use Rattle.std.specs.Prelude.{ℕ, ◌≡◌, List, None, length}
+use Rattle.c_tree.specs.RawTrees.{RawItemTree}
+use Rattle.c_tree.specs.RawTemporaries.{AreWithinTemporaries}
+use Rattle.c_tree.specs.TextOrder.{program_sites}
+use Rattle.c_tree.specs.WellScoped.{AreSiteNumbers}
+use Rattle.c_tree.specs.WholeCalls.{AreCallsWhole}
+use Rattle.scope_rules.specs.declared.items.Items.{Items}
+use Rattle.scope_rules.specs.declared.resolver.Resolver.{Resolver}
+use Rattle.scope_rules.specs.Faults.{least_of}
+use Rattle.scope_rules.specs.Items.{definitions, at_start, items_after, items_faults, program_of}
+use Rattle.scope_rules.specs.ItemViews.{sofar_of, IsCounted}
+
+-- these items were read, of a source that defines what `all` defines
+pub record HaveRead (w : Items) (all read : List RawItemTree) : Type 0 where
+  pub defined : w.definitions ≡ definitions all
+  pub sofar : sofar_of w ≡ items_after (definitions all) at_start read
+  pub faults : w.place.least ≡ least_of None (items_faults (definitions all) at_start read)
+  pub counted : IsCounted w
+
+-- all items of a source were read, whose statements take no more temporaries than there are
+pub record AreAllRead (w : Items) : Type 0 where
+  pub source : List RawItemTree
+  pub read : HaveRead w source source
+  pub within : AreWithinTemporaries source
+
+abbrev pub HasRead : Resolver → List RawItemTree → List RawItemTree → Type 0
+HasRead r all read = HaveRead r.items all read
+
+-- a source was read whole, in which every call is whole, and there is a number for each call
+pub record CanNumber (r : Resolver) (numbers : List ℕ) : Type 0 where
+  pub source : List RawItemTree
+  pub read : HasRead r source source
+  pub within : AreWithinTemporaries source
+  pub whole : AreCallsWhole source
+  pub each : length numbers ≡ length (program_sites (program_of source))
+  pub distinct : AreSiteNumbers numbers
