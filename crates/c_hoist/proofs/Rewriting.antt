@@ -1,5 +1,5 @@
 -- A source that is rewritten and read item by item.
-use Rattle.std.proofs.Common.{◌≡◌, refl, sym, ap, ◌∙◌, ℕ, Bool, List, [], ◌∷◌, ◌++◌, append_assoc, append-nil, None}
+use Rattle.std.proofs.Common.{◌≡◌, refl, sym, ap, ◌∙◌, List, [], ◌∷◌, ◌++◌, append_assoc, append-nil, None}
 use Rattle.c_tree.specs.RawTrees.{RawItemTree, RawGlobal, RawGlobalArray, RawTableItem, RawPrototypeItem, RawFunctionItem}
 use Rattle.grammar_places.specs.Nested.{is_call}
 use Rattle.grammar_places.specs.Places.{item_places, items_places}

@@ -70,12 +70,12 @@ fn read(alloc: Global, source: &[u8]) -> Result<Program, SourceError>
 
 // What the rewritten items of a source make, and the places of their calls, in the order of the rewritten tree.
 #[derive(Drop)]
-struct Rewritten {
+struct Rewriting {
     resolver: Resolver,
     places: Vec<u32>,
 }
 
-impl Rewritten {
+impl Rewriting {
     // One more item. What it is rewritten to is freed.
     fn item(&mut self, alloc: Global, raw: &RawItem) -> Result<(), AllocError>
         requires { IsItemForWhole (raw_item_tree raw.now) }
@@ -90,12 +90,12 @@ impl Rewritten {
 }
 
 // What the items make, each of which is rewritten and resolved before the next is.
-fn rewritten(alloc: Global, raw: &[RawItem]) -> Result<Rewritten, AllocError>
+fn rewritten(alloc: Global, raw: &[RawItem]) -> Result<Rewriting, AllocError>
     requires { AreForPartsWhole (raw_item_trees raw.now) }
     ensures read { IfOk result (λ w. HasRead w.resolver (items_hoisted (raw_item_trees raw.now)) (items_hoisted (raw_item_trees raw.now))) }
     ensures places { IfOk result (λ w. w.places.items ≡ items_places is_call (items_hoisted (raw_item_trees raw.now))) }
 {
-    let mut rewritten = Rewritten {
+    let mut rewritten = Rewriting {
         resolver: Resolver::new(alloc, raw)?,
         places: Vec::new(alloc),
     };
@@ -111,15 +111,14 @@ fn resolve_hoisted(alloc: Global, raw: RawProgram) -> Result<Program, ScopeError
     ensures resolved { IfOk result (λ p. IsHoistedTo (raw_program_tree raw) (program_tree p)) }
     ensures refused { IfErr result (λ e. IsRefusedHoisted (raw_program_tree raw) e) }
 {
-    let Ok(Rewritten { resolver, places }) = rewritten(alloc, raw.items()) else {
+    let Ok(read) = rewritten(alloc, raw.items()) else {
         return Err(ScopeError::Memory);
     };
     drop(raw);
-    let Ok(numbers) = numbers_by_places(alloc, &places) else {
+    let Ok(numbers) = numbers_by_places(alloc, &read.places) else {
         return Err(ScopeError::Memory);
     };
-    drop(places);
-    match resolver.finish(alloc, &numbers) {
+    match read.resolver.finish(alloc, &numbers) {
         Ok(program) => Ok(program),
         Err(error) => Err(error),
     }

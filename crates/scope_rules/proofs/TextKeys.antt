@@ -1,7 +1,6 @@
 -- A map whose keys are bytes: what a change at these bytes leaves at others.
-use Rattle.std.proofs.Common.{ℕ, ◌≡◌, refl, sym, ap, subst, ◌∙◌, ⊎_elim, List, Bool, true, false, Option, Ordering, nat_cmp}
+use Rattle.std.proofs.Common.{ℕ, ◌≡◌, sym, subst, ◌∙◌, ⊎_elim, List, Bool, true, false, Option, Ordering, nat_cmp}
 use Rattle.std.proofs.lemmas.Bool.{cases_Bool, cond-true, cond-false}
-use Rattle.std.specs.Prelude.{nat_eq}
 use Rattle.std.specs.Global.{Vec}
 use Rattle.std.specs.BTreeMap.{BTreeMap, get_by, UpdatesBy}
 use Rattle.std.specs.Map.{lookup, update, IsKeyTest, AreApart, KeepsOthers}
@@ -9,7 +8,6 @@ use Rattle.std.specs.Ordering.{is_eq}
 use Rattle.std.specs.Cmp.{eq_by_cmp_equiv}
 use Rattle.std.specs.Cmp.Lexicographic.{slice_cmp, bytes_decides, nat_list_cmp_total, nat_list_eq_equiv, texts_ties}
 use Rattle.std.specs.Str.{bytes_eq}
-use mathlib.Core.Bool.{cond}
 
 -- what a text finds
 abbrev pub at_text : {X : Type 0} → List ℕ → BTreeMap (Vec ℕ) X → Option X

@@ -1,4 +1,4 @@
-use Rattle.std.proofs.Common.{◌≡◌, ap, sym, subst, ◌∙◌, length}
+use Rattle.std.proofs.Common.{ap, sym, subst, ◌∙◌, length}
 use Rattle.c_tree.specs.RawProgramView.{raw_program_tree}
 use Rattle.c_tree.specs.ProgramView.{program_tree}
 use Rattle.c_tree.specs.WellScoped.{AreSiteNumbers}
@@ -24,21 +24,21 @@ finish-requires c =
     let ns = c.deref-2.ensures.value ∙ (c.in-Ok-numbers_by_places.ensures.numbers ∙ (ap ranks (c.deref.ensures.value ∙ c.in-Ok.ensures.places) ∙ ap (λ x. ranks (items_places is_call (items_hoisted x))) c.items.ensures)) in
     record {
       source = items_hoisted t;
-      read = subst (λ x. HasRead c.in-Ok.resolver (items_hoisted x) (items_hoisted x)) c.items.ensures c.in-Ok.ensures.read;
+      read = subst (λ x. HasRead c.in-Ok.read.resolver (items_hoisted x) (items_hoisted x)) c.items.ensures c.in-Ok.ensures.read;
       within = items_small t c.args.raw.within;
       whole = whole;
       each = ap length ns ∙ each_call (items_hoisted t) whole;
       distinct = subst AreSiteNumbers (sym c.deref-2.ensures.value) c.in-Ok-numbers_by_places.ensures.distinct;
     }
 
-pub returns-in-Ok-clause-resolved : goal.returns-in-Ok-clause-resolved
-returns-in-Ok-clause-resolved c =
+pub returns-in-Ok-finish-clause-resolved : goal.returns-in-Ok-finish-clause-resolved
+returns-in-Ok-finish-clause-resolved c =
     let t = raw_program_tree c.args.raw in
     let ns = c.deref-2.ensures.value ∙ (c.in-Ok-numbers_by_places.ensures.numbers ∙ (ap ranks (c.deref.ensures.value ∙ c.in-Ok.ensures.places) ∙ ap (λ x. ranks (items_places is_call (items_hoisted x))) c.items.ensures)) in
-    let read = subst (λ x. HasRead c.in-Ok.resolver (items_hoisted x) (items_hoisted x)) c.items.ensures c.in-Ok.ensures.read in
+    let read = subst (λ x. HasRead c.in-Ok.read.resolver (items_hoisted x) (items_hoisted x)) c.items.ensures c.in-Ok.ensures.read in
     subst (λ n. IsResolvedBy n (items_hoisted t) (program_tree c.in-Ok-finish.program)) ns (c.in-Ok-finish.ensures.resolved (items_hoisted t) read)
 
-pub returns-in-Err-clause-refused : goal.returns-in-Err-clause-refused
-returns-in-Err-clause-refused c =
+pub returns-clause-refused : goal.returns-clause-refused
+returns-clause-refused c =
     let t = raw_program_tree c.args.raw in
-    c.in-Err.ensures.refused (items_hoisted t) (subst (λ x. HasRead c.in-Ok.resolver (items_hoisted x) (items_hoisted x)) c.items.ensures c.in-Ok.ensures.read)
+    c.in-Err.ensures.refused (items_hoisted t) (subst (λ x. HasRead c.in-Ok.read.resolver (items_hoisted x) (items_hoisted x)) c.items.ensures c.in-Ok.ensures.read)

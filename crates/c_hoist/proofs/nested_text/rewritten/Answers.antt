@@ -1,4 +1,4 @@
-use Rattle.std.proofs.Common.{◌≡◌, refl, sym, ap, subst, ◌∙◌, ◌+◌, List, [], ◌∷◌, ◌++◌, append_assoc, append-nil, drop}
+use Rattle.std.proofs.Common.{rules, refl, sym, ap, subst, ◌∙◌, ◌+◌, [], ◌∷◌, ◌++◌, append_assoc, append-nil, drop}
 use Rattle.std.proofs.Math.ListN.{drop_of_length-le}
 use Rattle.c_tree.specs.RawViews.{raw_item_tree, raw_item_trees}
 use Rattle.whole_calls.specs.WholeForParts.{AreForPartsWhole}
@@ -11,7 +11,7 @@ use Rattle.c_hoist.proofs.Rewriting.{read_of_hoisted, places_of_one_more}
 use Rattle.c_hoist.proofs.nested_text.rewritten.Goals as goal
 
 pub loop-item-init : goal.loop-item-init
-loop-item-init c = ([], c.in_ok-resolver.ensures, refl, refl, c.requires)
+loop-item-init c = ([], c.in_ok-new.ensures, refl, search rules, c.requires)
 
 pub item-requires : goal.item-requires
 item-requires c =

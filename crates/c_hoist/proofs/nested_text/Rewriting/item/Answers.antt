@@ -3,7 +3,7 @@ use Rattle.c_tree.specs.RawTrees.{RawItemTree}
 use Rattle.grammar_places.specs.Nested.{is_call}
 use Rattle.grammar_places.specs.Places.{item_places}
 use Rattle.scope_rules.specs.Reading.{HasRead}
-use Rattle.c_hoist.proofs.nested_text.Rewritten.item.Goals as goal
+use Rattle.c_hoist.proofs.nested_text.Rewriting.item.Goals as goal
 
 pub returns-clause-read : goal.returns-clause-read
 returns-clause-read c =
