@@ -20,19 +20,19 @@ type Held<'a> = (&'a str, &'a [u8]);
 #[derive(Clone, Copy)]
 struct AtEnd {
     free: u32,
-    words: [(u32, u32, u32); 3],
+    words: &'static [(u32, u32, u32)],
 }
 
 /// The thread ran on chunk 0 of 4,096 bytes: the return address was saved in its last word, and its first word links chunk 1.
 const ON_FIRST: AtEnd = AtEnd {
     free: 1024,
-    words: [(0, 1023, 4096), (0, 0, 1), (1, 1023, 0)],
+    words: &[(0, 1023, 4096), (0, 0, 1), (1, 1023, 0)],
 };
 
 /// It ran on chunk 1,024, the one of 32 bytes, whose first word is the count.
 const ON_EXTRA: AtEnd = AtEnd {
     free: 1025,
-    words: [(1024, 7, 4096), (1024, 0, 1025), (0, 1023, 0)],
+    words: &[(1024, 7, 4096), (1024, 0, 1025), (0, 1023, 0)],
 };
 
 /// Words, the status, what the output and standard error take, the world that is handed out, and files that are there then.
@@ -63,7 +63,7 @@ const SEQUENCE: [Row<'static>; 9] = [
         NONE,
         Some(AtEnd {
             free: 1025,
-            words: [(0, 1023, 4096), (0, 0, 1), (1024, 1023, 0)],
+            words: &[(0, 1023, 4096), (0, 0, 1), (1024, 1023, 0)],
         }),
         &[],
     ),
@@ -128,16 +128,23 @@ fn is_at_end(last: &Option<World>, wanted: &AtEnd) -> bool {
                 && world.free() == wanted.free
                 && world.cap(0) == wanted.free
                 && world.live() == 0
-                && has_word(world, wanted.words[0])
-                && has_word(world, wanted.words[1])
-                && has_word(world, wanted.words[2])
+                && has_words(world, wanted.words)
         }
     }
 }
 
+/// Whether words of chunks have these values.
+fn has_words(world: &World, wanted: &[(u32, u32, u32)]) -> bool {
+    for &(chunk, word, value) in wanted {
+        if !has_word(world, chunk, word, value) {
+            return false;
+        }
+    }
+    true
+}
+
 /// Whether a word of a chunk has this value.
-fn has_word(world: &World, wanted: (u32, u32, u32)) -> bool {
-    let (chunk, word, value) = wanted;
+fn has_word(world: &World, chunk: u32, word: u32, value: u32) -> bool {
     chunk < world.cap(0) && word < world.chunk_words(chunk) && world.word_at(chunk, word) == value
 }
 
