@@ -18,8 +18,8 @@ use Rattle.machine_world.specs.Threads.{World}
 use Rattle.machine_world.specs.WellFormed.{IsWellFormed}
 use Rattle.schedule_log.specs.EntryRanges.{FitsEntry}
 use Rattle.schedule_log.specs.declared.entries.Entry.{Entry}
-use Rattle.world_source.specs.Reached.{with_puts, IsReached}
-use Rattle.world_source.specs.UnderWay.{StandsSettled}
+use Rattle.machine_meaning.specs.Reached.{with_puts, IsReached}
+use Rattle.machine_meaning.specs.UnderWay.{StandsSettled}
 use Rattle.audited_logs.specs.Audited.{given_of}
 use Rattle.audited_logs.proofs.Acts.{Few}
 use Rattle.audited_logs.proofs.Live.{live_between}

@@ -14,9 +14,9 @@ use Rattle.lawful_log.specs.State.{State, held_chunks}
 use Rattle.lawful_reading.specs.Choice as reading
 use Rattle.lawful_reading.specs.State as reading_state
 use Rattle.machine_world.specs.Runs.{Advance, Pick}
-use Rattle.world_source.specs.Reached.{IsReached}
-use Rattle.world_source.proofs.Between.{advanced_law}
-use Rattle.world_source.proofs.Laws as laws
+use Rattle.machine_meaning.specs.Reached.{IsReached}
+use Rattle.machine_meaning.proofs.BetweenSegments.{advanced_law}
+use Rattle.machine_meaning.proofs.WorldLaws as laws
 use Rattle.audited_logs.specs.Audited.{given_of}
 use Rattle.audited_logs.proofs.Acts.{two, advances, picks}
 use Rattle.audited_logs.proofs.Begun.{begins}

@@ -21,8 +21,8 @@ use Rattle.machine_world.specs.Threads.{World}
 use Rattle.machine_world.specs.WellFormed.{IsWellFormedIf, DeliversWords}
 use Rattle.machine_world.proofs.FormWorlds.{IsWellFormedIf-action}
 use Rattle.schedule_log.specs.declared.entries.Item.{Item}
-use Rattle.world_source.specs.UnderWay.{StandsSettled}
-use Rattle.world_source.proofs.Between.{delivered_law, advanced_law}
+use Rattle.machine_meaning.specs.UnderWay.{StandsSettled}
+use Rattle.machine_meaning.proofs.BetweenSegments.{delivered_law, advanced_law}
 use Rattle.audited_logs.specs.Audited.{given_of}
 use Rattle.audited_logs.proofs.Acts.{Acted, two, advances, delivers}
 use Rattle.audited_logs.proofs.Beside.{Holds, Rests, Position, Between, Within, between_at, between_of, same_seen, not_within}

@@ -27,3 +27,9 @@ pub mod Positions
 pub mod Logs
 pub mod ReadRuns
 pub mod ReadWorlds
+pub mod TextMeaning
+pub mod Rests
+pub mod Values
+pub mod Lines
+pub mod OfText
+pub mod ReadLines

@@ -12,7 +12,7 @@ use Rattle.machine_world.specs.Numbered.{RiseBetween, IsNumbered}
 use Rattle.machine_world.specs.Places.{Checked}
 use Rattle.machine_world.specs.StandsForWorld.{StandsForRest, StandsForWorld}
 use Rattle.machine_world.specs.Threads.{Thread, World, Setting, first_with, thread_of}
-use Rattle.world_source.specs.UnderWay.{IsUnderWay}
+use Rattle.machine_meaning.specs.UnderWay.{IsUnderWay}
 use Rattle.audited_logs.proofs.Begun.{StillLives}
 
 -- a thread of the machine is there where one of the source hasn't ended

@@ -13,8 +13,8 @@ use Rattle.lawful_log.specs.Setup.{Setup, setting_of}
 use Rattle.lawful_log.specs.State.{Segment, State}
 use Rattle.lawful_reading.specs.Segments as reading
 use Rattle.lawful_reading.specs.State as reading_state
-use Rattle.world_source.specs.Reached.{with_puts}
-use Rattle.world_source.proofs.Forms.{has_form}
+use Rattle.machine_meaning.specs.Reached.{with_puts}
+use Rattle.machine_meaning.proofs.Forms.{has_form}
 use Rattle.audited_logs.specs.Audited.{given_of}
 use Rattle.audited_logs.proofs.Begun.{begins}
 use Rattle.audited_logs.proofs.Beside.{Runs, IsAt, Position, Between, Within, within_of, segment_of, not_both, same_segment}

@@ -15,16 +15,16 @@ use Rattle.lawful_log.specs.State.{State, start_of}
 use Rattle.lawful_reading.specs.Given.{Given}
 use Rattle.lawful_reading.specs.Happenings.{live_in}
 use Rattle.lawful_reading.specs.State as reading_state
-use Rattle.segment_source.proofs.Formed.{formed}
+use Rattle.machine_meaning.proofs.Formed.{formed}
 use Rattle.machine_world.specs.Threads.{World}
 use Rattle.machine_world.specs.WellFormed.{AreWellFormed, IsWellFormed, IsWellFormedIf, most_fuel}
 use Rattle.machine_world.proofs.CountedLaws.{all_free-new}
 use Rattle.machine_world.proofs.FormWorlds.{IsWellFormedIf-start}
 use Rattle.schedule_log.specs.declared.entries.Entry.{Entry}
 use Rattle.schedule_log.specs.declared.entries.StopLine.{StopLine}
-use Rattle.segment_steps.proofs.ValidCalls.{CallFacts-valid}
+use Rattle.segment_laws.proofs.ValidCalls.{CallFacts-valid}
 use Rattle.stack_certificate.specs.Certificates.{fact_at}
-use Rattle.world_source.proofs.Between.{starts_law}
+use Rattle.machine_meaning.proofs.BetweenSegments.{starts_law}
 use Rattle.audited_logs.specs.Audited.{given_of}
 use Rattle.audited_logs.proofs.Beside.{Holds, Position, Between, Within, between_at, between_of, not_within}
 use Rattle.audited_logs.proofs.Choices.{chosen}

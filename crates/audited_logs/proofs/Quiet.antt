@@ -7,13 +7,13 @@ use Rattle.certificate_rules.specs.Validity.{IsValid}
 use Rattle.lawful_log.specs.Good.{checked_of}
 use Rattle.lawful_log.specs.Segments.{quiet_world, after_quiet}
 use Rattle.lawful_log.specs.Setup.{Setup, setting_of}
-use Rattle.lawful_steps.proofs.Counts.{Counts, Retires, StartsOne, IsOver, counts_step}
+use Rattle.lawful_log.proofs.Counts.{Counts, Retires, StartsOne, IsOver, counts_step}
 use Rattle.machine_world.specs.Runs.{and_then}
 use Rattle.machine_world.specs.Threads.{World, Setting, Move, Goes, Puts, Spawns, Blocks, Ends, Stops, Wrong, step}
 use Rattle.machine_world.specs.WellFormed.{KeepsWellFormed}
 use Rattle.machine_world.proofs.FormWorlds.{KeepsWellFormed-step}
-use Rattle.world_source.specs.Reached.{StepReaches, IsFinishedIn}
-use Rattle.world_source.proofs.Laws as laws
+use Rattle.machine_meaning.specs.Reached.{StepReaches, IsFinishedIn}
+use Rattle.machine_meaning.proofs.WorldLaws as laws
 use Rattle.audited_logs.proofs.Acts.{KeepsFew, few_step}
 use Rattle.audited_logs.proofs.Beside.{Holds, Runs}
 use Rattle.audited_logs.proofs.Pools.{KeepsCount, count_step}

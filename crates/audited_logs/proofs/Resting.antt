@@ -21,8 +21,8 @@ use Rattle.lawful_reading.specs.Segments as reading
 use Rattle.lawful_reading.specs.State as reading_state
 use Rattle.lawful_reading.specs.State.{IsPossible}
 use Rattle.machine_world.specs.Threads.{World}
-use Rattle.world_source.specs.Reached.{with_puts}
-use Rattle.world_source.specs.UnderWay.{StandsSettled}
+use Rattle.machine_meaning.specs.Reached.{with_puts}
+use Rattle.machine_meaning.specs.UnderWay.{StandsSettled}
 use Rattle.audited_logs.specs.Audited.{given_of}
 use Rattle.audited_logs.proofs.Beside.{Holds, Runs, IsAt, Position, Between, Within, between_at, between_of, within_of, segment_of, not_both, same_segment}
 use Rattle.audited_logs.proofs.Cuts.{Rest, begun_by, moved_from, rests_next}

@@ -20,13 +20,13 @@ use Rattle.machine_world.specs.Places.{Checked}
 use Rattle.machine_world.specs.Threads as machine
 use Rattle.machine_world.specs.Threads.{Thread, World, Setting, Move, most_threads, package_call, printed, spawned, unless_trap, moved, step}
 use Rattle.machine_world.specs.WellFormed.{IsWellFormed}
-use Rattle.segment_source.specs.AsSource.{AsksCall, IsStepAsSource}
+use Rattle.machine_meaning.specs.AsSource.{AsksCall, IsStepAsSource}
 use Rattle.stack_certificate.specs.declared.certificates.Certificate.{Certificate}
 use Rattle.stack_image.specs.declared.images.Image.{Image}
-use Rattle.world_source.specs.Reached.{IsReached}
-use Rattle.world_source.proofs.Forms.{local_in}
-use Rattle.world_source.proofs.Steps.{along}
-use Rattle.world_source.proofs.WorldSteps.{step_is}
+use Rattle.machine_meaning.specs.Reached.{IsReached}
+use Rattle.machine_meaning.proofs.Forms.{local_in}
+use Rattle.machine_meaning.proofs.SegmentSteps.{along}
+use Rattle.machine_meaning.proofs.WorldSteps.{step_is}
 use Rattle.audited_logs.proofs.Begun.{ComesToStart, comes_to_start}
 
 -- ---- the machine's step

@@ -20,8 +20,8 @@ use Rattle.rv_machine.specs.Registers.{read}
 use Rattle.rv_machine.specs.Rows as rows
 use Rattle.rv_machine.specs.Step.{outcome}
 use Rattle.rv_machine.proofs.WordLaws.{read-below}
-use Rattle.world_source.proofs.Forms.{local_in}
-use Rattle.world_source.proofs.WorldSteps.{step_is}
+use Rattle.machine_meaning.proofs.Forms.{local_in}
+use Rattle.machine_meaning.proofs.WorldSteps.{step_is}
 
 -- ---- the thread's own step
 

@@ -1,2 +1,3 @@
 pub mod Audited
 pub mod Printed
+pub mod TextLog

@@ -9,7 +9,7 @@ use Rattle.c_tree.specs.Trees.{ProgramTree}
 use Rattle.c_tree.specs.ProgramView.{program_tree}
 use Rattle.c_tree.specs.declared.programs.Program.{Program}
 use Rattle.c_grammar.specs.declared.errors.ParseError.{ParseError}
-use Rattle.whole_calls.specs.WholeForParts.{AreForPartsWhole}
+use Rattle.c_tree.specs.WholeForParts.{AreForPartsWhole}
 use Rattle.c_parse.specs.ForParts.{nested_in_fors}
 use Rattle.c_parse.specs.Parsed.{IsParsedNested, IsNestedErrorOf}
 use Rattle.c_parse.proofs.ForWhole.{for_parts_whole, for_parts_none}
@@ -21,7 +21,7 @@ use Rattle.c_scope.specs.declared.source_errors.SourceError.{SourceError}
 use Rattle.c_scope.specs.declared.source_errors.SourceError.TheVariants as refusals
 use Rattle.c_scope.specs.SourceText.{by_lex, by_parse, by_scope}
 use Rattle.c_scope.proofs.SourceTexts as texts
-use Rattle.grammar_places.specs.Ranks.{site_numbers}
+use Rattle.grammar_laws.specs.Ranks.{site_numbers}
 use Rattle.hoist_parts.specs.Statements.{items_hoisted}
 use Rattle.c_hoist.specs.NestedText.{IsHoistedTo, IsRefusedHoisted, ReadsNested, IsNestedSourceErrorOf}
 

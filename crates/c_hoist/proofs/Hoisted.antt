@@ -2,7 +2,7 @@
 use Rattle.std.proofs.Common.{ℕ, ◌≡◌, subst, List}
 use Rattle.c_tree.specs.RawTrees.{RawItemTree}
 use Rattle.c_tree.specs.Trees.{ProgramTree}
-use Rattle.grammar_places.specs.Ranks.{site_numbers}
+use Rattle.grammar_laws.specs.Ranks.{site_numbers}
 use Rattle.scope_rules.specs.declared.errors.ScopeError.{ScopeError}
 use Rattle.scope_rules.specs.Numbered.{IsResolvedBy}
 use Rattle.scope_rules.specs.Outcomes.{IsRefused}

@@ -5,8 +5,8 @@ use Rattle.c_lex.proofs.PlaceLemmas.{tokens_stand}
 use Rattle.c_tree.specs.ProgramView.{program_tree}
 use Rattle.c_tree.specs.declared.programs.Program.{Program}
 use Rattle.c_scope.specs.declared.source_errors.SourceError.{SourceError}
-use Rattle.grammar_places.specs.Nested.{is_call}
-use Rattle.grammar_places.proofs.Trees.{program_rises}
+use Rattle.grammar_laws.specs.Nested.{is_call}
+use Rattle.grammar_laws.proofs.Trees.{program_rises}
 use Rattle.hoist_meaning.proofs.Plan.{hoisting_keeps_meaning}
 use Rattle.hoist_meaning.proofs.ReadNames.{read_named}
 use Rattle.c_hoist.specs.NestedText.{MeansText}

@@ -1,8 +1,8 @@
 -- A source that is rewritten and read item by item.
 use Rattle.std.proofs.Common.{◌≡◌, refl, sym, ap, ◌∙◌, List, [], ◌∷◌, ◌++◌, append_assoc, append-nil, None}
 use Rattle.c_tree.specs.RawTrees.{RawItemTree, RawGlobal, RawGlobalArray, RawTableItem, RawPrototypeItem, RawFunctionItem}
-use Rattle.grammar_places.specs.Nested.{is_call}
-use Rattle.grammar_places.specs.Places.{item_places, items_places}
+use Rattle.grammar_laws.specs.Nested.{is_call}
+use Rattle.grammar_laws.specs.Places.{item_places, items_places}
 use Rattle.scope_rules.specs.declared.resolver.Resolver.{Resolver}
 use Rattle.scope_rules.specs.Names.{Binding}
 use Rattle.scope_rules.specs.Faults.{least_of}

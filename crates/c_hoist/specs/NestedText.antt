@@ -3,7 +3,7 @@
 use Rattle.std.specs.Prelude.{ℕ, List}
 use Rattle.c_tree.specs.RawTrees.{RawItemTree}
 use Rattle.c_tree.specs.Trees.{ProgramTree}
-use Rattle.whole_calls.specs.WholeForParts.{AreForPartsWhole}
+use Rattle.c_tree.specs.WholeForParts.{AreForPartsWhole}
 use Rattle.c_parse.specs.ForParts.{nested_in_fors}
 use Rattle.scope_rules.specs.declared.errors.ScopeError.{ScopeError}
 use Rattle.scope_rules.specs.Outcomes.{IsRefused}
@@ -11,7 +11,7 @@ use Rattle.scope_rules.specs.Numbered.{IsResolvedBy}
 use Rattle.c_scope.specs.declared.source_errors.SourceError.{SourceError}
 use Rattle.c_scope.specs.SourceText.{ReadsWhere, IsSourceErrorWhere}
 use Rattle.hoist_parts.specs.Statements.{items_hoisted}
-use Rattle.grammar_places.specs.Ranks.{site_numbers}
+use Rattle.grammar_laws.specs.Ranks.{site_numbers}
 use Rattle.deep_mean.specs.Naming.{deep_program}
 use Rattle.hoist_meaning.specs.SameRuns.{RunsTheSame}
 

@@ -2,7 +2,7 @@
 use Rattle.std.proofs.Common.{ℕ, ◌≡◌, refl, List, [], ◌∷◌, Option, Some, None}
 use Rattle.c_tree.specs.RawTrees.{RawStmtTree, RawStmtTrees, RawDo, RawEmpty, RawBlock, RawIf, RawIfElse, RawWhile, RawFor, RawBreak, RawContinue, RawReturn, NoRawStmts, RawThen, RawItemTree, RawGlobal, RawGlobalArray, RawTableItem, RawPrototypeItem, RawFunctionItem}
 use Rattle.c_parse.specs.NestedCalls.{earlier, nested_in_simples, nested_in_condition, nested_in_step}
-use Rattle.whole_calls.specs.WholeForParts.{IsForWhole, AreForsWhole, IsItemForWhole, AreForPartsWhole}
+use Rattle.c_tree.specs.WholeForParts.{IsForWhole, AreForsWhole, IsItemForWhole, AreForPartsWhole}
 use Rattle.c_parse.specs.ForParts.{nested_in_for, nested_in_all_for, nested_in_item_for, nested_in_fors}
 use Rattle.c_parse.proofs.NestedWhole.{neither_left, neither_right, neither, simples_whole, simples_none, condition_whole, condition_none, step_whole, step_none}
 

@@ -8,7 +8,7 @@ use Rattle.c_grammar.specs.declared.errors.ParseError.TheVariants.{Unexpected, T
 use Rattle.c_grammar.specs.Refusals.{IsWithin, IsUnexpected, IsTooDeep}
 use Rattle.c_grammar.specs.Grammar.{IsProgram}
 use Rattle.c_parse.specs.NestedCalls.{nested_in_items}
-use Rattle.whole_calls.specs.WholeForParts.{AreForPartsWhole}
+use Rattle.c_tree.specs.WholeForParts.{AreForPartsWhole}
 use Rattle.c_parse.specs.ForParts.{nested_in_fors}
 
 -- ---- over which calls have to be whole

@@ -8,3 +8,4 @@ pub mod LongerSizes
 pub mod Pushes
 pub mod RawExprEquations
 pub mod RawStmtEquations
+pub mod WholeInFors

@@ -12,3 +12,4 @@ pub mod OneProof
 pub mod ProgramView
 pub mod RawProgramView
 pub mod WholeCalls
+pub mod WholeForParts

@@ -5,7 +5,7 @@ use Rattle.std.proofs.Math.ListN.{set, drop_of_length-le}
 use Rattle.std.proofs.lemmas.Bool.{cases_lt}
 use Rattle.std.proofs.lemmas.Bool.Decides.{nat_tests}
 use Rattle.std.proofs.lemmas.List.{get_or-set_other, get_or-set_same, length-set, length-drop}
-use Rattle.grammar_places.specs.Ranks.{lesser, no_greater, ranks_after}
+use Rattle.grammar_laws.specs.Ranks.{lesser, no_greater, ranks_after}
 
 -- how many of these places are this one
 abbrev pub equal : ℕ → List ℕ → ℕ

@@ -1,7 +1,7 @@
 // The numbers of calls by the places of their names.
 ghost use Rattle.std.specs.Prelude.{◌≡◌, ◌<◌, ◌^◌, ℕ, length, slice_index, EachIndex, IfOk};
 ghost use Rattle.c_tree.specs.WellScoped.{AreSiteNumbers};
-ghost use Rattle.grammar_places.specs.Ranks.{lesser, ranks};
+ghost use Rattle.grammar_laws.specs.Ranks.{lesser, ranks};
 
 use std::alloc::{AllocError, Global};
 

@@ -4,8 +4,8 @@ use Rattle.std.proofs.lemmas.List.{append-nil}
 use Rattle.c_tree.specs.declared.operators.Infix.{Infix}
 use Rattle.c_tree.specs.RawTrees.{RawExprTree}
 use Rattle.c_tree.specs.RawViews.{raw_joined, raw_chained}
-use Rattle.grammar_places.specs.Nested.{is_call}
-use Rattle.grammar_places.specs.Places.{expr_places}
+use Rattle.grammar_laws.specs.Nested.{is_call}
+use Rattle.grammar_laws.specs.Places.{expr_places}
 
 abbrev pub operands_places : List (Infix × RawExprTree) → List ℕ
 operands_places [] = []

@@ -1,8 +1,8 @@
 -- Names that are declared or used are no calls.
 use Rattle.std.proofs.Common.{◌≡◌, List, [], ◌∷◌, Option, Some, None, refl}
 use Rattle.c_tree.specs.RawTrees.{NameTree}
-use Rattle.grammar_places.specs.Nested.{is_call}
-use Rattle.grammar_places.specs.Places.{Declared, Used, names_places, parameters_places}
+use Rattle.grammar_laws.specs.Nested.{is_call}
+use Rattle.grammar_laws.specs.Places.{Declared, Used, names_places, parameters_places}
 
 pub no_declared : (ns : List NameTree) → names_places is_call Declared ns ≡ []
 no_declared [] = refl

@@ -2,8 +2,8 @@
 ghost use Rattle.std.specs.Prelude.{◌≡◌, ◌++◌, ◌∷◌, [], map, option_map, IfOk, OnOk};
 ghost use Rattle.c_tree.specs.RawViews.{raw_expr_tree, raw_expr_trees, raw_simple_tree, raw_stmt_tree, raw_stmt_trees, raw_item_tree, raw_item_trees};
 ghost use Rattle.c_tree.specs.RawProgramView.{raw_program_tree};
-ghost use Rattle.grammar_places.specs.Nested.{is_call};
-ghost use Rattle.grammar_places.specs.Places.{expr_places, exprs_places, optional_places, simple_places, simples_places, step_places, stmt_places, stmts_places, item_places, items_places};
+ghost use Rattle.grammar_laws.specs.Nested.{is_call};
+ghost use Rattle.grammar_laws.specs.Places.{expr_places, exprs_places, optional_places, simple_places, simples_places, step_places, stmt_places, stmts_places, item_places, items_places};
 
 use c_tree::{RawExpr, RawItem, RawProgram, RawSimple, RawStmt};
 use std::alloc::{AllocError, Global};

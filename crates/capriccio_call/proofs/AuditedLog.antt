@@ -19,7 +19,7 @@ use Rattle.machine_world.specs.WellFormed.{most_fuel}
 use Rattle.schedule_log.specs.EntryText.{log_text}
 use Rattle.schedule_log.specs.declared.entries.Entry.{Entry}
 use Rattle.schedule_log.specs.declared.entries.StopLine.{StopLine}
-use Rattle.text_logs.proofs.ReadLines.{log_of_source}
+use Rattle.audited_logs.proofs.ReadLines.{log_of_source}
 use Rattle.thread_core.specs.Worlds.{Held}
 use Rattle.command_outcomes.specs.declared.documents.Document.TheVariants as document
 use Rattle.command_outcomes.specs.declared.faults.Fault.{Fault}
@@ -31,9 +31,9 @@ use Rattle.command_files.specs.Loads.{AfterLoad, IsSourceText}
 use Rattle.command_options.specs.Options.{AreAuditOptions}
 use Rattle.command_audit.specs.Audits.{Audits, AuditsBytes, AuditsProgram, judged_outcome, judgement_status, reading_of}
 use Rattle.capriccio_call.specs.Due.{IsDue}
-use Rattle.log_verdicts.specs.Verdicts.{IsVerdictOf}
-use Rattle.log_verdicts.specs.declared.verdicts.Verdict.{Verdict}
-use Rattle.log_verdicts.specs.declared.verdicts.Verdict.TheVariants.{Lawful, Steps, Unlawful}
+use Rattle.lawful_reading.specs.Verdicts.{IsVerdictOf}
+use Rattle.lawful_reading.specs.declared.judgement.Verdict.{Verdict}
+use Rattle.lawful_reading.specs.declared.judgement.Verdict.TheVariants.{Lawful, Steps, Unlawful}
 use Rattle.command_options.proofs.Options.{audit-options}
 use Rattle.capriccio_call.specs.Audited.{AsksForAudit, IsAudited, IsRunUnder, IsSourcesLog, SaysOf}
 use Rattle.capriccio_call.specs.Headline.{IsAnswer}

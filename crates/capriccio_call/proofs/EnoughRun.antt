@@ -1,10 +1,10 @@
 -- A run that has enough chunks doesn't stop for want of one.
 use Rattle.std.proofs.Common.{◌≡◌, ◌≢◌, ℕ, ◌*◌, ◌≤◌, List, [], Option, Some, Ok, Err, refl, sym, ap, subst, ◌∙◌, arith, inr, ⊎_elim}
 use Rattle.accepted_pairs.specs.Accepting.{accepted_tree}
-use Rattle.budget_laws.specs.Lives.{live}
-use Rattle.budget_laws.specs.Rooms.{roomy}
-use Rattle.budget_laws.proofs.LogLemmas.{IsReady, enough-at-stop, enough-in-new}
-use Rattle.budget_laws.proofs.RoomLemmas.{first_roomy}
+use Rattle.log_laws.specs.Lives.{live}
+use Rattle.log_laws.specs.Rooms.{roomy}
+use Rattle.log_laws.proofs.LogLemmas.{IsReady, enough-at-stop, enough-in-new}
+use Rattle.log_laws.proofs.RoomLemmas.{first_roomy}
 use Rattle.c_lower.specs.ProgramCode.{lowered}
 use Rattle.c_tree.specs.Trees.{ProgramTree}
 use Rattle.c_tree.specs.WellScoped.{IsWellScoped}

@@ -10,7 +10,7 @@ use Rattle.pair_commands.specs.Runs.{IsRun, IsRunOfSome, RunsOn, run_outcome}
 use Rattle.capriccio_commands.specs.Demos.{ShowsRun, shown_outcome}
 use Rattle.capriccio_call.specs.Due.{IsDue}
 use Rattle.workload.specs.Traces.{trace_text}
-use Rattle.workload_source.specs.Programs.{program_text}
+use Rattle.workload.specs.Programs.{program_text}
 use Rattle.schedule_log.specs.EntryText.{log_text}
 use Rattle.command_outcomes.specs.Done.{Outside, IsTold}
 use Rattle.capriccio_commands.specs.Ends.{IsLast}

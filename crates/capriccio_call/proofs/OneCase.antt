@@ -46,14 +46,14 @@ use Rattle.command_options.specs.Options.{IsRunPolicy, sizes_of}
 use Rattle.capriccio_commands.specs.Demos.{Demos, ShowsProgram, ShowsRun, demo_sizes, demo_policy}
 use Rattle.command_audit.specs.Audits.{Audits, AuditsBytes, AuditsProgram, judged_outcome, reading_of}
 use Rattle.capriccio_call.specs.Due.{Does, IsDue}
-use Rattle.workload_source.specs.Programs.{program_text}
+use Rattle.workload.specs.Programs.{program_text}
 use Rattle.workload.specs.Traces.{trace_text}
 use Rattle.command_outcomes.specs.Done.{Outside, IsRisen, IsDone, IsTraceTold, IsExact}
 use Rattle.c_hoist.proofs.EveryNested.{one_program, one_source_error, never}
 use Rattle.pair_commands.proofs.OneBuild.{plans-are-one, words-are-one, texts-are-one}
 use Rattle.capriccio_call.proofs.OneBudget.{one-budget, one-least}
-use Rattle.log_verdicts.specs.Verdicts.{IsVerdictOf}
-use Rattle.log_verdicts.proofs.OneVerdict.{one_verdict}
+use Rattle.lawful_reading.specs.Verdicts.{IsVerdictOf}
+use Rattle.lawful_reading.proofs.OneVerdict.{one_verdict}
 use Rattle.capriccio_call.proofs.OnePair.{pairs-are-one}
 use Rattle.capriccio_call.proofs.OneRun.{IsInRange, one-outcome, one-shown}
 use Rattle.command_options.proofs.Options.{serve-policy, serve-pool, run-policy}

@@ -26,8 +26,8 @@ use Rattle.command_outcomes.specs.FaultLines.{fault_status}
 use Rattle.command_outcomes.specs.Outcome.{Outcome}
 use Rattle.command_files.specs.Loads.{IsSourceText, OfFile, AfterLoad, AfterThree, AfterSource, AfterImage, AfterCertificate}
 use Rattle.command_outcomes.specs.Done.{Outside}
-use Rattle.log_verdicts.specs.declared.verdicts.Verdict as said
-use Rattle.log_verdicts.specs.declared.verdicts.Verdict.TheVariants as judgement
+use Rattle.lawful_reading.specs.declared.judgement.Verdict as said
+use Rattle.lawful_reading.specs.declared.judgement.Verdict.TheVariants as judgement
 use Rattle.pair_commands.specs.declared.check_command.Verdict.{Verdict}
 use Rattle.pair_commands.specs.declared.check_command.Verdict.TheVariants.{Accepted, Rejected}
 use Rattle.command_audit.specs.Audits.{AuditsBytes, AuditsProgram, judged_outcome, judgement_status}
@@ -40,7 +40,7 @@ use Rattle.capriccio_commands.specs.Demos.{ShowsRun, demo_policy}
 use Rattle.capriccio_call.specs.Due.{Does}
 use Rattle.command_options.specs.Options.{sizes_of}
 use Rattle.workload.specs.Traces.{trace_text}
-use Rattle.workload_source.specs.Programs.{program_text}
+use Rattle.workload.specs.Programs.{program_text}
 
 -- a status that no fault has
 abbrev pub IsFree : ℕ → Type 0

@@ -25,8 +25,8 @@ use Rattle.command_options.specs.Options.{IsRunPolicy, sizes_of}
 use Rattle.pair_commands.specs.Runs.{IsAccepted, RunsOn, ServesProgram, RunsBytes, RunsPair, policy_of, pool_bytes, setup_of}
 use Rattle.capriccio_commands.specs.Demos.{demo_policy}
 use Rattle.capriccio_call.specs.Due.{Does}
-use Rattle.text_logs.proofs.OfText.{log_of_text}
-use Rattle.workload_source.specs.Programs.{program_text}
+use Rattle.audited_logs.proofs.OfText.{log_of_text}
+use Rattle.workload.specs.Programs.{program_text}
 use Rattle.capriccio_commands.proofs.Workloads.{demo-run-policy, demo-pool}
 use Rattle.command_options.proofs.Options.{serve-policy, serve-pool, run-policy}
 use Rattle.capriccio_call.specs.Headline.{IsPolicyFor}

@@ -19,7 +19,7 @@ use Rattle.machine_world.specs.Threads.{World}
 use Rattle.schedule_log.specs.EntryText.{log_text}
 use Rattle.schedule_log.specs.declared.entries.Entry.{Entry}
 use Rattle.schedule_log.specs.declared.entries.StopLine.{StopLine}
-use Rattle.text_logs.specs.TextLog.{IsTextLog}
+use Rattle.audited_logs.specs.TextLog.{IsTextLog}
 use Rattle.command_outcomes.specs.declared.documents.Document.TheVariants as document
 use Rattle.command_outcomes.specs.declared.faults.Fault.TheVariants.{Memory}
 use Rattle.command_outcomes.specs.Done.{Outside, NoFault}
@@ -28,8 +28,8 @@ use Rattle.command_files.specs.Loads.{IsSourceText}
 use Rattle.command_files.specs.Loaded.{IsLoaded}
 use Rattle.command_audit.specs.Audits.{judgement_line, judgement_status, reading_of, reading_policy}
 use Rattle.pair_commands.specs.Runs.{IsAccepted}
-use Rattle.log_verdicts.specs.declared.verdicts.Verdict.{Verdict}
-use Rattle.log_verdicts.specs.declared.verdicts.Verdict.TheVariants.{Lawful, Steps}
+use Rattle.lawful_reading.specs.declared.judgement.Verdict.{Verdict}
+use Rattle.lawful_reading.specs.declared.judgement.Verdict.TheVariants.{Lawful, Steps}
 
 -- The words ask for the audit of this log of this program, on this trace: the shelf tells its files, and the trace its bytes; the file of the
 -- source is read as the program, and that of the log holds just these bytes, which are no more than a log may have (67,108,864).

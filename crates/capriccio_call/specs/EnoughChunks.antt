@@ -2,8 +2,8 @@
 -- live than so many, and the pool has room for the budget of each of them.
 use Rattle.std.specs.Prelude.{ℕ, ◌≡◌, ◌≢◌, ◌*◌, ◌≤◌, ◌⊎◌, List, Option, IfSome, Some}
 use Rattle.accepted_pairs.specs.Accepting.{accepted_tree}
-use Rattle.budget_laws.specs.Lives.{live}
-use Rattle.budget_laws.specs.Rooms.{roomy}
+use Rattle.log_laws.specs.Lives.{live}
+use Rattle.log_laws.specs.Rooms.{roomy}
 use Rattle.c_lower.specs.ProgramCode.{lowered}
 use Rattle.cap_io.specs.Files.{Files}
 use Rattle.chunk_budget.specs.declared.budgets.Budget.{Budget}

@@ -23,7 +23,7 @@ use Rattle.capriccio_commands.specs.Demos.{demo_policy}
 use Rattle.capriccio_commands.specs.Summary.{summary_of}
 use Rattle.capriccio_call.specs.TheText.{IsLogOfText}
 use Rattle.workload.specs.Traces.{trace_text}
-use Rattle.workload_source.specs.Programs.{program_text}
+use Rattle.workload.specs.Programs.{program_text}
 
 -- What is due is done as a whole, or after a fault or a want of memory in part; where nothing failed it is just what is due. Standard
 -- error takes the line, the status is that of the outcome or of the fault, and the world that was run is handed out exactly where

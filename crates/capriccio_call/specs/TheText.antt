@@ -8,8 +8,8 @@ use Rattle.command_words.specs.WordList.{Request, Serve, Run, Build, Check, Grap
 use Rattle.deep_mean.specs.Naming.{deep_program}
 use Rattle.lawful_log.specs.Setup.{Setup}
 use Rattle.schedule_log.specs.declared.entries.Entry.{Entry}
-use Rattle.text_logs.specs.TextLog.{IsTextLog}
-use Rattle.workload_source.specs.Programs.{program_text}
+use Rattle.audited_logs.specs.TextLog.{IsTextLog}
+use Rattle.workload.specs.Programs.{program_text}
 
 -- The bytes of the source that a request runs. For `serve` and `run` they are those of the file that the words name, where the shelf tells
 -- its files, and at most as many as a source may have; for `demo` those of the workload of its number. No other request runs a source.

@@ -14,10 +14,10 @@ use Rattle.c_hoist.proofs.WholeReads.{reads_nested}
 use Rattle.codegen_link.specs.Layout.{code_words}
 use Rattle.codegen_link.specs.Plans.{AreInRange}
 use Rattle.stack_build.specs.declared.refusals.BuildError.TheVariants.{FrameTooLarge}
-use Rattle.workload_source.proofs.Reading.{program_read}
-use Rattle.workload_limits.specs.Sizes.{HasFittingSizes}
-use Rattle.workload_limits.proofs.Built.{workload_fits}
-use Rattle.workload_source.specs.Programs.{line_feed, first_line, link_line, chain_text, worker_line, main_line, program_text}
+use Rattle.workload.proofs.Reading.{program_read}
+use Rattle.workload.specs.Sizes.{HasFittingSizes}
+use Rattle.workload.proofs.Built.{workload_fits}
+use Rattle.workload.specs.Programs.{line_feed, first_line, link_line, chain_text, worker_line, main_line, program_text}
 use Rattle.command_outcomes.specs.declared.faults.Fault.TheVariants.{Read, Write, Memory}
 use Rattle.command_outcomes.specs.declared.stops.Stop.{Stop}
 use Rattle.command_outcomes.specs.declared.stops.Stop.TheVariants.{Refused, Failed}

@@ -13,7 +13,7 @@ use Rattle.schedule_log.specs.declared.entries.StopLine.{StopLine}
 use Rattle.stack_build.specs.Builds.{IsLaidOut}
 use Rattle.stack_image.specs.declared.images.Image.{Image}
 use Rattle.stack_certificate.specs.declared.certificates.Certificate.{Certificate}
-use Rattle.workload_source.specs.Programs.{program_text}
+use Rattle.workload.specs.Programs.{program_text}
 use Rattle.workload.specs.Traces.{trace_text}
 use Rattle.command_outcomes.specs.Outcome.{Outcome}
 use Rattle.capriccio_commands.specs.Ends.{IsLast}
@@ -56,8 +56,8 @@ abbrev pub ShowsProgram : List ℕ → ProgramTree → Outcome → Type 0
 ShowsProgram trace program outcome =
     (i : Image) × (c : Certificate) × IsLaidOut (lowered program) demo_sizes i c × ShowsRun trace (setup_of program i c demo_policy) outcome
 
--- The program is the one that the source of the workload is. It is never refused: it reads as one (`program_is_read` of workload_source), and no
--- frame of it and not its code is too large (`workload_is_built` of workload_limits).
+-- The program is the one that the source of the workload is. It is never refused: it reads as one (`program_is_read` of workload), and no
+-- frame of it and not its code is too large (`workload_is_built`).
 abbrev pub Demos : (number : ℕ) → Outcome → Type 0
 Demos number outcome = (program : ProgramTree) × IsSourceText (program_text number) program × ShowsProgram (trace_text number) program outcome
 

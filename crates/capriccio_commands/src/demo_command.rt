@@ -2,7 +2,7 @@
 ghost use Rattle.std.specs.Prelude.{◌≡◌, ◌≤◌, List, MatchResult, Some};
 ghost use Rattle.c_tree.specs.ProgramView.{program_tree};
 ghost use Rattle.accepted_pairs.specs.Accepting.{accepted_tree};
-ghost use Rattle.workload_source.specs.Programs.{program_text};
+ghost use Rattle.workload.specs.Programs.{program_text};
 ghost use Rattle.workload.specs.Traces.{trace_text};
 ghost use Rattle.thread_core.specs.Worlds.{Held};
 ghost use Rattle.command_files.specs.Loads.{IsSourceText};

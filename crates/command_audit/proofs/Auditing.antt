@@ -7,8 +7,8 @@ use Rattle.c_tree.specs.Trees.{ProgramTree}
 use Rattle.choice_rules.specs.Policy.{by_graph}
 use Rattle.command_words.specs.declared.options.Audit.{Audit as AuditOptions}
 use Rattle.lawful_reading.specs.Given.{Given}
-use Rattle.log_verdicts.proofs.Found.{some_verdict}
-use Rattle.log_verdicts.specs.declared.verdicts.Verdict.{Verdict}
+use Rattle.lawful_reading.proofs.Found.{some_verdict}
+use Rattle.lawful_reading.specs.declared.judgement.Verdict.{Verdict}
 use Rattle.resource_monitor.specs.Monitor.{MonitorState}
 use Rattle.schedule_audit.specs.Judging as audit
 use Rattle.schedule_reading.specs.Rulings.{CountsReads}

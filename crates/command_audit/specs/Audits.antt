@@ -6,8 +6,8 @@ use Rattle.c_tree.specs.Trees.{ProgramTree}
 use Rattle.choice_rules.specs.Policy.{Policy, by_graph}
 use Rattle.command_words.specs.declared.options.Audit.{Audit as AuditOptions}
 use Rattle.lawful_reading.specs.Given.{Given}
-use Rattle.log_verdicts.specs.Verdicts.{IsVerdictOf}
-use Rattle.log_verdicts.specs.declared.verdicts.Verdict.{Verdict}
+use Rattle.lawful_reading.specs.Verdicts.{IsVerdictOf}
+use Rattle.lawful_reading.specs.declared.judgement.Verdict.{Verdict}
 use Rattle.resource_monitor.specs.declared.curves.Curve.TheVariants.{Knee}
 use Rattle.schedule_reading.specs.declared.policy.AuditPolicy.{AuditPolicy}
 use Rattle.schedule_reading.specs.declared.rulings.Failure.{Failure}

@@ -1,3 +1,6 @@
+mod NestedParts
+mod NestedInTree
+mod NestedFors
 pub mod Decisions
 pub mod Spoken
 pub mod Values
@@ -29,3 +32,25 @@ pub mod Bounds
 pub mod Layouts
 pub mod Reaching
 pub mod Heights
+pub mod Fewer
+pub mod Rules
+pub mod WordsInPairs
+pub mod Lengths
+pub mod Together
+pub mod Loading
+pub mod Running
+pub mod Building
+pub mod Valid
+pub mod Budgeting
+pub mod DueCommands
+pub mod Serving
+pub mod Auditing
+pub mod Every
+pub mod Answered
+pub mod Reading
+pub mod Looking
+pub mod Workload
+pub mod Logs
+pub mod BytesAreTexts
+pub mod Stored
+pub mod Audits

@@ -10,7 +10,7 @@ use Rattle.c_grammar.specs.Refusals.{Verdict, IsWithin}
 use Rattle.c_grammar.specs.Grammar.{IsProgram}
 use Rattle.grammar_laws.proofs.Outcome.{some_verdict}
 use Rattle.c_parse.specs.NestedCalls.{nested_in_items}
-use Rattle.whole_calls.specs.WholeForParts.{AreForPartsWhole}
+use Rattle.c_tree.specs.WholeForParts.{AreForPartsWhole}
 use Rattle.c_parse.specs.ForParts.{nested_in_fors}
 use Rattle.c_parse.specs.Parsed.{IsParsedWhere, IsRefusedWhere}
 use Rattle.c_parse.proofs.NestedWhole.{items_whole}

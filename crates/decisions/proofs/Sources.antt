@@ -8,7 +8,7 @@ use Rattle.c_tree.specs.RawTemporaries.{AreWithinTemporaries}
 use Rattle.c_tree.specs.Trees.{ProgramTree}
 use Rattle.c_tree.specs.WellScoped.{IsWellScoped}
 use Rattle.c_grammar.specs.declared.errors.ParseError.{ParseError}
-use Rattle.whole_calls.specs.WholeForParts.{AreForPartsWhole}
+use Rattle.c_tree.specs.WholeForParts.{AreForPartsWhole}
 use Rattle.c_parse.specs.ForParts.{nested_in_fors}
 use Rattle.c_parse.specs.Parsed.{IsParsedWhere, IsRefusedWhere}
 use Rattle.c_parse.proofs.ForWhole.{for_parts_whole}
@@ -20,8 +20,8 @@ use Rattle.c_scope.specs.declared.source_errors.SourceError.TheVariants as refus
 use Rattle.hoist_parts.specs.Statements.{items_hoisted}
 use Rattle.hoist_parts.proofs.Whole.{items_hoisted_whole}
 use Rattle.hoist_parts.proofs.Temporaries.{items_small}
-use Rattle.grammar_places.specs.Ranks.{site_numbers}
-use Rattle.grammar_places.proofs.RankLaws.{ranks_are_numbers}
+use Rattle.grammar_laws.specs.Ranks.{site_numbers}
+use Rattle.grammar_laws.proofs.RankLaws.{ranks_are_numbers}
 use Rattle.c_hoist.specs.NestedText.{ReadsNested, IsNestedSourceErrorOf}
 use Rattle.hoist_meaning.proofs.TreeCounts.{each_call}
 use Rattle.decisions.proofs.Lexing.{lex_decided}

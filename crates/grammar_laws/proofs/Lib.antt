@@ -7,3 +7,6 @@ pub mod Verdicts
 pub mod Outcome
 pub mod TreeAccepted
 pub mod TreeUnique
+pub mod Walks
+pub mod Trees
+pub mod RankLaws

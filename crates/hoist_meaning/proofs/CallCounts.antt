@@ -5,8 +5,8 @@ use Rattle.std.proofs.Common.{ℕ, ◌+◌, ◌≡◌, refl, sym, ap, ◌∙◌,
 use Rattle.c_tree.specs.RawTrees.{NameTree, RawExprTree, RawExprTrees, RawNumber, RawName, RawElement, RawUnary, RawParenthesized, RawBinary, RawLogicalAnd, RawLogicalOr, RawConditional, RawCall, RawTableCall, NoExprs, And, RawStmtTree, RawIfElse}
 use Rattle.c_tree.specs.RawViews.{raw_in_order}
 use Rattle.c_tree.specs.WholeCalls.{HasNoCall, HaveNoCall}
-use Rattle.grammar_places.specs.Nested.{is_call}
-use Rattle.grammar_places.specs.Places.{expr_places, exprs_places, stmt_places, stmts_places}
+use Rattle.grammar_laws.specs.Nested.{is_call}
+use Rattle.grammar_laws.specs.Places.{expr_places, exprs_places, stmt_places, stmts_places}
 use Rattle.hoist_parts.specs.NewNames.{used, declared, declared_as, set_to}
 use Rattle.hoist_parts.specs.Calls.{holds_call, hold_call, is_named, is_spawn}
 use Rattle.hoist_parts.specs.Expressions.{names_in, arguments_names, part_after, part_or, part_named, left_of, arguments_left, call_left, table_call_left, is_true, is_false, in_block, decided, before, arguments_before}

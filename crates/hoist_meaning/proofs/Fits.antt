@@ -3,13 +3,13 @@
 use Rattle.std.proofs.Common.{ℕ, ◌≡◌, ◌≤◌, Bool, List, [], ◌∷◌, ◌++◌, length}
 use Rattle.c_tree.specs.RawTrees.{RawExprTree, RawSimpleTree, RawStmtTree, RawStmtTrees, RawDo}
 use Rattle.c_tree.specs.Trees.{ProgramTree}
-use Rattle.whole_calls.specs.WholeForParts.{IsForWhole, AreForsWhole}
+use Rattle.c_tree.specs.WholeForParts.{IsForWhole, AreForsWhole}
 use Rattle.c_mean.specs.Frames.{function_at}
 use Rattle.scope_rules.specs.Expressions.{expr_faults}
 use Rattle.scope_rules.specs.Places.{Spot}
 use Rattle.scope_rules.specs.Numbered.{number_at}
-use Rattle.grammar_places.specs.Nested.{is_call}
-use Rattle.grammar_places.specs.Places.{expr_places, simple_places, stmt_places, stmts_places}
+use Rattle.grammar_laws.specs.Nested.{is_call}
+use Rattle.grammar_laws.specs.Places.{expr_places, simple_places, stmt_places, stmts_places}
 use Rattle.deep_mean.specs.DeepTrees.{DeepProgram}
 use Rattle.deep_mean.specs.DeepFrames as frames
 use Rattle.deep_mean.specs.Naming as deep

@@ -10,8 +10,8 @@ use Rattle.scope_rules.specs.Simples as tree_simples
 use Rattle.scope_rules.specs.Simples.{simple_faults, simples_faults}
 use Rattle.scope_rules.specs.Statements.{condition_faults, step_faults, step_kind, step_after}
 use Rattle.scope_rules.proofs.NoFaults.{both_none}
-use Rattle.grammar_places.specs.Nested.{is_call}
-use Rattle.grammar_places.specs.Places.{simple_places, simples_places, optional_places, step_places}
+use Rattle.grammar_laws.specs.Nested.{is_call}
+use Rattle.grammar_laws.specs.Places.{simple_places, simples_places, optional_places, step_places}
 use Rattle.deep_mean.specs.DeepTrees.{DeepProgram}
 use Rattle.deep_mean.specs.DeepFrames as frames
 use Rattle.deep_mean.specs.Naming as deep

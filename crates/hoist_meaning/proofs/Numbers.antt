@@ -2,11 +2,11 @@
 use Rattle.std.proofs.Common.{ℕ, zero, suc, ◌+◌, ◌<◌, ◌≡◌, refl, List, [], ◌∷◌, ◌++◌, length, arith}
 use Rattle.std.specs.Prelude.{slice_index_or}
 use Rattle.c_tree.specs.RawTrees.{RawItemTree}
-use Rattle.grammar_places.specs.Nested.{is_call}
-use Rattle.grammar_places.specs.Places.{items_places}
-use Rattle.grammar_places.specs.Ranks.{lesser, no_greater, ranks, site_numbers}
-use Rattle.grammar_places.specs.Rising.{RiseWithin}
-use Rattle.grammar_places.proofs.RankLaws.{ranks_length, rank_is}
+use Rattle.grammar_laws.specs.Nested.{is_call}
+use Rattle.grammar_laws.specs.Places.{items_places}
+use Rattle.grammar_laws.specs.Ranks.{lesser, no_greater, ranks, site_numbers}
+use Rattle.grammar_laws.specs.Rising.{RiseWithin}
+use Rattle.grammar_laws.proofs.RankLaws.{ranks_length, rank_is}
 use Rattle.hoist_parts.specs.Statements.{items_hoisted}
 use Rattle.hoist_meaning.specs.CallPlaces.{times, StandsAt}
 use Rattle.hoist_meaning.specs.SpawnArguments.{AreItemsPlain}

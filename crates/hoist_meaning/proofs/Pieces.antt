@@ -9,8 +9,8 @@ use Rattle.scope_rules.specs.Places.{Spot}
 use Rattle.scope_rules.specs.Statements as tree_stmts
 use Rattle.scope_rules.specs.Statements.{inside, left, stmt_after, stmts_after, stmt_faults, stmts_faults}
 use Rattle.scope_rules.specs.Numbered.{stmt_numbered}
-use Rattle.grammar_places.specs.Nested.{is_call}
-use Rattle.grammar_places.specs.Places.{stmt_places, stmts_places}
+use Rattle.grammar_laws.specs.Nested.{is_call}
+use Rattle.grammar_laws.specs.Places.{stmt_places, stmts_places}
 use Rattle.deep_mean.specs.Naming as deep
 use Rattle.deep_mean.specs.Naming.{calls_in, all_calls_in, counted}
 use Rattle.hoist_parts.specs.Statements.{as_body}

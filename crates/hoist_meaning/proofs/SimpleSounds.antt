@@ -16,8 +16,8 @@ use Rattle.scope_rules.specs.Simples.{is_fixed, next_variable, declare_faults, s
 use Rattle.scope_rules.specs.Simples as tree_simples
 use Rattle.scope_rules.specs.Numbered.{simple_numbered, right_numbered, call_numbered}
 use Rattle.scope_rules.proofs.NoFaults.{both_none}
-use Rattle.grammar_places.specs.Nested.{is_call}
-use Rattle.grammar_places.specs.Places.{expr_places, simple_places}
+use Rattle.grammar_laws.specs.Nested.{is_call}
+use Rattle.grammar_laws.specs.Places.{expr_places, simple_places}
 use Rattle.deep_mean.specs.DeepTrees.{DeepExpr, DeclareScalar, DeclareArray, DeepProgram}
 use Rattle.deep_mean.specs.DeepFrames as frames
 use Rattle.deep_mean.specs.Naming as deep

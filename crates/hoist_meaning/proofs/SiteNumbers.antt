@@ -5,10 +5,10 @@ use Rattle.std.specs.Prelude.{slice_index_or}
 use Rattle.c_tree.specs.RawTrees.{RawExprTree, RawExprTrees, RawNumber, RawName, RawElement, RawUnary, RawParenthesized, RawBinary, RawLogicalAnd, RawLogicalOr, RawConditional, RawCall, RawTableCall, NoExprs, And, RawSimpleTree, RawDeclareScalar, RawDeclareArray, RawDeclareWith, RawSet, RawSetElement, RawCalling, RawTableCalling, RawStmtTree, RawStmtTrees, RawDo, RawEmpty, RawBlock, RawIf, RawIfElse, RawWhile, RawFor, RawBreak, RawContinue, RawReturn, NoRawStmts, RawThen, RawItemTree}
 use Rattle.c_tree.specs.RawViews.{raw_in_order}
 use Rattle.c_tree.specs.WholeCalls.{HasNoCall, IsValueWhole, IsSimpleWhole, AreSimplesWhole, IsStepWhole, IsConditionWhole, IsReturnWhole, IsStmtWhole, AreStmtsWhole}
-use Rattle.grammar_places.specs.Nested.{is_call}
-use Rattle.grammar_places.specs.Places.{expr_places, exprs_places, simple_places, simples_places, optional_places, step_places, stmt_places, stmts_places, items_places}
-use Rattle.grammar_places.specs.Ranks.{site_numbers}
-use Rattle.grammar_places.specs.Rising.{RiseWithin}
+use Rattle.grammar_laws.specs.Nested.{is_call}
+use Rattle.grammar_laws.specs.Places.{expr_places, exprs_places, simple_places, simples_places, optional_places, step_places, stmt_places, stmts_places, items_places}
+use Rattle.grammar_laws.specs.Ranks.{site_numbers}
+use Rattle.grammar_laws.specs.Rising.{RiseWithin}
 use Rattle.scope_rules.specs.Places.{Spot}
 use Rattle.scope_rules.specs.Calls.{right_after}
 use Rattle.scope_rules.specs.Simples.{simple_after, simples_after}

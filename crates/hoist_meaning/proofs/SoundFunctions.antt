@@ -8,7 +8,7 @@ use Rattle.c_tree.specs.RawViews.{raw_in_order}
 use Rattle.c_tree.specs.Trees.{FunctionTree, ProgramTree}
 use Rattle.c_tree.specs.Trees as tree
 use Rattle.c_tree.specs.Temporaries.{capped}
-use Rattle.whole_calls.specs.WholeForParts.{AreForsWhole, IsItemForWhole, AreForPartsWhole}
+use Rattle.c_tree.specs.WholeForParts.{AreForsWhole, IsItemForWhole, AreForPartsWhole}
 use Rattle.c_mean.specs.Frames.{function_at}
 use Rattle.scope_rules.specs.Names.{Binding, find}
 use Rattle.scope_rules.specs.Places.{Spot}
@@ -18,8 +18,8 @@ use Rattle.scope_rules.specs.Statements.{stmts_after, stmts_faults}
 use Rattle.scope_rules.specs.Items.{Sofar, function_faults, main_faults, params_faults, params_spot, params_after, body_spot, function_tree_of, item_faults, items_faults, item_after, items_after}
 use Rattle.scope_rules.specs.Numbered.{number_at, stmts_numbered, function_numbered}
 use Rattle.scope_rules.proofs.NoFaults.{both_none}
-use Rattle.grammar_places.specs.Nested.{is_call}
-use Rattle.grammar_places.specs.Places.{Used, Declared, stmts_places, names_places, parameters_places, item_places, items_places}
+use Rattle.grammar_laws.specs.Nested.{is_call}
+use Rattle.grammar_laws.specs.Places.{Used, Declared, stmts_places, names_places, parameters_places, item_places, items_places}
 use Rattle.deep_mean.specs.DeepTrees.{DeepFunction, DeepProgram}
 use Rattle.deep_mean.specs.DeepTrees as deep_tree
 use Rattle.deep_mean.specs.DeepFrames as frames

@@ -6,17 +6,17 @@ use Rattle.c_tree.specs.RawTrees.{RawItemTree}
 use Rattle.c_tree.specs.Trees.{FunctionTree, ProgramTree}
 use Rattle.c_tree.specs.Trees as tree
 use Rattle.c_tree.specs.WellScoped.{AreFunctionsScoped, IsWellScoped}
-use Rattle.whole_calls.specs.WholeForParts.{AreForPartsWhole}
+use Rattle.c_tree.specs.WholeForParts.{AreForPartsWhole}
 use Rattle.scope_rules.specs.Names.{Binding, find}
 use Rattle.scope_rules.specs.Meanings.{function_of}
 use Rattle.scope_rules.specs.Items.{definitions, at_start, items_after, program_of}
 use Rattle.scope_rules.specs.Numbered.{function_numbered, numbered, IsResolvedBy}
 use Rattle.scope_rules.proofs.WithinLimits.{within}
-use Rattle.grammar_places.specs.Nested.{is_call}
-use Rattle.grammar_places.specs.Places.{items_places}
-use Rattle.grammar_places.specs.Ranks.{site_numbers}
-use Rattle.grammar_places.specs.Rising.{RiseWithin}
-use Rattle.grammar_places.proofs.RankLaws.{ranks_length}
+use Rattle.grammar_laws.specs.Nested.{is_call}
+use Rattle.grammar_laws.specs.Places.{items_places}
+use Rattle.grammar_laws.specs.Ranks.{site_numbers}
+use Rattle.grammar_laws.specs.Rising.{RiseWithin}
+use Rattle.grammar_laws.proofs.RankLaws.{ranks_length}
 use Rattle.deep_mean.specs.Naming as deep
 use Rattle.deep_mean.specs.Naming.{deep_start, deep_program}
 use Rattle.hoist_parts.specs.Statements.{items_hoisted}

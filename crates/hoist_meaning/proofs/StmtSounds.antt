@@ -3,7 +3,7 @@ use Rattle.std.proofs.Common.{ℕ, ◌+◌, ◌≡◌, ◌≤◌, refl, sym, ap,
 use Rattle.c_tree.specs.RawTrees.{RawExprTree, RawStmtTree, RawStmtTrees, RawDo, RawEmpty, RawBlock, RawIf, RawIfElse, RawWhile, RawFor, RawBreak, RawContinue, RawReturn, NoRawStmts, RawThen}
 use Rattle.c_tree.specs.RawViews.{raw_in_order}
 use Rattle.c_tree.specs.WholeCalls.{HasNoCall, IsStmtWhole, AreStmtsWhole}
-use Rattle.whole_calls.specs.WholeForParts.{IsForWhole}
+use Rattle.c_tree.specs.WholeForParts.{IsForWhole}
 use Rattle.c_tree.specs.Trees.{ProgramTree}
 use Rattle.c_mean.specs.Frames.{function_at}
 use Rattle.scope_rules.specs.declared.faults.Rule.{Rule}
@@ -16,8 +16,8 @@ use Rattle.scope_rules.specs.Simples as tree_simples
 use Rattle.scope_rules.specs.Simples.{simples_faults}
 use Rattle.scope_rules.specs.Statements.{inside, left, condition_faults, step_faults, stmt_after, stmts_after, stmt_faults}
 use Rattle.scope_rules.proofs.NoFaults.{both_none, not_broken}
-use Rattle.grammar_places.specs.Nested.{is_call}
-use Rattle.grammar_places.specs.Places.{expr_places, simples_places, optional_places, step_places, stmt_places, stmts_places}
+use Rattle.grammar_laws.specs.Nested.{is_call}
+use Rattle.grammar_laws.specs.Places.{expr_places, simples_places, optional_places, step_places, stmt_places, stmts_places}
 use Rattle.deep_mean.specs.DeepTrees.{DeepProgram}
 use Rattle.deep_mean.specs.DeepFrames as frames
 use Rattle.deep_mean.specs.Naming as deep

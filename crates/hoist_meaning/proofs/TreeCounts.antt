@@ -14,10 +14,10 @@ use Rattle.scope_rules.specs.Places.{Spot}
 use Rattle.scope_rules.specs.Simples.{set_scalar, set_element, simple_of, simple_after, simples_of, simples_after}
 use Rattle.scope_rules.specs.Statements.{inside, left, step_after, returned_of, stmt_of, stmt_after, stmts_of}
 use Rattle.scope_rules.specs.Items.{Sofar, definitions, at_start, body_spot, function_tree_of, item_after, items_after, program_of}
-use Rattle.grammar_places.specs.Nested.{is_call}
-use Rattle.grammar_places.specs.Places.{Declared, Used, expr_places, exprs_places, optional_places, simple_places, simples_places, step_places, stmt_places, stmts_places, names_places, parameters_places, item_places, items_places}
-use Rattle.grammar_places.specs.Ranks.{site_numbers}
-use Rattle.grammar_places.proofs.RankLaws.{ranks_length}
+use Rattle.grammar_laws.specs.Nested.{is_call}
+use Rattle.grammar_laws.specs.Places.{Declared, Used, expr_places, exprs_places, optional_places, simple_places, simples_places, step_places, stmt_places, stmts_places, names_places, parameters_places, item_places, items_places}
+use Rattle.grammar_laws.specs.Ranks.{site_numbers}
+use Rattle.grammar_laws.proofs.RankLaws.{ranks_length}
 
 -- names that are declared or used are no calls
 pub no_declared : (ns : List NameTree) → names_places is_call Declared ns ≡ []

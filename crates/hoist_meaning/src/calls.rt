@@ -1,9 +1,9 @@
 ghost use Rattle.std.specs.Prelude.{◌≡◌, [], List, length, ℕ};
 ghost use Rattle.c_tree.specs.RawTrees.{RawItemTree};
-ghost use Rattle.grammar_places.specs.Nested.{is_call};
-ghost use Rattle.grammar_places.specs.Places.{items_places};
-ghost use Rattle.grammar_places.specs.Ranks.{site_numbers};
-ghost use Rattle.grammar_places.specs.Rising.{RiseWithin};
+ghost use Rattle.grammar_laws.specs.Nested.{is_call};
+ghost use Rattle.grammar_laws.specs.Places.{items_places};
+ghost use Rattle.grammar_laws.specs.Ranks.{site_numbers};
+ghost use Rattle.grammar_laws.specs.Rising.{RiseWithin};
 ghost use Rattle.hoist_meaning.specs.CallPlaces.{StandsAt, times};
 ghost use Rattle.hoist_meaning.specs.SpawnArguments.{AreItemsPlain};
 ghost use Rattle.hoist_parts.specs.Statements.{items_hoisted};

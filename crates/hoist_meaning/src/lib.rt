@@ -1,6 +1,6 @@
 // The rewriting of calls inside expressions keeps what a text does, and its calls.
 //
-// Laws alone, over the definitions of hoist_parts, scope_rules, grammar_places, deep_mean and
+// Laws alone, over the definitions of hoist_parts, scope_rules, grammar_laws, deep_mean and
 // c_mean. A text with calls inside expressions has a meaning of its own (`deep_mean`); the program
 // that it is read as has each such call before its statement (`hoist_parts`, `scope_rules`), and
 // does what `c_mean` says.

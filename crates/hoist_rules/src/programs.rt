@@ -2,7 +2,7 @@
 ghost use Rattle.std.specs.Prelude.{◌≡◌, map, option_map, IfOk};
 ghost use Rattle.c_tree.specs.RawViews.{name_tree, raw_stmt_trees, raw_item_tree};
 ghost use Rattle.c_tree.specs.WholeCalls.{IsItemWhole};
-ghost use Rattle.whole_calls.specs.WholeForParts.{AreForsWhole, IsItemForWhole};
+ghost use Rattle.c_tree.specs.WholeForParts.{AreForsWhole, IsItemForWhole};
 ghost use Rattle.hoist_parts.specs.Statements.{item_hoisted};
 
 use crate::built::copied;

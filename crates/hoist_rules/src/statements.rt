@@ -2,7 +2,7 @@
 ghost use Rattle.std.specs.Prelude.{◌≡◌, ◌+◌, true, false, ◌++◌, map, IfOk, OnOk};
 ghost use Rattle.c_tree.specs.RawTrees.{RawWhile};
 ghost use Rattle.c_tree.specs.RawViews.{raw_expr_tree, raw_stmt_tree, raw_stmt_trees};
-ghost use Rattle.whole_calls.specs.WholeForParts.{IsForWhole, AreForsWhole};
+ghost use Rattle.c_tree.specs.WholeForParts.{IsForWhole, AreForsWhole};
 ghost use Rattle.hoist_parts.specs.Calls.{holds_call};
 ghost use Rattle.hoist_parts.specs.Expressions.{names_in};
 ghost use Rattle.hoist_parts.specs.Statements.{stmt_names, stmts_names, as_body, turn_of, hoisted, all_hoisted};

@@ -9,7 +9,7 @@ use Rattle.lawful_log.specs.State.{State, start_of}
 use Rattle.lawful_log.specs.Stops.{IsStop}
 use Rattle.lawful_log.specs.Lawful.{IsAllowed, Leads, nowhere, by_entry, ending, IsLawfulLog}
 use Rattle.lawful_log.proofs.Going.{IsGoing, one_going, going_not_cut, one_cut, out_goes, block_goes, end_goes, stop_cuts, going_under_way, cut_under_way}
-use Rattle.lawful_log.proofs.Choosing.{IsAtPoint, one_at_point, coming_point, run_point, point_not_done, point_not_bad, point_not_idle}
+use Rattle.lawful_log.proofs.OneChoice.{IsAtPoint, one_at_point, coming_point, run_point, point_not_done, point_not_bad, point_not_idle}
 
 module _ (g : Setup) (state : State) where
   -- an entry is one of a segment or one at a choice point

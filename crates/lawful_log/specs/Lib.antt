@@ -8,3 +8,11 @@ pub mod Segments
 pub mod Stops
 pub mod Lawful
 pub mod Good
+pub mod Clients
+pub mod Passes
+pub mod Waiting
+pub mod Tests
+pub mod Beside
+pub mod Clocks
+pub mod Within
+pub mod Entries

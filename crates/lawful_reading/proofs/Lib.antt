@@ -2,3 +2,13 @@ pub mod Refused
 pub mod Moves
 pub mod Once
 pub mod Verdicts
+pub mod Deciding
+pub mod Searching
+pub mod TraceLines
+pub mod Points
+pub mod DecidedHappenings
+pub mod SegmentLines
+pub mod Lines
+pub mod Beyond
+pub mod Found
+pub mod OneVerdict

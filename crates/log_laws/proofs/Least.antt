@@ -14,7 +14,7 @@ use Rattle.lawful_log.specs.Setup.{Setup}
 use Rattle.lawful_log.specs.State.{State, seen_of}
 use Rattle.scheduler.specs.Scores.{comes_before}
 use Rattle.scheduler.proofs.OrderLemmas.{comes_before-asym, comes_before-total, comes_before-cotrans}
-use Rattle.lawful_steps.proofs.Lists.{either, left_true, right_true, not_both}
+use Rattle.lawful_log.proofs.Lists.{either, left_true, right_true, not_both}
 
 -- ---- some thread is eligible
 

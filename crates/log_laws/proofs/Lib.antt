@@ -8,3 +8,13 @@ mod Lines
 mod Times
 mod Runs
 pub mod Starting
+pub mod StackLemmas
+pub mod BoundLemmas
+pub mod CountLemmas
+pub mod RestLemmas
+pub mod StepLemmas
+pub mod StartLemmas
+pub mod EnoughLemmas
+pub mod RunLemmas
+pub mod RoomLemmas
+pub mod LogLemmas

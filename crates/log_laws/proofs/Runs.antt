@@ -35,21 +35,21 @@ use Rattle.machine_world.proofs.FormWorlds.{IsWellFormedIf-action}
 use Rattle.schedule_log.specs.declared.entries.Entry.{Entry}
 use Rattle.schedule_log.specs.declared.entries.Item.{Item}
 use Rattle.schedule_log.specs.declared.entries.StopLine.{StopLine}
-use Rattle.world_source.specs.Reached.{IsReached, StepReaches}
-use Rattle.world_source.specs.UnderWay.{IsSettled, StandsSettled}
-use Rattle.world_source.proofs.Between.{delivered_law, advanced_law}
-use Rattle.world_source.proofs.Laws as laws
-use Rattle.lawful_steps.specs.Clocks.{goes_on}
-use Rattle.lawful_steps.specs.Waiting.{IsWaiting}
-use Rattle.lawful_steps.specs.Within.{IsBetween, IsWithin}
-use Rattle.lawful_steps.proofs.Between.{between_after, between_read, between_moved, come_state, coming, between_came, run_state, run_segment, run_allowed, within_run}
-use Rattle.lawful_steps.proofs.Clocks.{moved_goes_on}
-use Rattle.lawful_steps.proofs.Lists.{not_both}
-use Rattle.lawful_steps.proofs.Counts.{Counts, Retires, StartsOne, IsOver, counts_step}
-use Rattle.lawful_steps.proofs.Own.{found_below}
-use Rattle.lawful_steps.proofs.Picked.{is_picked}
-use Rattle.lawful_steps.proofs.Told.{ready_same}
-use Rattle.lawful_steps.proofs.Within.{within_goes, within_spawns, within_puts, put_state, put_segment, out_allowed, rests_blocked, blocked_state, cost_of, block_allowed, threads_blocked, formed_after_block, ended_state, end_allowed, threads_ended, formed_after_end, stop_allowed}
+use Rattle.machine_meaning.specs.Reached.{IsReached, StepReaches}
+use Rattle.machine_meaning.specs.UnderWay.{IsSettled, StandsSettled}
+use Rattle.machine_meaning.proofs.BetweenSegments.{delivered_law, advanced_law}
+use Rattle.machine_meaning.proofs.WorldLaws as laws
+use Rattle.lawful_log.specs.Clocks.{goes_on}
+use Rattle.lawful_log.specs.Waiting.{IsWaiting}
+use Rattle.lawful_log.specs.Within.{IsBetween, IsWithin}
+use Rattle.lawful_log.proofs.Between.{between_after, between_read, between_moved, come_state, coming, between_came, run_state, run_segment, run_allowed, within_run}
+use Rattle.lawful_log.proofs.Clocks.{moved_goes_on}
+use Rattle.lawful_log.proofs.Lists.{not_both}
+use Rattle.lawful_log.proofs.Counts.{Counts, Retires, StartsOne, IsOver, counts_step}
+use Rattle.lawful_log.proofs.Own.{found_below}
+use Rattle.lawful_log.proofs.Picked.{is_picked}
+use Rattle.lawful_log.proofs.Told.{ready_same}
+use Rattle.lawful_log.proofs.Within.{within_goes, within_spawns, within_puts, put_state, put_segment, out_allowed, rests_blocked, blocked_state, cost_of, block_allowed, threads_blocked, formed_after_block, ended_state, end_allowed, threads_ended, formed_after_end, stop_allowed}
 use Rattle.log_laws.proofs.Least.{lawful_choice}
 use Rattle.log_laws.proofs.Lines.{Next, Over, Line, Refused, next_of, shorter}
 use Rattle.log_laws.proofs.Times as times

@@ -10,19 +10,19 @@ use Rattle.lawful_log.specs.Lawful.{ending, IsLawfulLog}
 use Rattle.lawful_log.specs.Setup.{Setup, setting_of, main_fact, start_machine, start_areas}
 use Rattle.lawful_log.specs.State.{start_of}
 use Rattle.lawful_log.proofs.AtMostOne.{same_entries, same_stops}
-use Rattle.segment_source.proofs.Formed.{formed}
+use Rattle.machine_meaning.proofs.Formed.{formed}
 use Rattle.machine_world.specs.Areas.{Areas}
 use Rattle.machine_world.specs.Runs.{empty_world, started_on, start_world}
 use Rattle.machine_world.specs.Threads.{World, with_thread}
 use Rattle.machine_world.specs.WellFormed.{AreWellFormed, IsWellFormed, IsWellFormedIf, most_fuel}
 use Rattle.machine_world.proofs.FormWorlds.{IsWellFormedIf-start}
-use Rattle.segment_steps.proofs.ValidCalls.{CallFacts-valid}
+use Rattle.segment_laws.proofs.ValidCalls.{CallFacts-valid}
 use Rattle.stack_certificate.specs.Certificates.{fact_at}
-use Rattle.world_source.specs.UnderWay.{StandsSettled}
-use Rattle.world_source.proofs.Between.{starts_law}
+use Rattle.machine_meaning.specs.UnderWay.{StandsSettled}
+use Rattle.machine_meaning.proofs.BetweenSegments.{starts_law}
 use Rattle.c_mean.specs.World as source
-use Rattle.lawful_steps.specs.Waiting.{AreWaiting}
-use Rattle.lawful_steps.proofs.Between.{between_after}
+use Rattle.lawful_log.specs.Waiting.{AreWaiting}
+use Rattle.lawful_log.proofs.Between.{between_after}
 use Rattle.log_laws.specs.One.{HasOneLog}
 use Rattle.log_laws.proofs.Runs.{Between, rest_of}
 use Rattle.chunk_pool.proofs.NeedLaws.{taken_for-start}

@@ -12,10 +12,10 @@ use Rattle.lawful_log.specs.Readiness as log
 use Rattle.lawful_log.specs.Readiness.{is_ready, any_ready, waking_times}
 use Rattle.lawful_log.specs.Setup.{Setup}
 use Rattle.lawful_log.specs.State.{State}
-use Rattle.lawful_steps.specs.Clocks.{goes_on}
-use Rattle.lawful_steps.proofs.Clocks.{contains_head, contains_later, all_index, gives_above, later_block}
-use Rattle.lawful_steps.proofs.Lists.{not_both}
-use Rattle.lawful_steps.proofs.Wakes.{all_false, weakened}
+use Rattle.lawful_log.specs.Clocks.{goes_on}
+use Rattle.lawful_log.proofs.Clocks.{contains_head, contains_later, all_index, gives_above, later_block}
+use Rattle.lawful_log.proofs.Lists.{not_both}
+use Rattle.lawful_log.proofs.Wakes.{all_false, weakened}
 
 -- ---- the least of some times
 

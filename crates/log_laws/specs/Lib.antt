@@ -1,1 +1,4 @@
 pub mod One
+pub mod Lives
+pub mod Roots
+pub mod Rooms

@@ -7,12 +7,12 @@ use Rattle.accepted_pairs.specs.Acceptance.{Acceptance}
 use Rattle.accepted_pairs.specs.Accepting.{accepted_tree}
 use Rattle.certificate_rules.specs.Validity.{IsValid}
 use Rattle.flat_code.specs.declared.operations.Op.{Op}
-use Rattle.segment_source.proofs.Formed.{formed}
-use Rattle.segment_source.proofs.Zeroes.{program_zeroes}
+use Rattle.machine_meaning.proofs.Formed.{formed}
+use Rattle.machine_meaning.proofs.Zeroes.{program_zeroes}
 use Rattle.machine_world.specs.Local.{Local, Question}
 use Rattle.machine_world.specs.Places.{Checked, size_in}
 use Rattle.machine_world.specs.Rests.{AtCall}
-use Rattle.segment_steps.proofs.ValidFacts.{CodeFacts-valid}
+use Rattle.segment_laws.proofs.ValidFacts.{CodeFacts-valid}
 use Rattle.segment_laws.specs.Facts.{CodeFacts}
 use Rattle.machine_world.specs.Areas.{Areas}
 use Rattle.segment_run.specs.Contexts.{checked_of, code_of, chain_from, local_of, IsOwned, IsReady}

@@ -15,14 +15,13 @@ use crate::trace::Trace;
 use crate::wanted::Wanted;
 use cap_io::{CleanSink, CleanSource, Shelf, Sink, Source, put_all};
 use capriccio_commands::let_go;
-use report_figures::Window;
+use report_figures::{TickList, Window};
 use report_text::Text;
 use run_history::Answering;
 use schedule_log::read_entry;
 use source_places::Places;
 use std::alloc::{AllocError, Global};
 use thread_core::World;
-use tick_lists::TickList;
 
 /// The last line of a run in which no thread can go on.
 const IDLE: &[u8] = b"stop idle";

@@ -16,7 +16,7 @@ use crate::again::Decided;
 use crate::failures::Failure;
 use crate::report::left::put_left;
 use cap_word::SiteKey;
-use report_figures::Window;
+use report_figures::{TickList, Window};
 use report_lines::{
     Asked, ChunksLine, Closed, Counts, put_parts, put_queue, put_requests, put_unasked, put_waits,
 };
@@ -30,7 +30,6 @@ use source_places::Places;
 use std::alloc::{AllocError, Global};
 use std::mem;
 use thread_core::World;
-use tick_lists::TickList;
 
 /// What a report takes from the options of the run.
 #[derive(Clone, Copy)]

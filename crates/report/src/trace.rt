@@ -1,8 +1,8 @@
 use crate::failures::Failure;
 use cap_io::Source;
 use cap_text::{Fields, Lines};
+use report_figures::TickList;
 use std::alloc::{AllocError, Global};
-use tick_lists::TickList;
 
 /// The most bytes of a trace that is read.
 const MOST_BYTES: usize = 1_073_741_824;

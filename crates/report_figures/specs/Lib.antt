@@ -1,3 +1,4 @@
+pub mod Ticks
 pub mod Columns
 pub mod Positions
 pub mod Ranks

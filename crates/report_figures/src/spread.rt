@@ -1,9 +1,9 @@
 ghost use Rattle.std.specs.Prelude.{◌≡◌, ◌<◌, ◌≤◌, [], length, Some, IfOk, IfSome, IfNone, IsPermutation, OnErr, OnOk, slice_get};
 ghost use Rattle.report_figures.specs.Ranks.{place_at, IsReadOff, IsSpread};
-ghost use Rattle.tick_lists.specs.Ticks.{ticks_in};
+ghost use Rattle.report_figures.specs.Ticks.{ticks_in};
 
+use crate::TickList;
 use std::alloc::AllocError;
-use tick_lists::TickList;
 
 /// How numbers are spread: each field but `count` is one of them.
 #[derive(Clone, Copy)]

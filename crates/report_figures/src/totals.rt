@@ -1,7 +1,7 @@
 ghost use Rattle.std.specs.Prelude.{◌≡◌, ◌+◌, ◌^◌, ◌≤◌, sum, IfSome, IfNone};
-ghost use Rattle.tick_lists.specs.Ticks.{ticks_in};
+ghost use Rattle.report_figures.specs.Ticks.{ticks_in};
 
-use tick_lists::TickList;
+use crate::TickList;
 
 /// The sum of the numbers, or none where it is 2^128 or more.
 pub fn total_of(numbers: &TickList) -> Option<u128>

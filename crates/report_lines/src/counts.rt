@@ -1,8 +1,7 @@
 use crate::scopes::Scope;
-use report_figures::Window;
+use report_figures::{TickList, Window};
 use run_history::{Happening, Numbers, Spells};
 use schedule_log::Item;
-use tick_lists::TickList;
 
 /// What is counted in a window of a run, or in all of it.
 #[derive(Clone, Copy)]

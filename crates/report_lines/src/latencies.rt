@@ -2,10 +2,9 @@ use crate::lines::RequestsLine;
 use crate::requests::Asked;
 use crate::scopes::Scope;
 use crate::ticks::cut;
-use report_figures::spread_of;
+use report_figures::{TickList, spread_of};
 use report_text::Text;
 use std::alloc::AllocError;
-use tick_lists::TickList;
 
 /// How long a request took: from when it arrived to an answer, its number, and the thread that took it.
 #[derive(Clone, Copy)]

@@ -1,10 +1,10 @@
 use crate::scopes::Scope;
 use crate::ticks::cut;
 use crate::waits::put_part;
+use report_figures::TickList;
 use report_text::Text;
 use run_history::{Queued, queued_of};
 use std::alloc::AllocError;
-use tick_lists::TickList;
 
 /// The request that was queued longest: its number, from 0, and how it was queued.
 #[derive(Clone, Copy)]

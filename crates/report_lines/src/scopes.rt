@@ -1,6 +1,5 @@
-use report_figures::Window;
+use report_figures::{TickList, Window};
 use run_history::Numbers;
-use tick_lists::TickList;
 
 /// The numbers of a run and the times of its trace's events, in order, and of which clocks they are told: of all, if there is no window.
 #[derive(Clone, Copy)]

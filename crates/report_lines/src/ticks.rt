@@ -1,7 +1,7 @@
 // A list of ticks that is cut, so that its memory serves the next.
 ghost use Rattle.std.specs.Prelude.{◌≡◌, ◌-◌, length, take};
 
-use tick_lists::TickList;
+use report_figures::TickList;
 
 /// Drops the numbers from that place on. The list keeps its memory.
 pub(crate) fn cut(ticks: &mut TickList, count: usize)

@@ -1,10 +1,9 @@
 use crate::lines::WaitsPart;
-use report_figures::{spread_of, total_of};
+use report_figures::{TickList, spread_of, total_of};
 use report_text::Text;
 use run_history::{SiteWaits, WaitLists};
 use source_places::Places;
 use std::alloc::AllocError;
-use tick_lists::TickList;
 
 /// Appends the rows of waits by the place at which threads waited. It leaves the waits of each in order of size.
 pub fn put_waits(text: &mut Text, places: &Places, lists: &mut WaitLists) {

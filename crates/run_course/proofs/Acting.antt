@@ -4,7 +4,7 @@ use Rattle.machine_world.specs.Runs.{Step, world_of, and_then, after_actions}
 use Rattle.machine_world.specs.Threads.{World, Setting, Move, Puts, Spawns, Blocks, Ends, Stops, step}
 use Rattle.machine_world.proofs.ActionLaws.{after_actions-append}
 use Rattle.thread_core.specs.Turns.{Tells, IsTurn}
-use Rattle.thread_laws.specs.Silent.{GoesOn}
+use Rattle.segment_laws.specs.Silent.{GoesOn}
 use Rattle.thread_core.specs.Worlds.{Held}
 use Rattle.run_course.specs.Steps.{ActsTo}
 use Rattle.thread_core.specs.declared.turns.Turn.{Turn}

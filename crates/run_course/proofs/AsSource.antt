@@ -8,8 +8,8 @@ use Rattle.machine_world.specs.StandsForWorld.{StandsForWorld}
 use Rattle.machine_world.specs.Threads.{World}
 use Rattle.machine_world.specs.WellFormed.{IsWellFormed}
 use Rattle.thread_core.specs.Worlds.{Held}
-use Rattle.world_source.specs.Reached.{IsReached}
-use Rattle.world_source.proofs.Laws.{picks, steps}
+use Rattle.machine_meaning.specs.Reached.{IsReached}
+use Rattle.machine_meaning.proofs.WorldLaws.{picks, steps}
 use Rattle.run_course.specs.Kept.{Kept}
 use Rattle.run_course.specs.Stands.{IsOf, StandsBetween, StepsAsSource}
 use Rattle.run_course.specs.Rest.{Rest}

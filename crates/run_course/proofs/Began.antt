@@ -11,10 +11,10 @@ use Rattle.lawful_log.specs.Good.{checked_of}
 use Rattle.lawful_log.specs.Readiness.{any_ready, any_elsewhere}
 use Rattle.lawful_log.specs.Setup.{Setup, setting_of}
 use Rattle.lawful_log.specs.State.{Segment, State, uses_of}
-use Rattle.lawful_steps.specs.Beside.{IsChosenAs, IsChosen}
-use Rattle.lawful_steps.specs.Within.{IsBetween, IsWithin}
-use Rattle.lawful_steps.proofs.Between.{run_state, run_segment, run_allowed, within_run}
-use Rattle.lawful_steps.proofs.Within.{still_waiting}
+use Rattle.lawful_log.specs.Beside.{IsChosenAs, IsChosen}
+use Rattle.lawful_log.specs.Within.{IsBetween, IsWithin}
+use Rattle.lawful_log.proofs.Between.{run_state, run_segment, run_allowed, within_run}
+use Rattle.lawful_log.proofs.Within.{still_waiting}
 use Rattle.machine_world.specs.Runs.{Pick, after_action}
 use Rattle.machine_world.specs.Threads.{World, Setting, step}
 use Rattle.resource_monitor.specs.Gate.{gate_after}
@@ -28,12 +28,12 @@ use Rattle.scheduler.specs.Scores.{score}
 use Rattle.scheduler.specs.declared.choices.Choice.{Choice}
 use Rattle.thread_core.specs.Ready.{is_ready_in, is_at_accept_in, any_ready_in, any_elsewhere_in}
 use Rattle.thread_core.specs.Turns.{Tells, Begins, KeepsSetting}
-use Rattle.thread_laws.specs.Silent.{GoesOn}
+use Rattle.segment_laws.specs.Silent.{GoesOn}
 use Rattle.thread_core.specs.Worlds.{Held, KeepsPlaces}
 use Rattle.thread_core.specs.declared.turns.Turn.{Turn}
-use Rattle.world_source.specs.Reached.{IsReached}
+use Rattle.machine_meaning.specs.Reached.{IsReached}
 use Rattle.run_course.specs.Kept.{Kept, known}
-use Rattle.lawful_steps.proofs.Picked.{is_picked}
+use Rattle.lawful_log.proofs.Picked.{is_picked}
 use Rattle.cap_word.specs.declared.threads.ThreadId.{ThreadId}
 use Rattle.run_course.specs.Rules.{AreKeptBeside, HasAccounts}
 use Rattle.run_course.proofs.Rules.{accounts_taken, kept_beside, kept_taken, noted_taken, rule_choice_told, told_along, told_picked, told_taken}

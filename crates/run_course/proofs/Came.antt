@@ -13,11 +13,11 @@ use Rattle.choice_rules.specs.Deliveries.{delivery_of, item_of, received}
 use Rattle.lawful_log.specs.Deliveries.{IsComing}
 use Rattle.lawful_log.specs.Good.{checked_of}
 use Rattle.machine_world.specs.Places.{Checked}
-use Rattle.world_source.specs.UnderWay.{IsSettled}
+use Rattle.machine_meaning.specs.UnderWay.{IsSettled}
 use Rattle.lawful_log.specs.Setup.{Setup}
 use Rattle.lawful_log.specs.State.{State, uses_of}
-use Rattle.lawful_steps.proofs.Between.{come_state, drops, came, coming, between_came}
-use Rattle.lawful_steps.specs.Within.{IsBetween}
+use Rattle.lawful_log.proofs.Between.{come_state, drops, came, coming, between_came}
+use Rattle.lawful_log.specs.Within.{IsBetween}
 use Rattle.machine_world.specs.Runs.{Deliver, delivered}
 use Rattle.machine_world.specs.Threads.{World, Setting, thread_of}
 use Rattle.machine_world.specs.WellFormed.{DeliversWords}

@@ -10,7 +10,7 @@ use Rattle.choice_rules.specs.Seen.{uses_in}
 use Rattle.lawful_log.specs.Good.{checked_of}
 use Rattle.lawful_log.specs.Setup.{Setup, setting_of}
 use Rattle.lawful_log.specs.State.{State, uses_of, held_chunks}
-use Rattle.lawful_steps.proofs.Picked.{is_picked}
+use Rattle.lawful_log.proofs.Picked.{is_picked}
 use Rattle.machine_world.specs.Runs.{Pick, after_action}
 use Rattle.machine_world.specs.Threads.{World, Setting}
 use Rattle.machine_world.specs.WellFormed.{IsWellFormed}
@@ -35,7 +35,7 @@ use Rattle.thread_core.specs.Ready.{is_ready_in, is_at_accept_in, any_elsewhere_
 use Rattle.thread_core.specs.Turns.{Begins, KeepsSetting, MayBegin}
 use Rattle.thread_core.specs.Worlds.{Held, KeepsPlaces, used_in, cap_in}
 use Rattle.thread_core.specs.declared.turns.Turn.{Turn}
-use Rattle.world_source.specs.Reached.{IsReached}
+use Rattle.machine_meaning.specs.Reached.{IsReached}
 use Rattle.run_course.proofs.Acting.{acts_on}
 use Rattle.run_course.proofs.AsSource.{source_picks, source_steps, formed_now}
 use Rattle.run_course.proofs.Began.{Lawful, chosen_as, chosen, began_state, began, run_is, there, tells_now, observed}

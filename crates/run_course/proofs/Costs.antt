@@ -5,11 +5,11 @@ use Rattle.machine_world.specs.Runs.{Step, world_of}
 use Rattle.machine_world.specs.Threads.{World, Setting, Move, Puts, Spawns, Blocks, Ends, Stops, step}
 use Rattle.machine_world.specs.WellFormed.{IsWellFormed, IsWellFormedIf}
 use Rattle.machine_world.proofs.FormWorlds.{IsWellFormedIf-action}
-use Rattle.lawful_steps.proofs.Counts.{Counts, counts_step}
+use Rattle.lawful_log.proofs.Counts.{Counts, counts_step}
 use Rattle.thread_core.specs.Turns.{Tells}
 use Rattle.thread_core.specs.Worlds.{Held}
 use Rattle.thread_core.specs.declared.turns.Turn.{Turn}
-use Rattle.thread_laws.specs.Silent.{GoesOn}
+use Rattle.segment_laws.specs.Silent.{GoesOn}
 use Rattle.run_course.specs.Ranks.{turn_rank}
 
 -- the instructions of a turn's own step

@@ -9,7 +9,7 @@ use Rattle.lawful_log.specs.Deliveries.{IsComing}
 use Rattle.lawful_log.specs.Lawful.{IsAllowed}
 use Rattle.lawful_log.specs.Setup.{Setup, setting_of}
 use Rattle.lawful_log.specs.State.{State}
-use Rattle.lawful_steps.proofs.Between.{drops}
+use Rattle.lawful_log.proofs.Between.{drops}
 use Rattle.machine_world.specs.Threads.{World, Setting}
 use Rattle.run_course.specs.declared.course.Under.{Under}
 use Rattle.run_course.specs.declared.ends.Failure.{Failure}

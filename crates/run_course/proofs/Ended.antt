@@ -17,7 +17,7 @@ use Rattle.run_course.specs.Kept.{Kept}
 use Rattle.run_course.specs.Output.{Output, PutsText}
 use Rattle.run_course.specs.Recorded.{HasSmallCaps}
 use Rattle.run_course.specs.Stands.{StandsWithin, StepsAsSource}
-use Rattle.lawful_steps.proofs.Within.{over_block}
+use Rattle.lawful_log.proofs.Within.{over_block}
 use Rattle.ready_tree.specs.declared.needs.Need.{Need}
 use Rattle.thread_core.specs.Needs.{IsWaitingIn, Vouches}
 use Rattle.run_course.proofs.Needs.{needed_from, waiting_in}

@@ -12,19 +12,19 @@ use Rattle.lawful_log.specs.Good.{checked_of}
 use Rattle.lawful_log.specs.Segments.{HasRun, IsEnd}
 use Rattle.lawful_log.specs.Setup.{Setup, setting_of}
 use Rattle.lawful_log.specs.State.{State, held_chunks}
-use Rattle.lawful_steps.specs.Waiting.{waits}
-use Rattle.lawful_steps.specs.Within.{IsBetween}
-use Rattle.lawful_steps.proofs.Between.{between_after}
-use Rattle.lawful_steps.proofs.Own.{found_below}
-use Rattle.lawful_steps.proofs.Within.{cost_of, cost_is, over_end, ended_state, end_allowed, threads_ended, formed_after_end}
+use Rattle.lawful_log.specs.Waiting.{waits}
+use Rattle.lawful_log.specs.Within.{IsBetween}
+use Rattle.lawful_log.proofs.Between.{between_after}
+use Rattle.lawful_log.proofs.Own.{found_below}
+use Rattle.lawful_log.proofs.Within.{cost_of, cost_is, over_end, ended_state, end_allowed, threads_ended, formed_after_end}
 use Rattle.machine_world.specs.Threads.{World, thread_of, Move, Goes, Puts, Spawns, Blocks, Ends, Stops, Wrong, step}
 use Rattle.resource_monitor.specs.Gate.{gate_after}
 use Rattle.resource_monitor.specs.Pressure.{pressures}
 use Rattle.thread_core.specs.Turns.{Tells}
 use Rattle.thread_core.specs.Worlds.{Held, segment_cost}
 use Rattle.thread_core.specs.declared.turns.Turn.{Turn}
-use Rattle.world_source.specs.Reached.{IsFinishedIn, StepReaches}
-use Rattle.world_source.specs.UnderWay.{IsSettled}
+use Rattle.machine_meaning.specs.Reached.{IsFinishedIn, StepReaches}
+use Rattle.machine_meaning.specs.UnderWay.{IsSettled}
 use Rattle.run_course.specs.declared.course.Under.{Under}
 use Rattle.run_course.specs.Kept.{Kept, known}
 use Rattle.run_course.specs.Stands.{StandsBetween, StandsWithin, StepsAsSource}
@@ -34,8 +34,8 @@ use Rattle.run_course.specs.Rules.{AreKept, AreTold}
 use Rattle.run_course.specs.Rest.{Rest}
 use Rattle.rule_state.specs.Rules.{HasLeft}
 use Rattle.rule_state.specs.declared.rules.RuleState.{RuleState}
-use Rattle.lawful_steps.specs.Clients.{waiter_of}
-use Rattle.lawful_steps.proofs.Finding.{none_waiting}
+use Rattle.lawful_log.specs.Clients.{waiter_of}
+use Rattle.lawful_log.proofs.Finding.{none_waiting}
 use Rattle.run_course.proofs.Rules.{accounts_left, kept_left, noted_left, told_left, told_step}
 use Rattle.run_course.proofs.Over.{between_any, gate_more, edges_more}
 use Rattle.chunk_pool.specs.Pool.{free_count}

@@ -7,15 +7,15 @@ use Rattle.choice_rules.specs.Seen.{Waiter}
 use Rattle.lawful_log.specs.Good.{checked_of}
 use Rattle.lawful_log.specs.Setup.{Setup, setting_of}
 use Rattle.lawful_log.specs.State.{Segment, State}
-use Rattle.lawful_steps.specs.Waiting.{IsWaiting, IsPlaced, AreQueued, at_node}
-use Rattle.lawful_steps.specs.Within.{IsWithin}
-use Rattle.lawful_steps.proofs.Queues.{queue_kept, all_at_node}
-use Rattle.lawful_steps.proofs.Within.{within_goes}
+use Rattle.lawful_log.specs.Waiting.{IsWaiting, IsPlaced, AreQueued, at_node}
+use Rattle.lawful_log.specs.Within.{IsWithin}
+use Rattle.lawful_log.proofs.Queues.{queue_kept, all_at_node}
+use Rattle.lawful_log.proofs.Within.{within_goes}
 use Rattle.machine_world.specs.Threads.{Thread, World, thread_of}
 use Rattle.scheduler.specs.State.{SchedulerState, queue_of}
-use Rattle.thread_laws.specs.Silent.{GoesOn}
+use Rattle.segment_laws.specs.Silent.{GoesOn}
 use Rattle.thread_core.specs.Worlds.{Held, KeepsPlaces}
-use Rattle.world_source.specs.Reached.{IsReached, StepReaches}
+use Rattle.machine_meaning.specs.Reached.{IsReached, StepReaches}
 use Rattle.run_course.specs.Stands.{StepsAsSource}
 
 -- both hold along silent steps

@@ -4,9 +4,9 @@ use Rattle.std.specs.List.{AllByRecursion}
 use Rattle.std.proofs.lemmas.Bool.{cases_eq, cond-true, cond-false, eq-eqb, ne_eqb}
 use Rattle.cap_word.specs.declared.threads.ThreadId.{ThreadId}
 use Rattle.choice_rules.specs.Seen.{Waiter}
-use Rattle.lawful_steps.specs.Waiting.{IsOnce, IsQueue, AreQueued, at_node}
-use Rattle.lawful_steps.proofs.Lists.{but}
-use Rattle.lawful_steps.proofs.Queues.{all_at_node, at_node-but, but_none, without_found}
+use Rattle.lawful_log.specs.Waiting.{IsOnce, IsQueue, AreQueued, at_node}
+use Rattle.lawful_log.proofs.Lists.{but}
+use Rattle.lawful_log.proofs.Queues.{all_at_node, at_node-but, but_none, without_found}
 use Rattle.scheduler.specs.Queues.{without}
 use Rattle.scheduler.specs.State.{SchedulerState, queue_of, IsNoted}
 use Rattle.scheduler.specs.declared.choices.Choice.{Choice}

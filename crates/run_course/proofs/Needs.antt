@@ -4,7 +4,7 @@ use Rattle.std.specs.List.{AllByRecursion}
 use Rattle.std.proofs.lemmas.Bool.{cases_eq, eq-eqb}
 use Rattle.cap_word.specs.declared.threads.ThreadId.{ThreadId}
 use Rattle.choice_rules.specs.Seen.{Waiter}
-use Rattle.lawful_steps.specs.Waiting.{IsPlaced, IsQueue, AreQueued, at_node}
+use Rattle.lawful_log.specs.Waiting.{IsPlaced, IsQueue, AreQueued, at_node}
 use Rattle.machine_world.specs.Threads.{Thread, World, thread_of}
 use Rattle.ready_tree.specs.declared.entries.Entry.{Entry}
 use Rattle.ready_tree.specs.declared.needs.Need.{Need}

@@ -5,18 +5,18 @@ use Rattle.std.proofs.lemmas.Bool.{eq-eqb}
 use Rattle.choice_rules.specs.Seen.{Waiter}
 use Rattle.lawful_log.specs.Setup.{Setup, setting_of}
 use Rattle.lawful_log.specs.State.{Segment, State}
-use Rattle.lawful_steps.specs.Waiting.{IsQueue, AreQueued, at_node, waits}
-use Rattle.lawful_steps.specs.Within.{IsWithin}
-use Rattle.lawful_steps.proofs.Own.{found_below}
-use Rattle.lawful_steps.proofs.Queues.{all_at_node}
-use Rattle.lawful_steps.proofs.Within.{within_goes}
+use Rattle.lawful_log.specs.Waiting.{IsQueue, AreQueued, at_node, waits}
+use Rattle.lawful_log.specs.Within.{IsWithin}
+use Rattle.lawful_log.proofs.Own.{found_below}
+use Rattle.lawful_log.proofs.Queues.{all_at_node}
+use Rattle.lawful_log.proofs.Within.{within_goes}
 use Rattle.machine_world.specs.Alone.{KeepsThread}
 use Rattle.machine_world.specs.Threads.{World, thread_of}
 use Rattle.machine_world.proofs.OtherThreads.{KeepsThread-step}
 use Rattle.ready_tree.specs.declared.entries.Entry.{Entry}
 use Rattle.scheduler.specs.Queues.{threads_of}
 use Rattle.scheduler.specs.State.{SchedulerState, entries_at}
-use Rattle.thread_laws.specs.Silent.{GoesOn}
+use Rattle.segment_laws.specs.Silent.{GoesOn}
 use Rattle.run_course.specs.Needs.{IsNeeded, AreNeeded}
 use Rattle.run_course.proofs.Needs.{needed_kept}
 

@@ -20,10 +20,10 @@ use Rattle.lawful_log.specs.Good.{checked_of}
 use Rattle.lawful_log.specs.Segments.{HasRun, IsBlock}
 use Rattle.lawful_log.specs.Setup.{Setup, setting_of}
 use Rattle.lawful_log.specs.State.{State, held_chunks}
-use Rattle.lawful_steps.specs.Waiting.{waits}
-use Rattle.lawful_steps.specs.Within.{IsBetween}
-use Rattle.lawful_steps.proofs.Between.{between_after, between_read}
-use Rattle.lawful_steps.proofs.Within.{cost_of, cost_is, over_block, rests_blocked, RestsBlocked, blocked_state, block_allowed, threads_blocked, formed_after_block}
+use Rattle.lawful_log.specs.Waiting.{waits}
+use Rattle.lawful_log.specs.Within.{IsBetween}
+use Rattle.lawful_log.proofs.Between.{between_after, between_read}
+use Rattle.lawful_log.proofs.Within.{cost_of, cost_is, over_block, rests_blocked, RestsBlocked, blocked_state, block_allowed, threads_blocked, formed_after_block}
 use Rattle.machine_world.specs.Local.{Core}
 use Rattle.machine_world.specs.Places.{Checked}
 use Rattle.machine_world.specs.Rests.{IsResting, AtStart, AtCall, PastCall}
@@ -33,16 +33,16 @@ use Rattle.resource_monitor.specs.Gate.{gate, gate_after}
 use Rattle.resource_monitor.specs.Pressure.{pressures}
 use Rattle.rule_state.specs.Rules.{HasRejoined}
 use Rattle.rule_state.specs.declared.rules.RuleState.{RuleState}
-use Rattle.lawful_steps.specs.Clients.{waiter_of}
-use Rattle.lawful_steps.proofs.Finding.{none_waiting}
-use Rattle.stands_between.specs.Between.{resting_key}
-use Rattle.stands_between.proofs.SiteKeys.{key_is}
+use Rattle.lawful_log.specs.Clients.{waiter_of}
+use Rattle.lawful_log.proofs.Finding.{none_waiting}
+use Rattle.machine_meaning.specs.Between.{resting_key}
+use Rattle.machine_meaning.proofs.SiteKeys.{key_is}
 use Rattle.thread_core.specs.Turns.{Tells, HasKey, HasKeyOf}
 use Rattle.segment_run.specs.Contexts as core
 use Rattle.thread_core.specs.Worlds.{Held, segment_cost}
 use Rattle.thread_core.specs.declared.turns.Turn.{Turn}
-use Rattle.world_source.specs.Reached.{IsFinishedIn, StepReaches}
-use Rattle.world_source.specs.UnderWay.{IsSettled}
+use Rattle.machine_meaning.specs.Reached.{IsFinishedIn, StepReaches}
+use Rattle.machine_meaning.specs.UnderWay.{IsSettled}
 use Rattle.run_course.specs.declared.course.Under.{Under}
 use Rattle.run_course.specs.Kept.{Kept, known}
 use Rattle.run_course.specs.Stands.{IsOf, StandsBetween, StandsWithin, StepsAsSource}

@@ -7,7 +7,7 @@ use Rattle.lawful_log.specs.Lawful.{IsAllowed, nowhere, by_entry}
 use Rattle.lawful_log.specs.Segments.{quiet_world, after_quiet}
 use Rattle.lawful_log.specs.Setup.{Setup, setting_of}
 use Rattle.lawful_log.specs.State.{State}
-use Rattle.lawful_steps.proofs.Counts.{Counts, counts_step}
+use Rattle.lawful_log.proofs.Counts.{Counts, counts_step}
 use Rattle.machine_world.specs.Runs.{Action, Advance, Deliver, Pick, advanced, delivered, world_of, and_then, after_action, after_actions}
 use Rattle.machine_world.specs.Stretches.{IsSound}
 use Rattle.machine_world.specs.Threads.{World, Setting, Move, Goes, Puts as Puts_word, Spawns, Blocks, Ends, Stops, Wrong, step}

@@ -3,8 +3,8 @@ use Rattle.std.proofs.Common.{◌≡◌, ◌≢◌, ℕ, List, [], ◌∷◌, �
 use Rattle.std.proofs.lemmas.Bool.{cases_eq, eq-eqb, ne_eqb}
 use Rattle.cap_word.specs.declared.threads.ThreadId.{ThreadId}
 use Rattle.choice_rules.specs.Seen.{Waiter}
-use Rattle.lawful_steps.specs.Waiting.{IsPlaced, IsQueue, AreQueued, at_node}
-use Rattle.lawful_steps.proofs.Queues.{at_node-append, queue_append}
+use Rattle.lawful_log.specs.Waiting.{IsPlaced, IsQueue, AreQueued, at_node}
+use Rattle.lawful_log.proofs.Queues.{at_node-append, queue_append}
 use Rattle.scheduler.specs.State.{SchedulerState, queue_of, IsJoined}
 
 at_own : (x : Waiter) (node : ℕ) → x.node ≡ node → at_node (x ∷ []) node ≡ x ∷ []

@@ -11,10 +11,10 @@ use Rattle.lawful_log.specs.Readiness.{any_ready, any_elsewhere}
 use Rattle.lawful_log.specs.Setup.{Setup, setting_of}
 use Rattle.lawful_log.specs.State.{State}
 use Rattle.event_trace.specs.declared.events.Event.{Event}
-use Rattle.lawful_steps.specs.Tests.{is_blocked_at_accept}
-use Rattle.lawful_steps.specs.Waiting.{IsWaiting, IsPlaced}
-use Rattle.lawful_steps.specs.Within.{IsBetween}
-use Rattle.lawful_steps.proofs.Told.{any_told, elsewhere_told}
+use Rattle.lawful_log.specs.Tests.{is_blocked_at_accept}
+use Rattle.lawful_log.specs.Waiting.{IsWaiting, IsPlaced}
+use Rattle.lawful_log.specs.Within.{IsBetween}
+use Rattle.lawful_log.proofs.Told.{any_told, elsewhere_told}
 use Rattle.machine_world.specs.Runs.{advanced, may_run}
 use Rattle.machine_world.specs.Threads.{Blocked, Thread, World, Setting, thread_of}
 use Rattle.thread_core.specs.Ready.{runs_now, is_ready_thread, is_at_accept_blocked, is_at_accept_thread, passes, is_same_number, passes_at, is_ready_in, is_at_accept_in, any_ready_in, any_elsewhere_in}

@@ -13,12 +13,12 @@ use Rattle.lawful_log.specs.Good.{checked_of}
 use Rattle.lawful_log.specs.Readiness.{any_ready, any_elsewhere}
 use Rattle.lawful_log.specs.Setup.{Setup, setting_of}
 use Rattle.lawful_log.specs.State.{Segment, State, seen_of}
-use Rattle.lawful_steps.specs.Beside.{IsChosenAs, IsChosen}
-use Rattle.lawful_steps.specs.Tests.{is_blocked_at_accept}
-use Rattle.lawful_steps.specs.Waiting.{IsWaiting, IsPlaced, AreWaiting, AreQueued}
-use Rattle.lawful_steps.specs.Within.{IsWithin}
-use Rattle.lawful_steps.proofs.Own.{found_below}
-use Rattle.lawful_steps.proofs.Told.{choice_told}
+use Rattle.lawful_log.specs.Beside.{IsChosenAs, IsChosen}
+use Rattle.lawful_log.specs.Tests.{is_blocked_at_accept}
+use Rattle.lawful_log.specs.Waiting.{IsWaiting, IsPlaced, AreWaiting, AreQueued}
+use Rattle.lawful_log.specs.Within.{IsWithin}
+use Rattle.lawful_log.proofs.Own.{found_below}
+use Rattle.lawful_log.proofs.Told.{choice_told}
 use Rattle.machine_world.specs.Numbered.{IsNumbered}
 use Rattle.machine_world.specs.Runs.{advanced, may_run}
 use Rattle.machine_world.specs.StandsForWorld.{StandsForWorld}
@@ -34,15 +34,15 @@ use Rattle.scheduler.specs.Scores.{score}
 use Rattle.scheduler.specs.State.{SchedulerState, last_of, queue_of, started}
 use Rattle.scheduler.specs.declared.choices.Choice.{Choice}
 use Rattle.stride_rule.specs.State.{StrideState, after_choice, new_rule}
-use Rattle.lawful_steps.specs.Clients.{waiter_of, AreClients}
-use Rattle.lawful_steps.specs.Passes.{HasPasses, StartedBy}
-use Rattle.lawful_steps.proofs.StrideChoices.{stride_choice_told}
-use Rattle.lawful_steps.proofs.Finding.{none_at}
-use Rattle.lawful_steps.proofs.Going.{chosen_client, clients_below, clients_first, clients_left, clients_placed, clients_rejoined, clients_started, clients_taken, may_start, others, runner_started, runner_taken}
-use Rattle.lawful_steps.proofs.Passing.{passes_first, passes_left, passes_rejoined, passes_started, passes_taken}
+use Rattle.lawful_log.specs.Clients.{waiter_of, AreClients}
+use Rattle.lawful_log.specs.Passes.{HasPasses, StartedBy}
+use Rattle.lawful_log.proofs.StrideChoices.{stride_choice_told}
+use Rattle.lawful_log.proofs.Finding.{none_at}
+use Rattle.lawful_log.proofs.ClientsGoing.{chosen_client, clients_below, clients_first, clients_left, clients_placed, clients_rejoined, clients_started, clients_taken, may_start, others, runner_started, runner_taken}
+use Rattle.lawful_log.proofs.Passing.{passes_first, passes_left, passes_rejoined, passes_started, passes_taken}
 use Rattle.thread_core.specs.Needs.{Vouches}
 use Rattle.thread_core.specs.Worlds.{Held, KeepsPlaces}
-use Rattle.thread_laws.specs.Silent.{GoesOn}
+use Rattle.segment_laws.specs.Silent.{GoesOn}
 use Rattle.run_course.specs.Needs.{IsNeeded, AreNeeded, AreNeededByStrides}
 use Rattle.run_course.proofs.StrideNeeds.{strides_same, strides_step, strides_along, strides_picked, strides_taken, strides_started, strides_rejoined, strides_left, strides_known}
 use Rattle.run_course.specs.Rules.{AreKept, AreKeptBeside, AreTold, HasAccounts, HasNothing, rule_of}

@@ -7,8 +7,8 @@ use Rattle.event_trace.specs.Reader.{ReaderState, GivesEvent, RefusesLine, Refus
 use Rattle.choice_rules.specs.Trace.{Trace, IsRefused, behind}
 use Rattle.lawful_log.specs.Setup.{Setup}
 use Rattle.lawful_log.specs.State.{State}
-use Rattle.lawful_steps.specs.Within.{IsBetween}
-use Rattle.lawful_steps.proofs.Between.{between_read}
+use Rattle.lawful_log.specs.Within.{IsBetween}
+use Rattle.lawful_log.proofs.Between.{between_read}
 use Rattle.thread_core.specs.Worlds.{Held}
 use Rattle.run_course.specs.declared.looking.Next.{Next}
 use Rattle.run_course.specs.Kept.{Kept, known}

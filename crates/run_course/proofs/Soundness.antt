@@ -13,8 +13,8 @@ use Rattle.run_course.specs.Rest.{Rest}
 use Rattle.thread_core.specs.Turns.{Tells}
 use Rattle.thread_core.specs.Worlds.{Held}
 use Rattle.thread_core.specs.declared.turns.Turn.{Turn}
-use Rattle.world_source.specs.Reached.{IsReached, StepReaches}
-use Rattle.world_source.proofs.Sound.{settled_sound, under_way_sound}
+use Rattle.machine_meaning.specs.Reached.{IsReached, StepReaches}
+use Rattle.machine_meaning.proofs.Sound.{settled_sound, under_way_sound}
 use Rattle.run_course.proofs.AsSource.{source_steps, formed_now}
 use Rattle.run_course.proofs.Costs.{told_formed}
 

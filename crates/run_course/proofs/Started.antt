@@ -14,8 +14,8 @@ use Rattle.choice_rules.specs.Policy.{Rule, all_caps}
 use Rattle.lawful_log.specs.Good.{checked_of}
 use Rattle.lawful_log.specs.Setup.{Setup, setting_of, main_fact, start_machine, start_areas}
 use Rattle.lawful_log.specs.State.{State, start_of, uses_of}
-use Rattle.lawful_steps.specs.Waiting.{AreWaiting}
-use Rattle.lawful_steps.proofs.Between.{between_after}
+use Rattle.lawful_log.specs.Waiting.{AreWaiting}
+use Rattle.lawful_log.proofs.Between.{between_after}
 use Rattle.machine_world.specs.Areas.{Areas, new_areas}
 use Rattle.machine_world.specs.Places.{Checked}
 use Rattle.machine_world.specs.Runs.{start_world, started_on, empty_world}
@@ -43,9 +43,9 @@ use Rattle.stack_certificate.specs.Certificates.{fact_at}
 use Rattle.stack_certificate.specs.declared.certificates.Certificate.{Certificate}
 use Rattle.stack_image.specs.declared.images.Image.{Image}
 use Rattle.thread_core.specs.Worlds.{Held}
-use Rattle.world_source.specs.UnderWay.{IsSettled}
-use Rattle.world_source.proofs.Between.{starts_law}
-use Rattle.world_source.proofs.Sound.{settled_sound}
+use Rattle.machine_meaning.specs.UnderWay.{IsSettled}
+use Rattle.machine_meaning.proofs.BetweenSegments.{starts_law}
+use Rattle.machine_meaning.proofs.Sound.{settled_sound}
 use Rattle.run_course.proofs.Times.{timely_start}
 use Rattle.chunk_pool.proofs.NeedLaws.{taken_for-count}
 use Rattle.chunk_pool.proofs.ShapeLaws.{first_bytes-start}

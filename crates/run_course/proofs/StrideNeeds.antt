@@ -7,13 +7,13 @@ use Rattle.cap_word.specs.declared.threads.ThreadId.{ThreadId}
 use Rattle.choice_rules.specs.Seen.{Waiter}
 use Rattle.lawful_log.specs.Setup.{Setup, setting_of}
 use Rattle.lawful_log.specs.State.{Segment, State}
-use Rattle.lawful_steps.specs.Clients.{AreBoth, AreClients, waiter_of}
-use Rattle.lawful_steps.specs.Waiting.{IsPlaced, waits}
-use Rattle.lawful_steps.specs.Within.{IsWithin}
-use Rattle.lawful_steps.proofs.Finding.{all_both, apart_at, none_waiting}
-use Rattle.lawful_steps.proofs.Going.{none_by}
-use Rattle.lawful_steps.proofs.Own.{found_below}
-use Rattle.lawful_steps.proofs.Within.{within_goes}
+use Rattle.lawful_log.specs.Clients.{AreBoth, AreClients, waiter_of}
+use Rattle.lawful_log.specs.Waiting.{IsPlaced, waits}
+use Rattle.lawful_log.specs.Within.{IsWithin}
+use Rattle.lawful_log.proofs.Finding.{all_both, apart_at, none_waiting}
+use Rattle.lawful_log.proofs.ClientsGoing.{none_by}
+use Rattle.lawful_log.proofs.Own.{found_below}
+use Rattle.lawful_log.proofs.Within.{within_goes}
 use Rattle.machine_world.specs.Alone.{KeepsThread}
 use Rattle.machine_world.specs.Threads.{World, thread_of}
 use Rattle.machine_world.proofs.OtherThreads.{KeepsThread-step}
@@ -30,7 +30,7 @@ use Rattle.stride_rule.proofs.SearchLemmas.{Lies, client-of_lies, once-waiting}
 use Rattle.stride_rule.proofs.RowLemmas.{need_of-told, need_of-others, need_of-without}
 use Rattle.thread_core.specs.Needs.{Vouches}
 use Rattle.thread_core.specs.Worlds.{Held}
-use Rattle.thread_laws.specs.Silent.{GoesOn}
+use Rattle.segment_laws.specs.Silent.{GoesOn}
 use Rattle.run_course.specs.Needs.{IsNeeded, IsNeededClient, AreNeededByStrides}
 use Rattle.run_course.proofs.Needs.{vouched_by}
 

@@ -11,7 +11,7 @@ use Rattle.cap_word.specs.declared.stops.Stop.{Stop}
 use Rattle.cap_word.specs.declared.traps.TrapKind.{TrapKind}
 use Rattle.c_mean.specs.ModelledCalls.{Exchange, blocking_row, immediate_row, ticks_of, wakes_at, Delivery, is_dropped, with_delivery}
 use Rattle.chunk_pool.specs.Pool.{Taken, taken_for}
-use Rattle.lawful_steps.specs.Tests.{waking_time}
+use Rattle.lawful_log.specs.Tests.{waking_time}
 use Rattle.machine_world.specs.Areas.{Areas}
 use Rattle.machine_world.specs.Local as local
 use Rattle.machine_world.specs.Local.{Local, LocalMove, local_step}
@@ -20,7 +20,7 @@ use Rattle.machine_world.specs.Threads.{Blocked, Thread, World, Setting, thread_
 use Rattle.thread_core.specs.Turns.{Tells, IsTurn}
 use Rattle.thread_core.specs.Worlds.{Held}
 use Rattle.thread_core.specs.declared.turns.Turn.{Turn}
-use Rattle.thread_laws.specs.Silent.{GoesOn}
+use Rattle.segment_laws.specs.Silent.{GoesOn}
 use Rattle.run_course.specs.Times.{latest, IsTimely}
 
 -- ---- threads that wake in time

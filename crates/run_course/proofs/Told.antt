@@ -9,25 +9,25 @@ use Rattle.lawful_log.specs.Segments.{IsOut, IsCut}
 use Rattle.lawful_log.specs.Setup.{Setup, setting_of}
 use Rattle.lawful_log.specs.State.{State}
 use Rattle.lawful_log.specs.Stops.{IsStopped, IsCutBy}
-use Rattle.lawful_steps.specs.Within.{IsWithin}
-use Rattle.lawful_steps.proofs.Entries.{stops_here}
-use Rattle.lawful_steps.proofs.Counts.{Counts, StartsOne, counts_step}
-use Rattle.lawful_steps.proofs.Within.{within_spawns, put_segment, put_state, out_allowed, within_puts}
+use Rattle.lawful_log.specs.Within.{IsWithin}
+use Rattle.lawful_log.proofs.Entries.{stops_here}
+use Rattle.lawful_log.proofs.Counts.{Counts, StartsOne, counts_step}
+use Rattle.lawful_log.proofs.Within.{within_spawns, put_segment, put_state, out_allowed, within_puts}
 use Rattle.machine_world.specs.Alone.{KeepsThread}
 use Rattle.machine_world.proofs.OtherThreads.{KeepsThread-step}
 use Rattle.machine_world.specs.Threads.{World, thread_of, Move, Goes, Puts, Spawns, Blocks, Ends, Stops, Wrong, step}
 use Rattle.rule_state.specs.Rules.{HasStarted, MayStart}
 use Rattle.rule_state.specs.declared.rules.RuleState.{RuleState}
-use Rattle.lawful_steps.specs.Clients.{waiter_of}
+use Rattle.lawful_log.specs.Clients.{waiter_of}
 use Rattle.thread_core.specs.Turns.{Tells}
 use Rattle.thread_core.specs.Worlds.{Held, IsThread, segment_cost}
 use Rattle.thread_core.specs.declared.turns.Turn.{Turn}
-use Rattle.world_source.specs.Reached.{IsReached, StepReaches}
+use Rattle.machine_meaning.specs.Reached.{IsReached, StepReaches}
 use Rattle.run_course.specs.declared.course.Under.{Under}
 use Rattle.run_course.specs.Kept.{Kept}
 use Rattle.run_course.specs.Rules.{AreTold}
 use Rattle.run_course.proofs.Rules.{accounts_started, kept_started, may_start_within, next_waits, noted_started, told_started, told_step}
-use Rattle.lawful_steps.proofs.Own.{LeavesOwn, StandsFresh, found_below, own_step}
+use Rattle.lawful_log.proofs.Own.{LeavesOwn, StandsFresh, found_below, own_step}
 use Rattle.thread_core.specs.Needs.{need_of_blocked}
 use Rattle.run_course.specs.Stands.{StandsInside, StandsWithin, StepsAsSource}
 use Rattle.run_course.specs.Rest.{Rest}

@@ -6,13 +6,13 @@ use Rattle.accepted_pairs.specs.Accepting.{accepted_tree}
 use Rattle.choice_rules.specs.Seen.{Waiter}
 use Rattle.lawful_log.specs.Setup.{Setup, setting_of}
 use Rattle.lawful_log.specs.State.{Segment, State}
-use Rattle.lawful_steps.specs.Waiting.{IsWaiting}
-use Rattle.lawful_steps.specs.Within.{IsWithin}
-use Rattle.lawful_steps.proofs.Within.{Still, still_waiting}
+use Rattle.lawful_log.specs.Waiting.{IsWaiting}
+use Rattle.lawful_log.specs.Within.{IsWithin}
+use Rattle.lawful_log.proofs.Within.{Still, still_waiting}
 use Rattle.machine_world.specs.Threads.{Thread, World, thread_of, Setting, Move, Puts, Spawns, Blocks, Ends, Stops, step}
 use Rattle.scheduler.specs.declared.choices.Choice.{Choice}
 use Rattle.thread_core.specs.Turns.{Tells, Proceeds, KeepsSetting}
-use Rattle.thread_laws.specs.Silent.{GoesOn}
+use Rattle.segment_laws.specs.Silent.{GoesOn}
 use Rattle.thread_core.specs.Worlds.{Held, KeepsPlaces}
 use Rattle.thread_core.specs.declared.turns.Turn.{Turn}
 use Rattle.run_course.specs.Kept.{Kept}

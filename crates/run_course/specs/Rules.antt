@@ -3,15 +3,15 @@ use Rattle.std.specs.Prelude.{ℕ, ◌≡◌, List, [], Option, None}
 use Rattle.cap_word.specs.declared.threads.ThreadId.{ThreadId}
 use Rattle.choice_rules.specs.Policy.{Rule, by_graph, by_stride}
 use Rattle.choice_rules.specs.Seen.{Waiter, Past}
-use Rattle.lawful_steps.specs.Beside.{HasLasts}
-use Rattle.lawful_steps.specs.Waiting.{AreQueued}
+use Rattle.lawful_log.specs.Beside.{HasLasts}
+use Rattle.lawful_log.specs.Waiting.{AreQueued}
 use Rattle.machine_world.specs.Threads.{World}
 use Rattle.rule_state.specs.declared.rules.RuleState.{RuleState}
 use Rattle.rule_state.specs.declared.rules.RuleState.TheVariants.{Graph, Stride}
 use Rattle.scheduler.specs.State.{started}
 use Rattle.stride_rule.specs.State.{new_rule}
-use Rattle.lawful_steps.specs.Clients.{AreClients, HasRunner}
-use Rattle.lawful_steps.specs.Passes.{HasPasses}
+use Rattle.lawful_log.specs.Clients.{AreClients, HasRunner}
+use Rattle.lawful_log.specs.Passes.{HasPasses}
 use Rattle.run_course.specs.Needs.{AreNeeded, AreNeededByStrides}
 
 -- the rule of a policy of which this is the state

@@ -17,9 +17,9 @@ use Rattle.lawful_log.specs.Choice.{is_open}
 use Rattle.lawful_log.specs.Good.{checked_of}
 use Rattle.lawful_log.specs.Setup.{Setup, setting_of}
 use Rattle.lawful_log.specs.State.{Segment, State, uses_of}
-use Rattle.lawful_steps.specs.Beside.{IsGraphOf, IsMonitorOf}
-use Rattle.lawful_steps.specs.Waiting.{IsPlaced}
-use Rattle.lawful_steps.specs.Within.{IsBetween, IsWithin}
+use Rattle.lawful_log.specs.Beside.{IsGraphOf, IsMonitorOf}
+use Rattle.lawful_log.specs.Waiting.{IsPlaced}
+use Rattle.lawful_log.specs.Within.{IsBetween, IsWithin}
 use Rattle.machine_world.specs.Threads.{World, thread_of, step}
 use Rattle.machine_world.specs.WellFormed.{IsWellFormed}
 use Rattle.resource_monitor.specs.Gate.{gate_after}
@@ -30,13 +30,13 @@ use Rattle.rule_state.specs.declared.rules.RuleState.{RuleState}
 use Rattle.scheduler.specs.declared.choices.Choice.{Choice}
 use Rattle.run_course.specs.declared.course.Under.{Under}
 use Rattle.run_course.specs.declared.looking.Next.{Next}
-use Rattle.lawful_steps.specs.Passes.{StartedBy}
+use Rattle.lawful_log.specs.Passes.{StartedBy}
 use Rattle.thread_core.specs.Ready.{any_ready_in}
 use Rattle.thread_core.specs.Turns.{Tells}
 use Rattle.thread_core.specs.declared.turns.Turn.{Turn}
 use Rattle.thread_core.specs.Worlds.{Held}
-use Rattle.world_source.specs.Reached.{IsReached, StepReaches}
-use Rattle.world_source.specs.UnderWay.{IsSettled}
+use Rattle.machine_meaning.specs.Reached.{IsReached, StepReaches}
+use Rattle.machine_meaning.specs.UnderWay.{IsSettled}
 use Rattle.run_course.specs.Kept.{Kept, known}
 use Rattle.run_course.specs.Rules.{AreKept, AreKeptBeside, AreTold, HasAccounts}
 use Rattle.run_course.specs.Times.{IsTimely}

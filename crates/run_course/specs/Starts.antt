@@ -4,7 +4,7 @@ use Rattle.accepted_pairs.specs.Accepting.{accepted_tree}
 use Rattle.choice_rules.specs.Policy.{Rule, by_graph}
 use Rattle.lawful_log.specs.Setup.{Setup}
 use Rattle.resource_monitor.specs.Monitor.{MonitorState}
-use Rattle.lawful_steps.specs.Beside.{IsMonitorOf}
+use Rattle.lawful_log.specs.Beside.{IsMonitorOf}
 use Rattle.thread_core.specs.Making.{IsPolicy, IsStart}
 use Rattle.thread_core.specs.Worlds.{Held}
 use Rattle.thread_core.specs.declared.policy.WorldPolicy.{WorldPolicy}

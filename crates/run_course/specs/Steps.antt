@@ -5,7 +5,7 @@ use Rattle.lawful_log.specs.Lawful.{Leads}
 use Rattle.lawful_log.specs.Setup.{Setup, setting_of}
 use Rattle.lawful_log.specs.State.{State}
 use Rattle.lawful_log.specs.Stops.{IsStop}
-use Rattle.lawful_steps.specs.Beside.{IsGraphOf}
+use Rattle.lawful_log.specs.Beside.{IsGraphOf}
 use Rattle.machine_world.specs.Runs.{Action, after_actions}
 use Rattle.machine_world.specs.Stretches.{IsSound}
 use Rattle.machine_world.specs.Threads.{World, Setting}

@@ -2,7 +2,7 @@
 -- its one cycle and the ticks of one sleep or of one wait with a time.
 use Rattle.std.specs.Prelude.{ℕ, ◌+◌, ◌*◌, ◌^◌, ◌≤◌, IfSome}
 use Rattle.std.specs.List.{AllByRecursion}
-use Rattle.lawful_steps.specs.Tests.{waking_time}
+use Rattle.lawful_log.specs.Tests.{waking_time}
 use Rattle.machine_world.specs.Threads.{World}
 
 -- no time of a run of so many instructions is later

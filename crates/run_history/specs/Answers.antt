@@ -2,7 +2,7 @@
 use Rattle.std.specs.Prelude.{ℕ, zero, suc, ◌+◌, List, [], ◌∷◌, Option, Some, None, get_or}
 use Rattle.run_history.specs.declared.answers.AnswerList.{AnswerList}
 use Rattle.run_history.specs.declared.answers.Answers.{Answers}
-use Rattle.tick_lists.specs.Ticks.{ticks_in}
+use Rattle.report_figures.specs.Ticks.{ticks_in}
 
 -- one answer more, at that clock
 abbrev pub with_answer : Option Answers → ℕ → Answers

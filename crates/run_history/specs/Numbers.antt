@@ -14,7 +14,7 @@ use Rattle.run_history.specs.declared.waits.WaitLength.{WaitLength}
 use Rattle.run_history.specs.Answers.{answers_from, answers_at}
 use Rattle.run_history.specs.Longest.{longer_at, longest_at}
 use Rattle.run_history.specs.Waits.{told_of, ticks_at, with_ticks, ticks_kept, longest_kept}
-use Rattle.tick_lists.specs.Ticks.{ticks_in}
+use Rattle.report_figures.specs.Ticks.{ticks_in}
 
 -- an event of the trace came or was dropped
 abbrev pub is_event : Happening → Bool

@@ -4,7 +4,7 @@ use Rattle.report_figures.specs.declared.windows.Window.{Window}
 use Rattle.report_figures.specs.Windows.{is_within}
 use Rattle.run_history.specs.declared.waits.SiteWaits.{SiteWaits}
 use Rattle.run_history.specs.declared.waits.WaitLength.{WaitLength}
-use Rattle.tick_lists.specs.Ticks.{ticks_in}
+use Rattle.report_figures.specs.Ticks.{ticks_in}
 
 -- a clock is in the window, if there is one
 abbrev pub is_told : Option Window → ℕ → Bool

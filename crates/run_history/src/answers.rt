@@ -1,10 +1,10 @@
 ghost use Rattle.std.specs.Prelude.{◌≡◌, ℕ, ◌<◌, OnOk, get_or, length, nat_eq, set, if◌then◌else◌};
 ghost use Rattle.run_history.specs.Answers.{answers_of};
-ghost use Rattle.tick_lists.specs.Ticks.{ticks_in};
+ghost use Rattle.report_figures.specs.Ticks.{ticks_in};
 
 use crate::history::HistoryError;
+use report_figures::TickList;
 use std::alloc::{AllocError, Global};
-use tick_lists::TickList;
 
 /// When the answers to a request were there. The log tells no clock of an `out`, so it is the end of the segment that put it.
 #[derive(Clone, Copy)]
@@ -31,7 +31,7 @@ impl AnswerList {
     ghost use Rattle.std.specs.Prelude.{◌≡◌, ℕ, ◌<◌, None, OnOk, length};
     ghost use Rattle.run_history.specs.Answers.{answers_at, answers_from};
     ghost use Rattle.run_history.specs.Pairs.{clocks_for};
-    ghost use Rattle.tick_lists.specs.Ticks.{ticks_in};
+    ghost use Rattle.report_figures.specs.Ticks.{ticks_in};
 
     /// No answers. It takes no memory.
     pub fn new(alloc: Global) -> AnswerList

@@ -2,10 +2,9 @@ use crate::answers::AnswerList;
 use crate::happenings::{Happening, Segment, Wait};
 use crate::history::HistoryError;
 use crate::waits::{WaitLength, WaitLists, is_told};
-use report_figures::Window;
+use report_figures::{TickList, Window};
 use schedule_log::Item;
 use std::alloc::Global;
-use tick_lists::TickList;
 
 /// The numbers of a run so far.
 #[derive(Drop)]
@@ -37,7 +36,7 @@ impl Numbers {
     ghost use Rattle.run_history.specs.Happenings.{clocks_in};
     ghost use Rattle.run_history.specs.Answers.{answers_from, answers_at};
     ghost use Rattle.run_history.specs.Numbers.{IsNumbersOf, IsOneMore, KeepsAllButTakes, KeepsOthers};
-    ghost use Rattle.tick_lists.specs.Ticks.{ticks_in};
+    ghost use Rattle.report_figures.specs.Ticks.{ticks_in};
 
     /// The numbers before the first entry. It takes no memory.
     pub fn new(alloc: Global) -> Numbers

@@ -1,9 +1,9 @@
 ghost use Rattle.std.specs.Prelude.{◌≡◌};
 ghost use Rattle.run_history.specs.Queues.{queued_by, queued_in};
-ghost use Rattle.tick_lists.specs.Ticks.{ticks_in};
+ghost use Rattle.report_figures.specs.Ticks.{ticks_in};
 
 use crate::numbers::Numbers;
-use tick_lists::TickList;
+use report_figures::TickList;
 
 /// How a request was queued before it was taken.
 #[derive(Clone, Copy)]

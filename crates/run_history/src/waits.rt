@@ -4,10 +4,9 @@ ghost use Rattle.run_history.specs.Longest.{longer_of};
 ghost use Rattle.run_history.specs.Waits.{is_told};
 
 use crate::history::HistoryError;
-use report_figures::Window;
+use report_figures::{TickList, Window};
 use std::alloc::Global;
 use std::collections::BTreeMap;
-use tick_lists::TickList;
 
 /// How long a wait at a site was.
 #[derive(Clone, Copy)]
@@ -40,7 +39,7 @@ pub struct WaitLists {
 impl SiteWaits {
     ghost use Rattle.std.specs.Prelude.{◌≡◌, ◌++◌, ◌∷◌, [], Some, OnOk, IfOk};
     ghost use Rattle.run_history.specs.Longest.{longer_of};
-    ghost use Rattle.tick_lists.specs.Ticks.{ticks_in};
+    ghost use Rattle.report_figures.specs.Ticks.{ticks_in};
 
     /// The first wait at a site.
     fn first(alloc: Global, wait: WaitLength) -> Result<SiteWaits, HistoryError>

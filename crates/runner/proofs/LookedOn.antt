@@ -7,7 +7,7 @@ use Rattle.choice_rules.specs.Stops.{IsDone, IsBadTrace}
 use Rattle.choice_rules.specs.Trace.{IsRefused}
 use Rattle.lawful_log.specs.Setup.{Setup}
 use Rattle.lawful_log.specs.State.{Segment, State, seen_of}
-use Rattle.lawful_steps.specs.Beside.{IsGraphOf}
+use Rattle.lawful_log.specs.Beside.{IsGraphOf}
 use Rattle.blocking_graph.specs.Graph.{GraphState}
 use Rattle.machine_world.specs.Threads.{Thread, World}
 use Rattle.thread_core.specs.Worlds.{Held}

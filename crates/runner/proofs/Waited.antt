@@ -11,11 +11,11 @@ use Rattle.lawful_log.specs.Readiness.{any_ready, waking_times}
 use Rattle.lawful_log.specs.Setup.{Setup, setting_of}
 use Rattle.lawful_log.specs.State.{Segment, State, seen_of}
 use Rattle.lawful_log.specs.Stops.{IsStop}
-use Rattle.lawful_steps.specs.Clocks.{goes_on}
-use Rattle.lawful_steps.specs.Within.{IsBetween}
-use Rattle.lawful_steps.proofs.Between.{between_moved}
-use Rattle.lawful_steps.proofs.Clocks.{not_moved, moved_goes_on}
-use Rattle.lawful_steps.proofs.Wakes.{none_wakes, least_wakes}
+use Rattle.lawful_log.specs.Clocks.{goes_on}
+use Rattle.lawful_log.specs.Within.{IsBetween}
+use Rattle.lawful_log.proofs.Between.{between_moved}
+use Rattle.lawful_log.proofs.Clocks.{not_moved, moved_goes_on}
+use Rattle.lawful_log.proofs.Wakes.{none_wakes, least_wakes}
 use Rattle.machine_world.specs.Runs.{advanced}
 use Rattle.machine_world.specs.Threads.{Setting, World}
 use Rattle.schedule_log.specs.declared.entries.StopLine.{StopLine}

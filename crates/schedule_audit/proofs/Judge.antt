@@ -19,12 +19,12 @@ use Rattle.schedule_reading.specs.declared.reading.End.TheVariants as end
 use Rattle.schedule_reading.specs.declared.reading.Next.{Next}
 use Rattle.schedule_reading.specs.declared.reading.Next.TheVariants as next
 use Rattle.schedule_reading.specs.declared.rulings.Ruling.TheVariants as ruling
-use Rattle.log_verdicts.specs.declared.verdicts.Verdict.{Verdict}
+use Rattle.lawful_reading.specs.declared.judgement.Verdict.{Verdict}
 use Rattle.schedule_audit.specs.Judging.{IsReadTo, IsLine, RulesLine}
 use Rattle.schedule_reading.specs.Kept.{Kept}
 use Rattle.schedule_reading.specs.Rulings.{Allows}
 use Rattle.schedule_reading.specs.Stands.{IsEnd, IsTold, IsTraceOf, Stands}
-use Rattle.log_verdicts.specs.Verdicts.{IsVerdictOf}
+use Rattle.lawful_reading.specs.Verdicts.{IsVerdictOf}
 
 -- ---- the first line feed
 

@@ -10,11 +10,11 @@ use Rattle.schedule_reading.specs.declared.reading.Next.TheVariants as next
 use Rattle.schedule_reading.specs.declared.rulings.Failure.{Failure}
 use Rattle.schedule_reading.specs.declared.rulings.Ruling.{Ruling}
 use Rattle.schedule_reading.specs.declared.rulings.Ruling.TheVariants as ruling
-use Rattle.log_verdicts.specs.declared.verdicts.Verdict.{Verdict}
+use Rattle.lawful_reading.specs.declared.judgement.Verdict.{Verdict}
 use Rattle.schedule_audit.specs.Judging.{IsReadTo, RulesLine}
 use Rattle.schedule_reading.specs.Kept.{Kept}
 use Rattle.schedule_reading.specs.Stands.{Stands, StandsSomehow}
-use Rattle.log_verdicts.specs.Verdicts.{IsVerdictOf}
+use Rattle.lawful_reading.specs.Verdicts.{IsVerdictOf}
 use Rattle.schedule_audit.proofs.Judge.{cut, none_left, read_late, read_lawful, read_on, read_refused, read_start, read_unlawful, start_told, trace_in}
 
 pub begun : (g : Given) (left : Option (List ℕ)) (log : List ℕ) (k : Kept) → ((trace : List ℕ) → Stands g (start_of g trace) k) → k.reader ≡ record { held = []; lines = 0; last = 0; refused = None } → k.next ≡ next.Unread → IsReadTo g left log log 1 k left

@@ -3,8 +3,8 @@ use Rattle.std.specs.Prelude.{◌≡◌, ℕ, suc, List, ◌++◌, length, Optio
 use Rattle.lawful_reading.specs.Given.{Given}
 use Rattle.lawful_reading.specs.Reading.{IsBeyond, Leads}
 use Rattle.lawful_reading.specs.State.{State, start_of}
-use Rattle.log_verdicts.specs.Verdicts.{IsVerdictOf}
-use Rattle.log_verdicts.specs.declared.verdicts.Verdict.{Verdict}
+use Rattle.lawful_reading.specs.Verdicts.{IsVerdictOf}
+use Rattle.lawful_reading.specs.declared.judgement.Verdict.{Verdict}
 use Rattle.schedule_log.specs.EntryRanges.{FitsEntry}
 use Rattle.schedule_log.specs.EntryText.{entry_text, log_text}
 use Rattle.schedule_log.specs.declared.entries.Entry.{Entry}

@@ -14,7 +14,7 @@ use crate::ends::stop;
 use crate::segments::{block, end_line, out};
 use c_tree::Program;
 use cap_io::Source;
-use log_verdicts::Verdict;
+use lawful_reading::Verdict;
 use resource_monitor::{Measure, Monitor};
 use schedule_log::{Entry, LogError, read_entry};
 use schedule_reading::{AuditPolicy, End, Failure, Reading, Ruling, Shown, Under};

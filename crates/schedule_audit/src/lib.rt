@@ -14,5 +14,5 @@ mod ends;
 mod segments;
 
 pub use audits::audit;
-pub use log_verdicts::Verdict;
+pub use lawful_reading::Verdict;
 pub use schedule_reading::{AuditPolicy, Failure};

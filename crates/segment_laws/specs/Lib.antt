@@ -3,3 +3,11 @@ pub mod Facts
 pub mod Simulation
 pub mod Straight
 pub mod Asking
+pub mod Calls
+pub mod Zeroes
+pub mod Tables
+pub mod Alike
+pub mod Around
+pub mod Silent
+pub mod Found
+pub mod Kept

@@ -15,19 +15,19 @@ use Rattle.c_lower.specs.ProgramCode.{lowered}
 use Rattle.c_tree.specs.Trees.{ProgramTree}
 use Rattle.c_tree.specs.WellScoped.{IsWellScoped}
 use Rattle.certificate_rules.specs.Validity.{IsValid}
-use Rattle.segment_source.proofs.Formed.{formed, follows}
-use Rattle.segment_source.proofs.Zeroes.{program_zeroes}
+use Rattle.machine_meaning.proofs.Formed.{formed, follows}
+use Rattle.machine_meaning.proofs.Zeroes.{program_zeroes}
 use Rattle.machine_world.specs.Rests.{IsResting, AtStart, AtCall, PastCall, IsAtCall, IsPastCall, ecall_word}
-use Rattle.segment_steps.proofs.Passing.{call_is_ecall}
-use Rattle.segment_steps.proofs.ValidFacts.{CodeFacts-valid}
+use Rattle.segment_laws.proofs.Passing.{call_is_ecall}
+use Rattle.segment_laws.proofs.ValidFacts.{CodeFacts-valid}
 use Rattle.segment_run.specs.Passing as passing
 use Rattle.stack_certificate.specs.declared.certificates.Certificate.{Certificate}
 use Rattle.stack_image.specs.declared.images.Image.{Image}
-use Rattle.segment_steps.proofs.FirstWords.{HasOther, has_other, first_other, ask_words}
+use Rattle.segment_laws.proofs.FirstWords.{HasOther, has_other, first_other, ask_words}
 use Rattle.segment_laws.specs.Facts.{CodeFacts}
-use Rattle.segment_steps.proofs.Past.{row_first, size_some, function_of_op}
-use Rattle.segment_steps.specs.Alike.{FollowsAsks}
-use Rattle.segment_steps.proofs.Resting.{ask_shape, some_at}
+use Rattle.segment_laws.proofs.Past.{row_first, size_some, function_of_op}
+use Rattle.segment_laws.specs.Alike.{FollowsAsks}
+use Rattle.segment_laws.proofs.FromRest.{ask_shape, some_at}
 
 -- behind an ECALL pc stands among the words of an operation, where the frame is whole, and not at an ECALL
 pub record IsBehindCall (c : Checked) (code : List ℕ) (core : Core) (f : ℕ) : Type 0 where

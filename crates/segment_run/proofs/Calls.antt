@@ -3,7 +3,7 @@ use Rattle.std.proofs.Common.{◌≡◌, ℕ, zero, suc, ◌<◌, length, refl, 
 use Rattle.cap_word.specs.Runs.{Asks}
 use Rattle.certificate_rules.specs.Validity.{IsValid}
 use Rattle.flat_code.specs.Codes.{FlatCode}
-use Rattle.segment_source.proofs.Formed.{entries}
+use Rattle.machine_meaning.proofs.Formed.{entries}
 use Rattle.stack_certificate.specs.declared.certificates.Certificate.{Certificate}
 use Rattle.stack_image.specs.declared.images.Image.{Image}
 use Rattle.machine_world.specs.Areas.{Areas}

@@ -13,8 +13,8 @@ use Rattle.c_tree.specs.WellScoped.{IsWellScoped}
 use Rattle.certificate_rules.specs.Validity.{IsValid}
 use Rattle.flat_code.specs.WellFormed.{signature_of}
 use Rattle.flat_code.specs.declared.operations.Op.{Op}
-use Rattle.segment_source.proofs.Formed.{formed, entries}
-use Rattle.segment_source.proofs.Zeroes.{program_zeroes}
+use Rattle.machine_meaning.proofs.Formed.{formed, entries}
+use Rattle.machine_meaning.proofs.Zeroes.{program_zeroes}
 use Rattle.machine_world.specs.Globals.{AreGlobals}
 use Rattle.machine_world.specs.InPlace.{Frame}
 use Rattle.machine_world.specs.Local as local
@@ -23,7 +23,7 @@ use Rattle.machine_world.specs.Places.{Checked}
 use Rattle.machine_world.specs.Rests.{IsAtCall, IsResting, AtCall}
 use Rattle.rv_code.specs.declared.instructions.Instr.{Instr}
 use Rattle.rv_machine.specs.Step.{instruction_at}
-use Rattle.segment_steps.proofs.ValidFacts.{CodeFacts-valid}
+use Rattle.segment_laws.proofs.ValidFacts.{CodeFacts-valid}
 use Rattle.segment_laws.specs.Facts.{CodeFacts}
 use Rattle.segment_laws.specs.Ways.{HasForm, WayIn, Leads}
 use Rattle.segment_run.specs.Safe.{AsksAt, IsSafeMove, StaysSafe}
@@ -32,9 +32,9 @@ use Rattle.segment_run.specs.Sources.{CallsNext, StopsNext, IsSourceAnswer}
 use Rattle.segment_run.specs.Passing.{WaitsBefore}
 use Rattle.segment_run.specs.declared.segments.Segment.{Segment}
 use Rattle.segment_run.specs.declared.segments.Segment.TheVariants as answer
-use Rattle.segment_source.proofs.Laws as source
-use Rattle.segment_source.specs.AsSource.{AsksCall, WaitsAsSource, IsStepAsSource, RunsAsSource}
-use Rattle.segment_steps.specs.Alike.{Comes}
+use Rattle.machine_meaning.proofs.SourceLaws as source
+use Rattle.machine_meaning.specs.AsSource.{AsksCall, WaitsAsSource, IsStepAsSource, RunsAsSource}
+use Rattle.segment_laws.specs.Alike.{Comes}
 use Rattle.stack_certificate.specs.Certificates.{fact_at, need_of}
 use Rattle.stack_certificate.specs.Templates.{kind_of}
 use Rattle.stack_certificate.specs.declared.certificates.Certificate.{Certificate}

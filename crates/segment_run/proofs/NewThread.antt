@@ -13,8 +13,8 @@ use Rattle.chunk_pool.specs.Pool.{Pool, Taken, taken_for, IsHeld, place_of, byte
 use Rattle.chunk_pool.proofs.NeedLaws.{taken_for-sound}
 use Rattle.flat_code.specs.Codes.{function_at}
 use Rattle.flat_code.specs.Frames as flat
-use Rattle.segment_source.proofs.Formed.{formed}
-use Rattle.segment_source.proofs.Zeroes.{program_zeroes}
+use Rattle.machine_meaning.proofs.Formed.{formed}
+use Rattle.machine_meaning.proofs.Zeroes.{program_zeroes}
 use Rattle.machine_world.specs.Areas.{Areas}
 use Rattle.machine_world.specs.Globals.{AreGlobals}
 use Rattle.machine_world.specs.Local.{Core, Local, a0, with_header}
@@ -25,12 +25,12 @@ use Rattle.machine_world.specs.WellFormed.{AreWellFormed}
 use Rattle.rv_code.specs.declared.instructions.Instr.{Instr}
 use Rattle.rv_machine.specs.Registers.{read}
 use Rattle.rv_machine.specs.Step.{instruction_at}
-use Rattle.segment_steps.specs.Around.{IsAtStart, new_thread, RestsAtStart}
-use Rattle.segment_steps.proofs.Starting.{starts}
-use Rattle.segment_steps.proofs.ValidCalls.{CallFacts-valid}
-use Rattle.segment_steps.proofs.ValidFacts.{CodeFacts-valid}
+use Rattle.segment_laws.specs.Around.{IsAtStart, new_thread, RestsAtStart}
+use Rattle.segment_laws.proofs.Starting.{starts}
+use Rattle.segment_laws.proofs.ValidCalls.{CallFacts-valid}
+use Rattle.segment_laws.proofs.ValidFacts.{CodeFacts-valid}
 use Rattle.segment_laws.proofs.Facts.{CodeFacts}
-use Rattle.segment_steps.proofs.Needs.{NeedsFit-valid}
+use Rattle.segment_laws.proofs.Needs.{NeedsFit-valid}
 use Rattle.segment_run.specs.Contexts.{AreOf, IsOwned, IsReady}
 use Rattle.segment_run.specs.Kept.{AreKept}
 use Rattle.segment_run.proofs.Forming.{areas_formed}
@@ -40,10 +40,10 @@ use Rattle.segment_run.specs.Starting.{first_arguments}
 use Rattle.stack_certificate.specs.Certificates.{fact_at}
 use Rattle.stack_certificate.specs.declared.certificates.Certificate.{Certificate}
 use Rattle.stack_image.specs.declared.images.Image.{Image}
-use Rattle.stands_between.specs.Between.{RestAlike}
-use Rattle.stands_between.proofs.Going as going
-use Rattle.stands_between.proofs.Laws as between
-use Rattle.stands_between.proofs.Standing.{globals_somewhere}
+use Rattle.machine_meaning.specs.Between.{RestAlike}
+use Rattle.machine_meaning.proofs.Going as going
+use Rattle.machine_meaning.proofs.BetweenLaws as between
+use Rattle.machine_meaning.proofs.StandsForSome.{globals_somewhere}
 
 -- the k-th of the arguments is what stands in the k-th argument register
 argument_at : (params argument k : ℕ) → k < length (first_arguments params argument) → slice_index (first_arguments params argument) k ≡ get_or (argument ∷ replicate 7 0) k 0

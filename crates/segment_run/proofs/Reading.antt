@@ -9,12 +9,12 @@ use Rattle.c_tree.specs.WellScoped.{IsWellScoped}
 use Rattle.certificate_rules.specs.Validity.{IsValid}
 use Rattle.chunk_pool.specs.Pool.{Pool, chunk_of, payload_of, place_of, end_of, payload_place_of, chunk_at, IsPool, words_of}
 use Rattle.chunk_pool.proofs.AddressLaws.{chunk_at-some}
-use Rattle.segment_source.proofs.Formed.{formed}
-use Rattle.segment_source.proofs.Zeroes.{program_zeroes}
+use Rattle.machine_meaning.proofs.Formed.{formed}
+use Rattle.machine_meaning.proofs.Zeroes.{program_zeroes}
 use Rattle.machine_world.specs.InPlace.{Frame, IsFrame, IsAbove, IsStack, HeadersName, chain_below, low_below, frame_bytes, return_word}
 use Rattle.machine_world.specs.Local.{saved_tp, saved_sp}
 use Rattle.machine_world.specs.Places.{Checked}
-use Rattle.segment_steps.proofs.ValidFacts.{CodeFacts-valid}
+use Rattle.segment_laws.proofs.ValidFacts.{CodeFacts-valid}
 use Rattle.stack_certificate.specs.Certificates.{fact_at}
 use Rattle.stack_certificate.specs.declared.certificates.Certificate.{Certificate}
 use Rattle.stack_image.specs.declared.images.Image.{Image}

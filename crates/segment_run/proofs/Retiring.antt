@@ -9,8 +9,8 @@ use Rattle.certificate_rules.specs.Validity.{IsValid}
 use Rattle.chunk_pool.specs.Pool.{Pool, chunk_of}
 use Rattle.flat_code.specs.Codes.{result_place}
 use Rattle.flat_code.specs.declared.operations.Op.{Op}
-use Rattle.segment_source.proofs.Formed.{formed, follows}
-use Rattle.segment_source.proofs.Zeroes.{program_zeroes}
+use Rattle.machine_meaning.proofs.Formed.{formed, follows}
+use Rattle.machine_meaning.proofs.Zeroes.{program_zeroes}
 use Rattle.machine_world.specs.Areas.{Areas}
 use Rattle.machine_world.specs.Globals.{AreGlobals}
 use Rattle.machine_world.specs.InPlace.{Frame}
@@ -19,16 +19,16 @@ use Rattle.machine_world.specs.Places.{Checked}
 use Rattle.machine_world.specs.Rests.{IsResting, AtStart, AtCall, PastCall, IsAtCall}
 use Rattle.machine_world.specs.StandsFor.{Waits, HoldsIndex, StandAtCall, StandsFor}
 use Rattle.rv_machine.specs.Registers.{write}
-use Rattle.segment_steps.proofs.Passing.{passes, behind_by}
-use Rattle.segment_steps.proofs.ValidFacts.{CodeFacts-valid}
+use Rattle.segment_laws.proofs.Passing.{passes, behind_by}
+use Rattle.segment_laws.proofs.ValidFacts.{CodeFacts-valid}
 use Rattle.segment_laws.proofs.Facts.{CodeFacts}
 use Rattle.segment_laws.proofs.Finish.{frame_at}
 use Rattle.segment_laws.proofs.Registers.{add-small, read-write_other}
 use Rattle.segment_run.specs.Passing.{IsBefore, RestsBefore, RestsBehind, WaitsBefore, WaitsBehind}
 use Rattle.stack_certificate.specs.declared.certificates.Certificate.{Certificate}
 use Rattle.stack_image.specs.declared.images.Image.{Image}
-use Rattle.thread_laws.specs.Kept.{KeepsChunks, KeepsStack}
-use Rattle.thread_laws.proofs.Resting.{answered_law}
+use Rattle.segment_laws.specs.Kept.{KeepsChunks, KeepsStack}
+use Rattle.segment_laws.proofs.SameRest.{answered_law}
 
 -- the thread at the next instruction
 abbrev pub retired : Core → Core

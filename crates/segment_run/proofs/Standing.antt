@@ -14,7 +14,7 @@ use Rattle.certificate_rules.specs.Sites.{fact_numbers}
 use Rattle.certificate_rules.specs.Validity.{IsValid}
 use Rattle.machine_world.specs.Keys.{site_in}
 use Rattle.machine_world.specs.Places.{Checked, InOperation, IsAt, size_in}
-use Rattle.segment_steps.proofs.OnePlace.{one_place}
+use Rattle.segment_laws.proofs.OnePlace.{one_place}
 use Rattle.accepted_pairs.specs.CodeLists.{StandsIn}
 use Rattle.segment_run.specs.Lookups.{HasEntry}
 use Rattle.segment_run.specs.Walking.{IsInCall}

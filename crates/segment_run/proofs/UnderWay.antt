@@ -12,7 +12,7 @@ use Rattle.machine_world.proofs.HeldLaws.{KeepsCopies-step, KeepsShape-step}
 use Rattle.segment_laws.specs.Ways.{HasForm, IsGoodState, WayIn}
 use Rattle.segment_laws.proofs.Ways.{Leads-none, Leads-one, Leads-then, HasForm-next}
 use Rattle.flat_code.specs.WellFormed.{IsWellFormed}
-use Rattle.segment_steps.proofs.Untouched.{keeps_step}
+use Rattle.segment_laws.proofs.Untouched.{keeps_step}
 use Rattle.segment_run.specs.Safe.{IsSafe, StaysSafe}
 use Rattle.segment_run.specs.Segments.{IsEnd, IsSegment}
 use Rattle.segment_run.specs.declared.segments.Segment.{Segment}

@@ -11,22 +11,22 @@ use Rattle.chunk_pool.specs.Pool.{Pool}
 use Rattle.rv_machine.specs.Registers.{read}
 use Rattle.flat_code.specs.declared.operations.Op.{Op}
 use Rattle.flat_code.specs.Codes.{FlatCode, function_at, operation_at, result_place, site_of}
-use Rattle.segment_source.proofs.Formed.{formed, follows}
-use Rattle.segment_source.proofs.Zeroes.{program_zeroes}
+use Rattle.machine_meaning.proofs.Formed.{formed, follows}
+use Rattle.machine_meaning.proofs.Zeroes.{program_zeroes}
 use Rattle.machine_world.specs.InPlace.{Frame, IsRunning, HeadersName, FramesAt, HasFrames, ReturnsInto, joined, words_through_call, frame_bytes, return_word}
 use Rattle.machine_world.specs.Keys.{standing, site_in, with_site, sites_of, key_of}
 use Rattle.machine_world.specs.Local.{Core, sp}
 use Rattle.machine_world.specs.Places.{Checked, Place, InOperation, IsAt, Row, Whole, row_at, size_in, before_transfer, through_call}
 use Rattle.machine_world.specs.Rests.{IsResting, AtStart, AtCall, PastCall, IsAtCall, IsPastCall, ecall_word}
-use Rattle.segment_steps.proofs.ValidFacts.{CodeFacts-valid}
+use Rattle.segment_laws.proofs.ValidFacts.{CodeFacts-valid}
 use Rattle.segment_laws.specs.Facts.{CodeFacts}
-use Rattle.segment_steps.proofs.OnePlace.{one_place}
-use Rattle.segment_steps.proofs.Past.{row_first, size_some, function_of_op}
-use Rattle.segment_steps.proofs.Resting.{ask_shape}
-use Rattle.segment_steps.specs.Alike.{FollowsAsks}
+use Rattle.segment_laws.proofs.OnePlace.{one_place}
+use Rattle.segment_laws.proofs.Past.{row_first, size_some, function_of_op}
+use Rattle.segment_laws.proofs.FromRest.{ask_shape}
+use Rattle.segment_laws.specs.Alike.{FollowsAsks}
 use Rattle.machine_world.specs.StandsFor.{StandsFor, Waits}
-use Rattle.stands_between.proofs.Past.{ecall_site}
-use Rattle.stands_between.proofs.SiteKeys.{key_is}
+use Rattle.machine_meaning.proofs.Past.{ecall_site}
+use Rattle.machine_meaning.proofs.SiteKeys.{key_is}
 use Rattle.stack_certificate.specs.Templates.{begin, size, kind_of, transfer_size, result_size}
 use Rattle.stack_certificate.specs.declared.certificates.Certificate.{Certificate}
 use Rattle.stack_certificate.specs.declared.sites.LinkKind.{LinkKind}

@@ -21,8 +21,8 @@ use Rattle.machine_world.specs.Rests.{IsResting, AtStart, AtCall, PastCall}
 use Rattle.machine_world.specs.StandsFor.{SourceThread, StandsForThread, going_on}
 use Rattle.machine_world.specs.WellFormed.{AreWellFormed, AreWords}
 use Rattle.segment_laws.specs.Ways.{HasForm, Owns}
-use Rattle.segment_source.proofs.Laws as source
-use Rattle.segment_source.specs.AsSource.{HoldsWanted, HoldsResult, RunsAsSource}
+use Rattle.machine_meaning.proofs.SourceLaws as source
+use Rattle.machine_meaning.specs.AsSource.{HoldsWanted, HoldsResult, RunsAsSource}
 use Rattle.segment_run.specs.Contexts.{checked_of, local_of, AreOf, IsOwned}
 use Rattle.segment_run.specs.Kept.{AreKept}
 use Rattle.segment_run.specs.Segments.{KeepsChunks}

@@ -9,7 +9,7 @@ use Rattle.machine_world.specs.Local.{Local, LocalMove, Question, Calls, Starts,
 use Rattle.machine_world.specs.Places.{Checked}
 use Rattle.machine_world.specs.Rests.{IsAtCall}
 use Rattle.segment_laws.specs.Ways.{IsGoodState}
-use Rattle.segment_steps.specs.Alike.{FindsNoChunk}
+use Rattle.segment_laws.specs.Alike.{FindsNoChunk}
 
 -- the thread rests at the ECALL of an operation
 pub record RestsAtCall (c : Checked) (l : Local) (op : Op) : Type 0 where

@@ -10,8 +10,8 @@ use Rattle.machine_world.specs.WellFormed.{IsWellFormed}
 use Rattle.segment_run.specs.Contexts.{checked_of, core_of}
 use Rattle.thread_waits.specs.Waiting.{Waiting, wait_at}
 use Rattle.thread_waits.specs.declared.waits.Wait.{Wait}
-use Rattle.thread_laws.specs.Found.{IsNumbered, threads_in}
-use Rattle.thread_laws.proofs.Changing.{all_same}
+use Rattle.segment_laws.specs.Found.{IsNumbered, threads_in}
+use Rattle.segment_laws.proofs.Changing.{all_same}
 use Rattle.thread_core.specs.Kept.{IsKept, IsRunningThere}
 use Rattle.thread_core.specs.States.{number_of, thread_of_record, blocked_of, machine_of, setting_of, number_in}
 use Rattle.thread_core.specs.Steps.{Runs, KeepsRest, Told, TellsIf, held_in}

@@ -10,8 +10,8 @@ use Rattle.machine_world.specs.Threads.{Thread, first_with}
 use Rattle.thread_waits.specs.Waiting as waits
 use Rattle.thread_waits.specs.Waiting.{Waiting, wait_at}
 use Rattle.thread_waits.specs.declared.waits.Wait.{Wait}
-use Rattle.thread_laws.specs.Found.{IsOfRecord}
-use Rattle.thread_laws.proofs.Changing.{thread_members}
+use Rattle.segment_laws.specs.Found.{IsOfRecord}
+use Rattle.segment_laws.proofs.Changing.{thread_members}
 use Rattle.thread_core.specs.States.{number_of, thread_of_record, threads_of, machine_of, setting_of}
 use Rattle.thread_core.specs.Kept.{IsKept}
 use Rattle.thread_core.specs.Ready as ready

@@ -14,8 +14,8 @@ use Rattle.accepted_pairs.specs.Acceptance.{Acceptance}
 use Rattle.accepted_pairs.specs.Accepting.{accepted_tree}
 use Rattle.certificate_rules.specs.Validity.{IsValid}
 use Rattle.flat_code.specs.declared.operations.Op.{Op}
-use Rattle.segment_source.proofs.Formed.{formed}
-use Rattle.segment_source.proofs.Zeroes.{program_zeroes}
+use Rattle.machine_meaning.proofs.Formed.{formed}
+use Rattle.machine_meaning.proofs.Zeroes.{program_zeroes}
 use Rattle.machine_world.specs.Areas.{Areas}
 use Rattle.machine_world.specs.Local.{Calls}
 use Rattle.machine_world.specs.Places.{size_in}
@@ -23,7 +23,7 @@ use Rattle.machine_world.specs.Rests.{AtCall}
 use Rattle.machine_world.specs.Threads.{Thread, World, Move, Goes, Stops, answered, unless_trap, printed, result_of, retired, resumed, step}
 use Rattle.machine_world.specs.WellFormed.{IsWellFormed, KeepsWellFormed}
 use Rattle.machine_world.proofs.FormWorlds.{KeepsWellFormed-step}
-use Rattle.segment_steps.proofs.ValidFacts.{CodeFacts-valid}
+use Rattle.segment_laws.proofs.ValidFacts.{CodeFacts-valid}
 use Rattle.segment_laws.specs.Facts.{CodeFacts}
 use Rattle.segment_run.specs.Contexts.{checked_of, code_of, local_of, IsReady}
 use Rattle.segment_run.specs.Passing.{RestsBefore, RestsBehind}

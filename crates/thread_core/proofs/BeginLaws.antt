@@ -13,10 +13,10 @@ use Rattle.machine_world.specs.WellFormed.{IsWellFormed}
 use Rattle.slab.specs.Slab.{get}
 use Rattle.segment_run.specs.Contexts.{checked_of, code_of, local_of, IsReady}
 use Rattle.thread_core.specs.declared.records.Record.{Record}
-use Rattle.thread_laws.specs.Silent.{GoesOn}
-use Rattle.world_source.specs.Running.{IsRunning, KeepsRunning}
-use Rattle.world_source.proofs.Stretching as runs
-use Rattle.world_source.specs.UnderWay.{IsSettled}
+use Rattle.segment_laws.specs.Silent.{GoesOn}
+use Rattle.machine_meaning.specs.Running.{IsRunning, KeepsRunning}
+use Rattle.machine_meaning.proofs.Stretching as runs
+use Rattle.machine_meaning.specs.UnderWay.{IsSettled}
 use Rattle.thread_core.specs.Kept.{IsKept, HasCome}
 use Rattle.thread_core.specs.States.{machine_of, setting_of, number_in}
 use Rattle.thread_core.specs.Steps.{held_in, MayRun, OnTold, KeepsRest, GoesIf}

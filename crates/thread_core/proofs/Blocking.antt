@@ -32,8 +32,8 @@ use Rattle.segment_run.specs.declared.contexts.Fuel.{Fuel}
 use Rattle.thread_exchange.specs.Exchanges.{row_of}
 use Rattle.thread_waits.specs.Waiting.{Waiting, wait_at}
 use Rattle.thread_waits.specs.declared.waits.Wait.{Wait}
-use Rattle.thread_laws.specs.Found.{IsNumbered}
-use Rattle.thread_laws.proofs.Changing.{record_written}
+use Rattle.segment_laws.specs.Found.{IsNumbered}
+use Rattle.segment_laws.proofs.Changing.{record_written}
 use Rattle.thread_core.specs.Kept.{IsKept, AreAligned, RunsAt}
 use Rattle.thread_core.specs.Parts.{ContextIs, HasContext, passed_context}
 use Rattle.thread_core.specs.States.{number_of, thread_of_record, threads_of, blocked_of, machine_of, setting_of}

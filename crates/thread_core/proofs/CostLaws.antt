@@ -1,6 +1,6 @@
 -- What a step of the world does to the cost.
 use Rattle.std.proofs.Common.{◌≡◌, ℕ, zero, suc, ◌+◌, add-zero, arith, nat_eq, length, Option, Some, None, refl, sym, ◌∙◌, ap, subst}
-use Rattle.thread_laws.specs.Silent.{GoesOn}
+use Rattle.segment_laws.specs.Silent.{GoesOn}
 use Rattle.std.specs.Prelude.{nat_le}
 use Rattle.std.proofs.lemmas.Bool.{cond_both}
 use Rattle.cap_word.specs.Calls.{Call, Blocking, Immediate}

@@ -13,9 +13,9 @@ use Rattle.segment_run.specs.Contexts.{code_of}
 use Rattle.segment_run.specs.declared.segments.Segment.{Segment}
 use Rattle.segment_run.specs.declared.segments.Segment.TheVariants as answer
 use Rattle.slab.specs.Slab.{get}
-use Rattle.thread_laws.specs.Silent.{GoesOn}
-use Rattle.thread_laws.proofs.Silent as silent
-use Rattle.thread_laws.proofs.Silent.{step_moves, step_fuel}
+use Rattle.segment_laws.specs.Silent.{GoesOn}
+use Rattle.segment_laws.proofs.Silent as silent
+use Rattle.segment_laws.proofs.Silent.{step_moves, step_fuel}
 use Rattle.thread_core.specs.Kept.{IsRunningThere}
 use Rattle.thread_core.specs.States.{number_in, thread_of_record, machine_of, setting_of}
 use Rattle.thread_core.specs.Steps.{MayRun, Runs, LocalIs, KeepsRest, SamePlaces, PlacesIf, RanTo, Told, TellsIf, OnTold, held_in}

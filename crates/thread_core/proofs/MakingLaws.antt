@@ -22,17 +22,17 @@ use Rattle.segment_run.specs.Contexts.{AreOf, checked_of, core_of}
 use Rattle.segment_run.specs.Starting.{IsStarted}
 use Rattle.segment_run.specs.declared.contexts.Context.{Context}
 use Rattle.segment_run.proofs.Forming.{areas_formed}
-use Rattle.segment_steps.proofs.Needs.{NeedsFit-valid}
+use Rattle.segment_laws.proofs.Needs.{NeedsFit-valid}
 use Rattle.stack_certificate.specs.Certificates.{fact_at}
 use Rattle.stack_certificate.specs.declared.certificates.Certificate.{Certificate}
 use Rattle.stack_image.specs.declared.images.Image.{Image}
 use Rattle.thread_exchange.specs.Exchanges.{Exchanging}
 use Rattle.thread_waits.specs.Waiting.{wait_at, Waiting}
 use Rattle.thread_waits.specs.declared.waits.Wait.{Wait}
-use Rattle.thread_laws.specs.Found.{at_place, IsNumbered}
-use Rattle.thread_laws.proofs.Changing.{record_added}
-use Rattle.world_source.specs.UnderWay.{StandsSettled}
-use Rattle.world_source.proofs.Between.{starts_law}
+use Rattle.segment_laws.specs.Found.{at_place, IsNumbered}
+use Rattle.segment_laws.proofs.Changing.{record_added}
+use Rattle.machine_meaning.specs.UnderWay.{StandsSettled}
+use Rattle.machine_meaning.proofs.BetweenSegments.{starts_law}
 use Rattle.thread_core.specs.Kept.{AreAligned, IsKept, HasCome, RunsAt, IsRunningThere}
 use Rattle.thread_core.specs.Waiting.{IsUntrapped}
 use Rattle.thread_core.specs.Making.{IsPolicy, start_areas}
@@ -119,7 +119,7 @@ module _ (accepted : Acceptance) (scoped : IsWellScoped (accepted_tree accepted)
       omega (arith, inside, few)
 
   bound_fits : (fact_at accepted.certificate program.main).bound + 16 ≤ accepted.certificate.chunk
-  bound_fits = (NeedsFit-valid (lowered program) accepted.image accepted.certificate (Rattle.segment_source.proofs.Formed.formed program accepted.image accepted.certificate scoped valid) valid).bound program.main there
+  bound_fits = (NeedsFit-valid (lowered program) accepted.image accepted.certificate (Rattle.machine_meaning.proofs.Formed.formed program accepted.image accepted.certificate scoped valid) valid).bound program.main there
 
   -- a chunk is there for main
   pub main_fits : (policy : WorldPolicy) (parts : Parts) → AreParts accepted policy parts → (main : ℕ) → main ≡ program.main → FitsNone parts.areas.pool (fact_at accepted.certificate main).bound → ⊥
@@ -159,7 +159,7 @@ module _ (accepted : Acceptance) (scoped : IsWellScoped (accepted_tree accepted)
     others : (place : ℕ) → place ≢ 0 → get st.records place ≡ None
     others place apart = updates.others place (λ e. apart (e ∙ are_parts.first_key)) ∙ ap (λ (slots : List (Option Record)). slice_index_or slots place None) are_parts.records
 
-    added : IsNumbered number_of st.records.slots 1 × (Rattle.thread_laws.specs.Found.threads_in number_of (thread_of_record st.areas.pool st.waits) st.records.slots 1 ≡ thread_of_record st.areas.pool st.waits 0 first ∷ [])
+    added : IsNumbered number_of st.records.slots 1 × (Rattle.segment_laws.specs.Found.threads_in number_of (thread_of_record st.areas.pool st.waits) st.records.slots 1 ≡ thread_of_record st.areas.pool st.waits 0 first ∷ [])
     added = record_added number_of (thread_of_record st.areas.pool st.waits) (thread_of_record st.areas.pool st.waits) [] st.records.slots 0 0 first
         (record { unique = λ i j r s at. absurd (none_there i r at); below = λ i r at. absurd (none_there i r at) }) refl slot refl
         (record { records = λ k apart. others k apart ∙ sym (past k); threads = λ k s apart at. refl })
@@ -176,7 +176,7 @@ module _ (accepted : Acceptance) (scoped : IsWellScoped (accepted_tree accepted)
 
     threads_are : threads_of st ≡ record { number = 0; core = core_of st.areas.pool context; blocked = None } ∷ []
     threads_are =
-        let at_one : threads_of st ≡ Rattle.thread_laws.specs.Found.threads_in number_of (thread_of_record st.areas.pool st.waits) st.records.slots 1 = ap (Rattle.thread_laws.specs.Found.threads_in number_of (thread_of_record st.areas.pool st.waits) st.records.slots) next in
+        let at_one : threads_of st ≡ Rattle.segment_laws.specs.Found.threads_in number_of (thread_of_record st.areas.pool st.waits) st.records.slots 1 = ap (Rattle.segment_laws.specs.Found.threads_in number_of (thread_of_record st.areas.pool st.waits) st.records.slots) next in
         at_one ∙ added.1 ∙ ap (λ (wait : Option Wait). record { number = 0; core = core_of st.areas.pool context; blocked = blocked_of wait } ∷ []) fresh
 
     cost_is : fuel - st.fuel.left ≡ 0

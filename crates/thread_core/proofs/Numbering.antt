@@ -12,8 +12,8 @@ use Rattle.machine_world.specs.Local as local
 use Rattle.machine_world.specs.Local.{LocalMove, local_step}
 use Rattle.machine_world.specs.Runs.{may_run, picked, picked_at, is_between, after_action, Pick}
 use Rattle.machine_world.specs.Threads.{Blocked, Thread, World, Setting, first_with, thread_of, most_threads, Move, Goes, Puts, Spawns, Blocks, Ends, Stops, Wrong, unless_trap, printed, package_call, spawned, asked, stopped, moved, step_of, step_on, step}
-use Rattle.thread_laws.specs.Silent.{GoesOn}
-use Rattle.world_source.proofs.Threads.{number_of, replaced_same, without_same}
+use Rattle.segment_laws.specs.Silent.{GoesOn}
+use Rattle.machine_meaning.proofs.Threads.{number_of, replaced_same, without_same}
 use Rattle.thread_core.specs.Sources.{AreFrom}
 
 -- one number more

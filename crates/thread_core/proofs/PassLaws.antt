@@ -15,11 +15,11 @@ use Rattle.segment_run.specs.declared.contexts.Context.{Context}
 use Rattle.segment_run.specs.declared.contexts.Fuel.{Fuel}
 use Rattle.machine_world.specs.WellFormed.{IsWellFormed}
 use Rattle.thread_exchange.specs.Exchanges.{Exchanging}
-use Rattle.thread_laws.proofs.Silent.{step_moves, step_fuel}
+use Rattle.segment_laws.proofs.Silent.{step_moves, step_fuel}
 use Rattle.thread_waits.specs.Waiting.{wait_at}
-use Rattle.thread_laws.specs.Found.{IsNumbered}
-use Rattle.thread_laws.proofs.Changing.{record_written}
-use Rattle.world_source.proofs.Forms.{has_form}
+use Rattle.segment_laws.specs.Found.{IsNumbered}
+use Rattle.segment_laws.proofs.Changing.{record_written}
+use Rattle.machine_meaning.proofs.Forms.{has_form}
 use Rattle.thread_core.specs.States.{number_of, thread_of_record, threads_of, machine_of, setting_of, number_in}
 use Rattle.thread_core.specs.Kept.{IsKept, IsRunningThere, RunsAt, AreAligned}
 use Rattle.thread_core.specs.Parts.{HasContext, passed_context}

@@ -18,7 +18,7 @@ use Rattle.segment_run.specs.Passing.{RestsBehind}
 use Rattle.segment_run.proofs.Behind.{code_facts, behind_call}
 use Rattle.segment_run.proofs.Retiring.{reply_rests}
 use Rattle.stack_certificate.specs.Certificates.{fact_at}
-use Rattle.world_source.specs.UnderWay.{IsSettled, IsSettledIf, IsSettledThread, RestsSo}
+use Rattle.machine_meaning.specs.UnderWay.{IsSettled, IsSettledIf, IsSettledThread, RestsSo}
 use Rattle.thread_core.proofs.PassLaws.{its_chunks}
 use Rattle.cap_word.specs.declared.calls.Block.{Block}
 use Rattle.cap_word.specs.declared.threads.ThreadId.{ThreadId}
@@ -33,8 +33,8 @@ use Rattle.segment_run.specs.declared.contexts.Context.{Context}
 use Rattle.thread_exchange.specs.Exchanges.{Exchanging, MayResume, row_of}
 use Rattle.thread_waits.specs.Waiting.{Waiting, wait_at}
 use Rattle.thread_waits.specs.declared.waits.Wait.{Wait}
-use Rattle.thread_laws.specs.Found.{IsNumbered, threads_in}
-use Rattle.thread_laws.proofs.Changing.{record_written, all_same}
+use Rattle.segment_laws.specs.Found.{IsNumbered, threads_in}
+use Rattle.segment_laws.proofs.Changing.{record_written, all_same}
 use Rattle.thread_core.specs.States.{number_of, thread_of_record, threads_of, machine_of, setting_of, number_in, blocked_of}
 use Rattle.thread_core.specs.Kept.{IsKept, AreAligned}
 use Rattle.c_mean.specs.ModelledCalls.{is_past, wake_of}

@@ -24,12 +24,12 @@ use Rattle.segment_run.specs.declared.contexts.Context.{Context}
 use Rattle.segment_run.specs.declared.contexts.Fuel.{Fuel}
 use Rattle.segment_run.specs.declared.segments.Segment.{Segment}
 use Rattle.segment_run.specs.declared.segments.Segment.TheVariants as answer
-use Rattle.thread_laws.proofs.OtherThreads.{segment_keeps, replaced_gone}
+use Rattle.segment_laws.proofs.OtherThreads.{segment_keeps, replaced_gone}
 use Rattle.slab.specs.Slab.{Slab, get}
-use Rattle.thread_laws.specs.Silent.{GoesOn, after_silent}
-use Rattle.thread_laws.proofs.Silent.{goes_on, step_turns}
-use Rattle.thread_laws.specs.Found.{IsNumbered, KeepsRecords}
-use Rattle.thread_laws.proofs.Changing.{record_written, record_removed}
+use Rattle.segment_laws.specs.Silent.{GoesOn, after_silent}
+use Rattle.segment_laws.proofs.Silent.{goes_on, step_turns}
+use Rattle.segment_laws.specs.Found.{IsNumbered, KeepsRecords}
+use Rattle.segment_laws.proofs.Changing.{record_written, record_removed}
 use Rattle.thread_core.specs.Kept.{IsKept, AreAligned, RunsAt, IsRunningThere}
 use Rattle.thread_core.specs.States.{blocked_of, number_of, number_in, numbers_of, thread_of_record, threads_of, machine_of, setting_of}
 use Rattle.thread_core.specs.Steps.{MayRun, Runs, IsNext, HasFuel, RanTo, RanOut, Ran, held_in}

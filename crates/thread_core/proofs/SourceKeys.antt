@@ -13,7 +13,7 @@ use Rattle.machine_world.specs.Rests.{IsResting, AtStart, AtCall, PastCall}
 use Rattle.machine_world.specs.StandsFor.{Waits, StandsFor}
 use Rattle.machine_world.specs.StandsForWorld.{IsPast, StandsForRest}
 use Rattle.machine_world.specs.Threads.{Blocked, Thread, World, thread_of}
-use Rattle.stands_between.proofs.SiteKeys.{key_is}
+use Rattle.machine_meaning.proofs.SiteKeys.{key_is}
 use Rattle.thread_core.specs.Sources.{IsKeyOf, HasEnded}
 use Rattle.thread_core.specs.Turns.{HasKey, HasKeyOf}
 use Rattle.thread_core.proofs.Numbering.{IsBlockedIn}

@@ -17,11 +17,11 @@ use Rattle.machine_world.specs.StandsForWorld.{StandsForWorld}
 use Rattle.machine_world.specs.Threads.{World, Setting, Move, Puts, Spawns, Blocks, Ends, Stops, step}
 use Rattle.machine_world.specs.WellFormed.{IsWellFormed}
 use Rattle.segment_run.specs.Contexts.{checked_of}
-use Rattle.world_source.specs.Running.{IsRunning}
-use Rattle.world_source.proofs.Stretching as runs
-use Rattle.world_source.proofs.Laws as law
-use Rattle.world_source.specs.Reached.{IsReached, IsFinished, IsFinishedIn, StepReaches}
-use Rattle.world_source.specs.UnderWay.{IsSettled}
+use Rattle.machine_meaning.specs.Running.{IsRunning}
+use Rattle.machine_meaning.proofs.Stretching as runs
+use Rattle.machine_meaning.proofs.WorldLaws as law
+use Rattle.machine_meaning.specs.Reached.{IsReached, IsFinished, IsFinishedIn, StepReaches}
+use Rattle.machine_meaning.specs.UnderWay.{IsSettled}
 use Rattle.thread_core.specs.Kept.{IsKept}
 use Rattle.thread_core.specs.Sources.{AreFrom, IsBeside, IsDone, TellsSource, ProceedsAsSource}
 use Rattle.thread_core.specs.States.{machine_of, setting_of}

@@ -13,17 +13,17 @@ use Rattle.accepted_pairs.specs.Accepting.{accepted_tree}
 use Rattle.certificate_rules.specs.Validity.{IsValid}
 use Rattle.chunk_pool.specs.Pool.{Taken, taken_for, FitsNone}
 use Rattle.flat_code.specs.declared.operations.Op.{Op}
-use Rattle.segment_source.proofs.Formed.{formed}
+use Rattle.machine_meaning.proofs.Formed.{formed}
 use Rattle.machine_world.specs.Places.{Checked}
 use Rattle.machine_world.specs.Threads.{Thread, World, Setting, Stops, Spawns, thread_of, starts, spawned, retired, resumed, with_thread, most_threads, moved, step_of, step_on, step}
 use Rattle.machine_world.specs.WellFormed.{IsWellFormed, KeepsWellFormed}
 use Rattle.machine_world.proofs.FormWorlds.{KeepsWellFormed-step}
 use Rattle.segment_run.specs.Contexts.{checked_of, code_of, local_of}
 use Rattle.segment_run.specs.Segments.{IsAtSpawn, IsAtAsk}
-use Rattle.segment_steps.proofs.Needs.{NeedsFit-valid}
+use Rattle.segment_laws.proofs.Needs.{NeedsFit-valid}
 use Rattle.stack_certificate.specs.Certificates.{fact_at, need_of}
 use Rattle.stack_certificate.specs.Templates.{kind_of}
-use Rattle.thread_laws.proofs.Changing.{thread_found}
+use Rattle.segment_laws.proofs.Changing.{thread_found}
 use Rattle.thread_core.specs.Kept.{IsRunningThere}
 use Rattle.thread_core.specs.States.{number_of, thread_of_record, threads_of, machine_of, setting_of, number_in}
 use Rattle.thread_core.specs.Steps.{Runs, LocalIs}

@@ -13,8 +13,8 @@ use Rattle.accepted_pairs.specs.Accepting.{accepted_tree}
 use Rattle.certificate_rules.specs.Validity.{IsValid}
 use Rattle.chunk_pool.specs.Pool.{Pool}
 use Rattle.flat_code.specs.declared.operations.Op.{Op}
-use Rattle.segment_source.proofs.Formed.{formed}
-use Rattle.segment_source.proofs.Zeroes.{program_zeroes}
+use Rattle.machine_meaning.proofs.Formed.{formed}
+use Rattle.machine_meaning.proofs.Zeroes.{program_zeroes}
 use Rattle.machine_world.specs.Areas.{Areas}
 use Rattle.machine_world.specs.Local.{with_header}
 use Rattle.machine_world.specs.Places.{size_in}
@@ -22,7 +22,7 @@ use Rattle.machine_world.specs.Rests.{IsResting, AtCall}
 use Rattle.stack_certificate.specs.Certificates.{fact_at}
 use Rattle.machine_world.specs.Threads.{Thread, World, Setting, Move, thread_of, resumed, replaced, start_core, most_threads}
 use Rattle.machine_world.specs.WellFormed.{IsWellFormed}
-use Rattle.segment_steps.proofs.ValidFacts.{CodeFacts-valid}
+use Rattle.segment_laws.proofs.ValidFacts.{CodeFacts-valid}
 use Rattle.segment_laws.specs.Facts.{CodeFacts}
 use Rattle.segment_laws.proofs.Registers.{add-small}
 use Rattle.segment_run.specs.Contexts.{checked_of, code_of, local_of, core_of, chain_from, AreOf, IsReady}
@@ -31,15 +31,15 @@ use Rattle.segment_run.specs.Segments.{IsAtAsk}
 use Rattle.segment_run.specs.declared.contexts.Context.{Context}
 use Rattle.segment_run.specs.declared.contexts.Fuel.{Fuel}
 use Rattle.segment_run.proofs.Owning.{IsOwned-owns}
-use Rattle.thread_laws.proofs.OtherThreads.{replaced_joined}
-use Rattle.thread_laws.specs.Found.{IsNumbered, KeepsRecords, threads_in}
-use Rattle.thread_laws.proofs.Changing.{thread_found, record_added, record_written}
-use Rattle.thread_laws.specs.Kept.{KeepsChunks}
-use Rattle.thread_laws.proofs.Resting.{rests_law}
+use Rattle.segment_laws.proofs.OtherThreads.{replaced_joined}
+use Rattle.segment_laws.specs.Found.{IsNumbered, KeepsRecords, threads_in}
+use Rattle.segment_laws.proofs.Changing.{thread_found, record_added, record_written}
+use Rattle.segment_laws.specs.Kept.{KeepsChunks}
+use Rattle.segment_laws.proofs.SameRest.{rests_law}
 use Rattle.thread_waits.specs.Waiting.{Waiting, wait_at}
 use Rattle.thread_waits.specs.declared.waits.Wait.{Wait}
-use Rattle.world_source.proofs.Forms.{has_form}
-use Rattle.world_source.proofs.Fresh.{kept_starting}
+use Rattle.machine_meaning.proofs.Forms.{has_form}
+use Rattle.machine_meaning.proofs.Fresh.{kept_starting}
 use Rattle.thread_core.specs.Kept.{IsKept, RunsAt, IsRunningThere}
 use Rattle.thread_core.specs.Parts.{passed_context}
 use Rattle.thread_core.specs.States.{number_of, thread_of_record, threads_of, blocked_of, machine_of, setting_of, number_in}

@@ -10,8 +10,8 @@ use Rattle.machine_world.specs.Threads.{Thread, Setting, first_with}
 use Rattle.thread_waits.specs.Waiting as waits
 use Rattle.thread_waits.specs.Waiting.{wait_at}
 use Rattle.thread_waits.specs.declared.waits.Wait.{Wait}
-use Rattle.thread_laws.specs.Found.{IsNumbered}
-use Rattle.thread_laws.proofs.Changing.{thread_found}
+use Rattle.segment_laws.specs.Found.{IsNumbered}
+use Rattle.segment_laws.proofs.Changing.{thread_found}
 use Rattle.thread_core.specs.States.{number_of, thread_of_record, threads_of, machine_of, setting_of, numbers_of, number_in}
 use Rattle.thread_core.specs.Kept.{IsKept, RunsAt, IsRunningThere}
 use Rattle.thread_core.specs.Waiting.{wait_of, waits_for_in, IsUntrapped}

@@ -25,14 +25,14 @@ use Rattle.machine_world.specs.Places.{Checked}
 use Rattle.machine_world.specs.Threads as machine
 use Rattle.machine_world.specs.Threads.{Thread, World, Setting, thread_of, most_threads, Move, retired, resumed, result_of, unless_trap, printed, answered, blocks, package_call, spawned, starts, asked, stopped, moved, step_of, step_on, step}
 use Rattle.machine_world.specs.WellFormed.{IsWellFormed}
-use Rattle.segment_source.specs.AsSource.{AsksCall, IsStepAsSource}
+use Rattle.machine_meaning.specs.AsSource.{AsksCall, IsStepAsSource}
 use Rattle.stack_certificate.specs.Certificates.{fact_at, need_of}
 use Rattle.stack_certificate.specs.Templates.{kind_of}
 use Rattle.stack_certificate.specs.declared.certificates.Certificate.{Certificate}
 use Rattle.stack_image.specs.declared.images.Image.{Image}
-use Rattle.world_source.specs.Reached.{IsReached, IsFinished}
-use Rattle.world_source.proofs.Forms.{local_in}
-use Rattle.world_source.proofs.Steps.{along, finish, own}
+use Rattle.machine_meaning.specs.Reached.{IsReached, IsFinished}
+use Rattle.machine_meaning.proofs.Forms.{local_in}
+use Rattle.machine_meaning.proofs.SegmentSteps.{along, finish, own}
 
 -- the step of a world whose running thread is there
 step_is : (s : Setting) (w : World) (number : ℕ) (thread : Thread) → w.running ≡ Some number → thread_of w number ≡ Some thread → step s w ≡ cond (nat_eq w.cost s.fuel) (machine.Stops Stop.Fuel) (moved s w thread (local_step s.code (local_in w thread)))

@@ -9,7 +9,7 @@ use Rattle.c_mean.specs.World.{Rest}
 use Rattle.accepted_pairs.specs.Accepting.{accepted_tree}
 use Rattle.machine_world.specs.StandsForWorld.{StandsForWorld}
 use Rattle.segment_run.specs.Contexts.{checked_of}
-use Rattle.world_source.specs.Reached.{IsReached, IsFinished}
+use Rattle.machine_meaning.specs.Reached.{IsReached, IsFinished}
 use Rattle.thread_core.specs.Worlds.{Held}
 use Rattle.thread_core.specs.declared.turns.Turn.{Turn}
 

@@ -5,7 +5,7 @@ use Rattle.accepted_pairs.specs.Acceptance.{Acceptance}
 use Rattle.chunk_pool.specs.Pool.{Pool}
 use Rattle.machine_world.specs.Threads.{Blocked, Thread, World, Setting}
 use Rattle.segment_run.specs.Contexts.{core_of}
-use Rattle.thread_laws.specs.Found.{threads_in}
+use Rattle.segment_laws.specs.Found.{threads_in}
 use Rattle.thread_waits.specs.Waiting.{Waiting, wait_at}
 use Rattle.thread_waits.specs.declared.waits.Wait.{Wait}
 use Rattle.thread_core.specs.declared.records.Record.{Record}

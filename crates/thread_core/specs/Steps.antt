@@ -13,7 +13,7 @@ use Rattle.segment_run.specs.Contexts.{checked_of, code_of, local_of, IsReady}
 use Rattle.segment_run.specs.Segments.{IsAtModel, IsAtAsk}
 use Rattle.segment_run.specs.declared.segments.Segment.{Segment}
 use Rattle.segment_run.specs.declared.segments.Segment.TheVariants as answer
-use Rattle.thread_laws.specs.Silent.{GoesOn}
+use Rattle.segment_laws.specs.Silent.{GoesOn}
 use Rattle.thread_core.specs.Kept.{IsKept}
 use Rattle.thread_core.specs.States.{number_of, machine_of, setting_of, numbers_of}
 use Rattle.thread_core.specs.Turns.{Tells}

@@ -15,7 +15,7 @@ use Rattle.machine_world.specs.Threads.{Thread, World, thread_of, Move, Puts, Sp
 use Rattle.segment_run.specs.Contexts.{checked_of}
 use Rattle.thread_core.specs.declared.turns.Turn.{Turn}
 use Rattle.thread_core.specs.Ready.{is_ready_in}
-use Rattle.thread_laws.specs.Silent.{GoesOn}
+use Rattle.segment_laws.specs.Silent.{GoesOn}
 use Rattle.thread_core.specs.Worlds.{Held, IsThread, segment_cost}
 
 -- the key of a thread that stands just behind the ECALL at which it is blocked: it stands there with some frames, and

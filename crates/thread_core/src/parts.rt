@@ -12,7 +12,7 @@ ghost use Rattle.slab.specs.Slab.{get, Updates, HasRoomFor};
 ghost use Rattle.stack_certificate.specs.Certificates.{fact_at};
 ghost use Rattle.thread_waits.specs.Waiting.{wait_at, latest};
 ghost use Rattle.machine_world.specs.Runs.{Pick, after_action};
-ghost use Rattle.world_source.specs.UnderWay.{IsSettled};
+ghost use Rattle.machine_meaning.specs.UnderWay.{IsSettled};
 ghost use Rattle.thread_core.specs.Kept.{IsKept};
 ghost use Rattle.thread_core.specs.Ready.{is_ready_in};
 ghost use Rattle.thread_core.specs.States.{machine_of, setting_of};

@@ -4,7 +4,7 @@ use Rattle.std.specs.Prelude.{codes}
 use Rattle.std.specs.Int.{w128}
 use Rattle.std.proofs.lemmas.Int.{to_z-of_z}
 use Rattle.cap_text.specs.Decimals.{canonical_decimal, canonical_integer}
-use Rattle.workload_source.specs.Programs.{first_line, link_line, chain_text, worker_line, main_line, program_text}
+use Rattle.workload.specs.Programs.{first_line, link_line, chain_text, worker_line, main_line, program_text}
 use Rattle.workload.specs.Traces.{arrival_line, message_line, lines_below}
 
 decimal_of_pos : (n : ℕ) → canonical_integer (pos n) ≡ canonical_decimal n

@@ -1,7 +1,7 @@
 -- The trace of the workload of n: n arrivals, 10 ticks apart, and later a message for each.
 use Rattle.std.specs.Prelude.{ℕ, zero, suc, ◌+◌, ◌*◌, ◌%◌, List, [], ◌++◌, codes}
 use Rattle.cap_text.specs.Decimals.{canonical_decimal}
-use Rattle.workload_source.specs.Programs.{line_feed}
+use Rattle.workload.specs.Programs.{line_feed}
 
 -- the arrivals go round the 64 channels
 abbrev pub channel_of : ℕ → ℕ

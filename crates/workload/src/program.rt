@@ -2,7 +2,7 @@
 ghost use Rattle.std.specs.Prelude.{◌≡◌, ◌+◌, ◌<◌, ◌≤◌, ◌^◌, ◌++◌, OnOk, IfOk};
 ghost use Rattle.c_tree.specs.Trees.{ProgramTree};
 ghost use Rattle.c_scope.specs.SourceText.{ReadsAs};
-ghost use Rattle.workload_source.specs.Programs.{first_line, link_line, chain_text, worker_line, main_line, program_text};
+ghost use Rattle.workload.specs.Programs.{first_line, link_line, chain_text, worker_line, main_line, program_text};
 
 use crate::numbers::put_number;
 use std::alloc::{AllocError, Global};

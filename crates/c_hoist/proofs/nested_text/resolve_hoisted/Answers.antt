@@ -2,10 +2,10 @@ use Rattle.std.proofs.Common.{ap, sym, subst, ◌∙◌, length}
 use Rattle.c_tree.specs.RawProgramView.{raw_program_tree}
 use Rattle.c_tree.specs.ProgramView.{program_tree}
 use Rattle.c_tree.specs.WellScoped.{AreSiteNumbers}
-use Rattle.whole_calls.specs.WholeForParts.{AreForPartsWhole}
-use Rattle.grammar_places.specs.Nested.{is_call}
-use Rattle.grammar_places.specs.Places.{items_places}
-use Rattle.grammar_places.specs.Ranks.{ranks}
+use Rattle.c_tree.specs.WholeForParts.{AreForPartsWhole}
+use Rattle.grammar_laws.specs.Nested.{is_call}
+use Rattle.grammar_laws.specs.Places.{items_places}
+use Rattle.grammar_laws.specs.Ranks.{ranks}
 use Rattle.scope_rules.specs.Reading.{HasRead}
 use Rattle.scope_rules.specs.Numbered.{IsResolvedBy}
 use Rattle.hoist_parts.specs.Statements.{items_hoisted}

@@ -1,9 +1,9 @@
 use Rattle.std.proofs.Common.{rules, refl, sym, ap, subst, ◌∙◌, ◌+◌, [], ◌∷◌, ◌++◌, append_assoc, append-nil, drop}
 use Rattle.std.proofs.Math.ListN.{drop_of_length-le}
 use Rattle.c_tree.specs.RawViews.{raw_item_tree, raw_item_trees}
-use Rattle.whole_calls.specs.WholeForParts.{AreForPartsWhole}
-use Rattle.grammar_places.specs.Nested.{is_call}
-use Rattle.grammar_places.specs.Places.{item_places, items_places}
+use Rattle.c_tree.specs.WholeForParts.{AreForPartsWhole}
+use Rattle.grammar_laws.specs.Nested.{is_call}
+use Rattle.grammar_laws.specs.Places.{item_places, items_places}
 use Rattle.scope_rules.proofs.Cuts.{drop_at}
 use Rattle.scope_rules.specs.Reading.{HasRead}
 use Rattle.hoist_parts.specs.Statements.{item_hoisted, items_hoisted}

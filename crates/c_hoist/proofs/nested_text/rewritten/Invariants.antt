@@ -1,9 +1,9 @@
 use Rattle.std.proofs.Common.{◌≡◌, List, ◌++◌, drop}
 use Rattle.c_tree.specs.RawTrees.{RawItemTree}
 use Rattle.c_tree.specs.RawViews.{raw_item_trees}
-use Rattle.whole_calls.specs.WholeForParts.{AreForPartsWhole}
-use Rattle.grammar_places.specs.Nested.{is_call}
-use Rattle.grammar_places.specs.Places.{items_places}
+use Rattle.c_tree.specs.WholeForParts.{AreForPartsWhole}
+use Rattle.grammar_laws.specs.Nested.{is_call}
+use Rattle.grammar_laws.specs.Places.{items_places}
 use Rattle.scope_rules.specs.Reading.{HasRead}
 use Rattle.hoist_parts.specs.Statements.{items_hoisted}
 use Rattle.c_hoist.proofs.nested_text.rewritten.Given as goal

@@ -1,6 +1,6 @@
 use Rattle.std.proofs.Common.{◌≡◌, None, Some, refl, sym, ap, ◌∙◌, length}
 use Rattle.c_tree.specs.RawViews.{raw_item_trees}
-use Rattle.whole_calls.specs.WholeForParts.{AreForPartsWhole}
+use Rattle.c_tree.specs.WholeForParts.{AreForPartsWhole}
 use Rattle.c_parse.specs.ForParts.{nested_in_fors}
 use Rattle.c_parse.proofs.ForWhole.{for_parts_whole, for_parts_none}
 use Rattle.grammar_reader.proofs.Paths.{exit}

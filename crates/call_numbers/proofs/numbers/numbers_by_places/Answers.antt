@@ -1,6 +1,6 @@
 use Rattle.std.proofs.Common.{sym, subst}
 use Rattle.c_tree.specs.WellScoped.{AreSiteNumbers}
-use Rattle.grammar_places.proofs.RankLaws.{ranks_are_numbers}
+use Rattle.grammar_laws.proofs.RankLaws.{ranks_are_numbers}
 use Rattle.call_numbers.proofs.numbers.numbers_by_places.Goals as goal
 
 pub returns-clause-distinct : goal.returns-clause-distinct

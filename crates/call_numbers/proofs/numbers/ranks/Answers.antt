@@ -1,6 +1,6 @@
 use Rattle.std.proofs.Common.{◌≡◌, ◌<◌, ◌+◌, ◌∷◌, ◌++◌, refl, ap, ◌∙◌, length, get_or, drop, arith}
 use Rattle.std.proofs.lemmas.List.{get_or_read, length-set}
-use Rattle.grammar_places.specs.Ranks.{ranks, ranks_after}
+use Rattle.grammar_laws.specs.Ranks.{ranks, ranks_after}
 use Rattle.call_numbers.proofs.Counts.{rank_room, starts_step, numbers_step}
 use Rattle.call_numbers.proofs.numbers.ranks.Goals as goal
 

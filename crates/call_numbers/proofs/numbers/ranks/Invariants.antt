@@ -1,5 +1,5 @@
 use Rattle.std.proofs.Common.{◌≡◌, ℕ, ◌+◌, ◌<◌, List, ◌++◌, length, get_or, drop}
-use Rattle.grammar_places.specs.Ranks.{lesser, no_greater, ranks_after, ranks}
+use Rattle.grammar_laws.specs.Ranks.{lesser, no_greater, ranks_after, ranks}
 use Rattle.call_numbers.proofs.numbers.ranks.Given as goal
 
 abbrev pub invariant-loop-place : goal.invariant-loop-place

@@ -1,5 +1,5 @@
 use Rattle.std.proofs.Common.{◌≡◌, ℕ, ◌+◌, ◌<◌, ◌≤◌, length, get_or, drop}
-use Rattle.grammar_places.specs.Ranks.{lesser}
+use Rattle.grammar_laws.specs.Ranks.{lesser}
 use Rattle.call_numbers.proofs.Counts.{equal}
 use Rattle.call_numbers.proofs.numbers.starts.Given as goal
 

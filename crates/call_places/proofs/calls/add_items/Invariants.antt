@@ -1,7 +1,7 @@
 use Rattle.std.proofs.Common.{◌≡◌, ◌++◌, drop}
 use Rattle.c_tree.specs.RawViews.{raw_item_trees}
-use Rattle.grammar_places.specs.Nested.{is_call}
-use Rattle.grammar_places.specs.Places.{items_places}
+use Rattle.grammar_laws.specs.Nested.{is_call}
+use Rattle.grammar_laws.specs.Places.{items_places}
 use Rattle.call_places.proofs.calls.add_items.Given as goal
 
 abbrev pub invariant-loop-item : goal.invariant-loop-item

@@ -3,8 +3,8 @@ use Rattle.std.specs.Prelude.{option_map}
 use Rattle.std.proofs.lemmas.List.{append-nil}
 use Rattle.std.proofs.lemmas.Result.{on_ok_weaker}
 use Rattle.c_tree.specs.RawViews.{name_tree, raw_stmt_trees, raw_item_tree}
-use Rattle.grammar_places.specs.Nested.{is_call}
-use Rattle.grammar_places.specs.Places.{stmts_places, item_places}
+use Rattle.grammar_laws.specs.Nested.{is_call}
+use Rattle.grammar_laws.specs.Places.{stmts_places, item_places}
 use Rattle.call_places.proofs.NoNames.{no_declared, no_used, no_parameters}
 use Rattle.call_places.proofs.calls.add_places_of_calls.Goals as goal
 

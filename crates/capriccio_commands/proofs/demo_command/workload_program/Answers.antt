@@ -5,7 +5,7 @@ use Rattle.c_tree.specs.ProgramView.{program_tree}
 use Rattle.c_tree.specs.declared.programs.Program.{Program}
 use Rattle.c_scope.specs.SourceText.{ReadsAs}
 use Rattle.c_hoist.proofs.WholeReads.{reads_nested}
-use Rattle.workload_source.specs.Programs.{program_text}
+use Rattle.workload.specs.Programs.{program_text}
 use Rattle.command_outcomes.specs.Outcome.{NoMore}
 use Rattle.command_files.specs.Loads.{AfterSource, IsSourceText}
 use Rattle.command_outcomes.specs.Steps.{IsStop}

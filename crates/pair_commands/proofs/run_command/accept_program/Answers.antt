@@ -1,6 +1,6 @@
 use Rattle.std.proofs.Common.{inl, refl}
 use Rattle.c_tree.specs.ProgramView.{program_tree}
-use Rattle.segment_source.proofs.Formed.{formed}
+use Rattle.machine_meaning.proofs.Formed.{formed}
 use Rattle.pair_commands.specs.BuildsFiles.{IsUnbuilt}
 use Rattle.pair_commands.specs.Runs.{ServesProgram}
 use Rattle.command_files.proofs.Follows.{stop-follows}

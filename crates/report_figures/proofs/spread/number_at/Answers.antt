@@ -1,6 +1,6 @@
 use Rattle.std.proofs.Common.{rules, ◌∙◌, Some, ap, sym}
 use Rattle.std.proofs.lemmas.Option.{slice_get-get_or}
-use Rattle.tick_lists.specs.Ticks.{ticks_in}
+use Rattle.report_figures.specs.Ticks.{ticks_in}
 use Rattle.report_figures.proofs.spread.number_at.Goals as goal
 
 pub returns : goal.returns

@@ -3,7 +3,7 @@ use Rattle.c_lower.specs.ProgramCode.{lowered}
 use Rattle.accepted_pairs.specs.Accepting.{accepted_tree}
 use Rattle.flat_code.specs.Codes.{FlatCode, function_at}
 use Rattle.flat_code.specs.declared.functions.FlatFunction.{FlatFunction}
-use Rattle.segment_source.proofs.Formed.{formed}
+use Rattle.machine_meaning.proofs.Formed.{formed}
 use Rattle.machine_world.specs.Places.{InOperation, IsAt}
 use Rattle.stack_certificate.proofs.PlaceLemmas.{function_formed}
 use Rattle.stack_certificate.specs.Certificates.{fact_at}

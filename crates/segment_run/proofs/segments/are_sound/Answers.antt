@@ -1,5 +1,5 @@
 use Rattle.accepted_pairs.specs.Accepting.{accepted_tree}
-use Rattle.segment_source.proofs.Formed.{formed}
+use Rattle.machine_meaning.proofs.Formed.{formed}
 use Rattle.segment_run.proofs.segments.are_sound.Goals as goal
 
 pub returns-clause-formed : goal.returns-clause-formed

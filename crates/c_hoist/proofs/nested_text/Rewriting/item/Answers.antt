@@ -1,7 +1,7 @@
 use Rattle.std.proofs.Common.{ap, ◌∙◌, ◌∷◌, [], ◌++◌, List, subst}
 use Rattle.c_tree.specs.RawTrees.{RawItemTree}
-use Rattle.grammar_places.specs.Nested.{is_call}
-use Rattle.grammar_places.specs.Places.{item_places}
+use Rattle.grammar_laws.specs.Nested.{is_call}
+use Rattle.grammar_laws.specs.Places.{item_places}
 use Rattle.scope_rules.specs.Reading.{HasRead}
 use Rattle.c_hoist.proofs.nested_text.Rewriting.item.Goals as goal
 

@@ -1,6 +1,6 @@
 use Rattle.std.proofs.Common.{◌≡◌, ◌+◌, ◌++◌, map, drop}
 use Rattle.c_tree.specs.RawViews.{raw_stmt_tree, raw_stmt_trees}
-use Rattle.whole_calls.specs.WholeForParts.{AreForsWhole}
+use Rattle.c_tree.specs.WholeForParts.{AreForsWhole}
 use Rattle.hoist_parts.specs.Statements.{stmts_names, all_hoisted}
 use Rattle.hoist_rules.proofs.hoisting.Hoisting.+statements.Given as goal
 

@@ -2,8 +2,8 @@ use Rattle.std.proofs.Common.{◌≡◌, [], IsTrue, refl, sym, ◌∙◌, ap, s
 use Rattle.accepted_pairs.specs.Accepting.{accepted_tree}
 use Rattle.machine_world.specs.Threads.{step}
 use Rattle.segment_run.specs.Contexts.{checked_of}
-use Rattle.world_source.specs.Running.{IsRunning}
-use Rattle.world_source.specs.UnderWay.{IsSettled}
+use Rattle.machine_meaning.specs.Running.{IsRunning}
+use Rattle.machine_meaning.specs.UnderWay.{IsSettled}
 use Rattle.thread_core.specs.States.{machine_of, setting_of}
 use Rattle.thread_core.specs.Ready.{is_ready_in}
 use Rattle.thread_core.specs.Steps.{held_in}

@@ -1,0 +1,24 @@
+-- The lawful log of a valid pair is the log of the text that its program is read from.
+use Rattle.std.proofs.Common.{ℕ, ◌≤◌, List}
+use Rattle.audited_logs.proofs.Positions.{live_at_stop}
+use Rattle.c_hoist.specs.NestedText.{ReadsNested}
+use Rattle.c_lower.specs.ProgramCode.{lowered}
+use Rattle.c_tree.specs.WellScoped.{IsWellScoped}
+use Rattle.certificate_rules.specs.Validity.{IsValid}
+use Rattle.deep_mean.specs.Naming.{deep_program}
+use Rattle.lawful_log.specs.Good.{checked_of}
+use Rattle.lawful_log.specs.Lawful.{IsLawfulLog}
+use Rattle.lawful_log.specs.Setup.{Setup, start_areas}
+use Rattle.machine_world.specs.Threads.{World}
+use Rattle.machine_world.specs.WellFormed.{AreWellFormed, most_fuel}
+use Rattle.schedule_log.specs.declared.entries.Entry.{Entry}
+use Rattle.schedule_log.specs.declared.entries.StopLine.{StopLine}
+use Rattle.audited_logs.specs.TextLog.{IsTextLog}
+use Rattle.audited_logs.proofs.Lines.{log_of_same}
+use Rattle.audited_logs.proofs.TextMeaning.{program_means}
+
+pub log_of_text : (source : List ℕ) (g : Setup) (trace : List ℕ) (entries : List Entry) (stop : StopLine) (end : World) (read : ReadsNested source g.program) → IsWellScoped g.program →
+    IsValid (lowered g.program) g.image g.certificate → AreWellFormed (checked_of g) (start_areas g) → g.policy.fuel ≤ most_fuel →
+    IsLawfulLog g trace entries stop end → IsTextLog (deep_program read.tree) g.policy.caps entries
+log_of_text source g trace entries stop end read scoped valid areas fuel log =
+    log_of_same g (deep_program read.tree) (program_means source g.program scoped read) trace entries stop end log (live_at_stop g scoped valid areas fuel 0 trace entries stop end log)

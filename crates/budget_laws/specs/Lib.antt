@@ -1,3 +1,0 @@
-pub mod Lives
-pub mod Roots
-pub mod Rooms

@@ -1,8 +1,0 @@
-use Rattle.grammar_places.proofs.RankLaws.{ranks_are_numbers, rising_ranks}
-use Rattle.grammar_places.proofs.laws.ranks_are_numbers.Goals as goal
-
-pub returns-clause-numbers : goal.returns-clause-numbers
-returns-clause-numbers c = ranks_are_numbers
-
-pub returns-clause-rising : goal.returns-clause-rising
-returns-clause-rising c = rising_ranks

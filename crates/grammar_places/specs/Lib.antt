@@ -1,4 +1,0 @@
-pub mod Places
-pub mod Rising
-pub mod Nested
-pub mod Ranks

@@ -1,5 +1,0 @@
-use Rattle.lawful_reading.proofs.Refused.{empty}
-use Rattle.lawful_reading.proofs.laws.empty_logs_are_refused.Goals as goal
-
-pub returns : goal.returns
-returns c = empty

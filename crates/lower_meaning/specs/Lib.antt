@@ -1,3 +1,0 @@
-pub mod StandsFor
-pub mod Meaning
-pub mod Sample

@@ -1,0 +1,101 @@
+-- A valid pair's code is well formed: as its functions have as many words at most as the image, they have as many operations.
+use Rattle.std.proofs.Common.{◌≡◌, ℕ, suc, ◌+◌, ◌^◌, ◌<◌, ◌≤◌, List, [], ◌∷◌, length, map, take, get_or, Some, None, refl, ap, ◌∙◌, arith}
+use Rattle.std.specs.Prelude.{slice_get, slice_index_or, sum_by}
+use Rattle.std.specs.List.{AllByRecursion}
+use Rattle.std.proofs.lemmas.List.Sums.{sum_by-cons}
+use Rattle.c_lower.specs.ProgramCode.{lowered_function, lowered}
+use Rattle.c_lower.proofs.FormedPrograms.{program_formed}
+use Rattle.c_tree.specs.Trees.{ProgramTree}
+use Rattle.c_tree.specs.WellScoped.{IsWellScoped}
+use Rattle.certificate_rules.specs.Validity.{IsValid}
+use Rattle.flat_code.specs.declared.functions.FlatFunction.{FlatFunction}
+use Rattle.flat_code.specs.declared.operations.Op.{Op}
+use Rattle.flat_code.specs.declared.operators.BinOp.{BinOp}
+use Rattle.flat_code.specs.Codes.{FlatCode, function_at, operation_at}
+use Rattle.flat_code.specs.WellFormed.{IsWellFormed}
+use Rattle.machine_world.specs.Rests.{ecall_word}
+use Rattle.stack_certificate.specs.Certificates.{fact_at}
+use Rattle.stack_certificate.specs.Templates.{size, transfer_size, kind_of}
+use Rattle.stack_certificate.specs.declared.certificates.Certificate.{Certificate}
+use Rattle.stack_certificate.specs.declared.sites.LinkKind.{LinkKind}
+use Rattle.stack_image.specs.declared.images.Image.{Image}
+use Rattle.machine_meaning.proofs.Ends.{function_ends, before_last}
+use Rattle.machine_meaning.proofs.Past.{ecall_site, same_function, prologue_word, whole}
+use Rattle.machine_meaning.proofs.Sites.{has_operation}
+use Rattle.machine_meaning.proofs.Zeroes.{program_zeroes}
+
+-- ---- an operation has a word
+
+middle_some : (op : BinOp) (n : ℕ) → 0 < 3 + n
+middle_some op n = omega arith
+
+transfer_some : (kind : LinkKind) → 0 < transfer_size kind
+transfer_some LinkKind.Plain = omega arith
+transfer_some (LinkKind.Linked need) = omega arith
+transfer_some (LinkKind.Spawned need) = omega arith
+
+size_some : (sizes : List ℕ) (kind : LinkKind) (op : Op) → ((a : ℕ) → op ≡ Op.Zero a → 0 < get_or sizes a 0) → 0 < size sizes kind op
+size_some sizes kind (Op.Zero a) zeroes = zeroes a refl
+size_some sizes kind (Op.Call site d f args) zeroes = omega (arith, transfer_some kind)
+size_some sizes kind (Op.Return None) zeroes = omega arith
+size_some sizes kind (Op.Return (Some s)) zeroes = omega arith
+size_some sizes kind (Op.Const d value) zeroes = omega arith
+size_some sizes kind (Op.Copy d s) zeroes = omega arith
+size_some sizes kind (Op.Neg d s) zeroes = omega arith
+size_some sizes kind (Op.Not d s) zeroes = omega arith
+size_some sizes kind (Op.Flip d s) zeroes = omega arith
+size_some sizes kind (Op.Bin op d a b) zeroes = middle_some op _
+size_some sizes kind (Op.LoadGlobal d g) zeroes = omega arith
+size_some sizes kind (Op.StoreGlobal g s) zeroes = omega arith
+size_some sizes kind (Op.LoadLocal d a i) zeroes = omega arith
+size_some sizes kind (Op.LoadArray d a i) zeroes = omega arith
+size_some sizes kind (Op.StoreLocal a i s) zeroes = omega arith
+size_some sizes kind (Op.StoreArray a i s) zeroes = omega arith
+size_some sizes kind (Op.Jump to) zeroes = omega arith
+size_some sizes kind (Op.JumpZero s to) zeroes = omega arith
+size_some sizes kind (Op.CallTable site d t i s) zeroes = omega arith
+size_some sizes kind (Op.Model site d n args) zeroes = omega arith
+size_some sizes kind (Op.Spawn site d f s) zeroes = omega arith
+
+-- so there are no more operations than words
+words_many : (weight : Op → ℕ) (ops : List Op) → ((i : ℕ) (op : Op) → slice_get ops i ≡ Some op → 0 < weight op) → length ops ≤ sum_by weight (take (length ops) ops)
+words_many weight [] some = omega arith
+words_many weight (op ∷ ops) some =
+    (let first = some 0 op refl in let rest = words_many weight ops (λ i o e. some (suc i) o e) in omega (arith, first, rest, sum_by-cons weight op (take (length ops) ops)))
+
+few_operations : (program : ProgramTree) (image : Image) (certificate : Certificate) (f : ℕ) → IsWellScoped program → IsValid (lowered program) image certificate → f < length (lowered program).functions → length (function_at (lowered program) f).ops ≤ 2 ^ 32
+few_operations program image certificate f scoped valid there =
+    let code = lowered program in
+    let sizes = (function_at code f).sizes in
+    let many = words_many (λ op. size sizes (kind_of certificate op) op) (function_at code f).ops
+    (λ i op e. size_some sizes (kind_of certificate op) op (λ a is. program_zeroes program scoped f i a there (e ∙ ap Some is))) in
+    let all = whole code image certificate valid f there in
+    let inside = ((valid.holds 2 f 1).v2 refl).inside refl there in
+    let few = ((valid.holds 1 0 2).v1 refl).words refl in
+    (let short : length (function_at code f).ops ≤ 200000 = omega (arith, many, all, inside.2, few.1) in omega (arith, short))
+
+-- what holds of each element holds of all
+all_from : (P : FlatFunction → Type 0) (d : FlatFunction) (fs : List FlatFunction) → ((f : ℕ) → f < length fs → P (slice_index_or fs f d)) → AllByRecursion P fs
+all_from P d [] each = tt
+all_from P d (g ∷ fs) each = (each 0 (omega arith), all_from P d fs (λ f lt. each (suc f) (omega arith)))
+
+pub formed : (program : ProgramTree) (image : Image) (certificate : Certificate) → IsWellScoped program → IsValid (lowered program) image certificate → IsWellFormed (lowered program)
+formed program image certificate scoped valid =
+    program_formed program scoped (all_from (λ g. length g.ops ≤ 2 ^ 32) (record { params = 0; gives = Rattle.std.specs.Prelude.false; sizes = []; ops = [] }) (map lowered_function program.functions) (λ f lt. few_operations program image certificate f scoped valid lt))
+
+-- ---- an operation follows each that asks
+
+pub follows : (program : ProgramTree) → IsWellScoped program → (f i word : ℕ) (op : Op) → f < length (lowered program).functions → operation_at (lowered program) f i ≡ Some op → ecall_word op ≡ Some word → i + 1 < length (function_at (lowered program) f).ops
+follows program scoped f i word op there e ecall =
+    let ends = function_ends program scoped f (has_operation program scoped f i op e) in
+    let site = ecall_site op word ecall in
+    let before = before_last (function_at (lowered program) f).ops i site.0 op ends e site.1 in
+    omega (arith, before, ends.count)
+
+-- ---- entries
+
+pub entries : (code : FlatCode) (image : Image) (certificate : Certificate) (f g : ℕ) → IsValid code image certificate → f < length code.functions → g < length code.functions → (fact_at certificate f).entry ≡ (fact_at certificate g).entry → f ≡ g
+entries code image certificate f g valid there too same =
+    same_function code image certificate (fact_at certificate f).entry f g 0 0 valid
+    (prologue_word code image certificate valid (fact_at certificate f).entry f 0 (there, omega arith, omega arith))
+    (prologue_word code image certificate valid (fact_at certificate f).entry g 0 (too, omega arith, omega (arith, same)))

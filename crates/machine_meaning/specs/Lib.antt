@@ -1,0 +1,9 @@
+pub mod StandsFor
+pub mod Meaning
+pub mod Sample
+pub mod Between
+pub mod Firsts
+pub mod AsSource
+pub mod UnderWay
+pub mod Reached
+pub mod Running

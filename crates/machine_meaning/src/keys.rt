@@ -1,0 +1,16 @@
+ghost use Rattle.std.specs.Prelude.{◌≡◌};
+ghost use Rattle.c_mean.specs.Frames.{Waiting, key_of};
+ghost use Rattle.c_tree.specs.Trees.{ProgramTree};
+ghost use Rattle.chunk_pool.specs.Pool.{Pool};
+ghost use Rattle.machine_world.specs.Local.{Core};
+ghost use Rattle.machine_world.specs.Places.{Checked};
+ghost use Rattle.machine_world.specs.Rests.{IsResting};
+ghost use Rattle.machine_world.specs.StandsFor.{StandsFor, Waits};
+ghost use Rattle.machine_meaning.specs.Between.{resting_key};
+
+/// The site at which a machine thread rests, and the sites at which its up to seven innermost waiting frames stand, are the
+/// key of each source thread for which it stands. It does nothing.
+pub fn key_law()
+    ensures { (c : Checked) (program : ProgramTree) (pool : Pool) (core : Core) (rests : IsResting c pool core) (waiting : Waiting) →
+        StandsFor c program pool core rests (Waits waiting) → resting_key c pool core rests ≡ key_of waiting }
+{}

@@ -1,5 +1,0 @@
-use Rattle.outcome_laws.proofs.Together.{read_again}
-use Rattle.outcome_laws.proofs.read_again.laid_out_is_read_again.Goals as goal
-
-pub returns : goal.returns
-returns c = read_again

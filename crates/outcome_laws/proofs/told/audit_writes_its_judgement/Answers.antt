@@ -1,5 +1,0 @@
-use Rattle.outcome_laws.proofs.Audits.{audit_writes_its_judgement}
-use Rattle.outcome_laws.proofs.told.audit_writes_its_judgement.Goals as goal
-
-pub returns : goal.returns
-returns c = audit_writes_its_judgement

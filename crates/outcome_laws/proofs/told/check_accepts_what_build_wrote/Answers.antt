@@ -1,5 +1,0 @@
-use Rattle.outcome_laws.proofs.Stored.{check_accepts_what_build_wrote}
-use Rattle.outcome_laws.proofs.told.check_accepts_what_build_wrote.Goals as goal
-
-pub returns : goal.returns
-returns c = check_accepts_what_build_wrote

@@ -1,5 +1,0 @@
-use Rattle.outcome_laws.proofs.Logs.{run_writes_its_log}
-use Rattle.outcome_laws.proofs.told.run_writes_its_log.Goals as goal
-
-pub returns : goal.returns
-returns c = run_writes_its_log

@@ -1,5 +1,0 @@
-use Rattle.outcome_laws.proofs.Logs.{serve_writes_its_log}
-use Rattle.outcome_laws.proofs.told.serve_writes_its_log.Goals as goal
-
-pub returns : goal.returns
-returns c = serve_writes_its_log

@@ -1,5 +1,0 @@
-pub mod ReadAgain
-pub mod Told
-pub mod Looked
-pub mod Given
-pub mod Written

@@ -1,5 +1,0 @@
-use Rattle.segment_steps.proofs.ValidCalls.{CallFacts-valid}
-use Rattle.segment_steps.proofs.call_facts.call_facts_law.Goals as goal
-
-pub returns : goal.returns
-returns c = CallFacts-valid

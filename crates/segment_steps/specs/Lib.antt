@@ -1,4 +1,0 @@
-pub mod Zeroes
-pub mod Tables
-pub mod Alike
-pub mod Around

@@ -1,5 +1,0 @@
-use Rattle.text_logs.proofs.OfText.{log_of_text}
-use Rattle.text_logs.proofs.laws.logs_are_the_texts.Goals as goal
-
-pub returns : goal.returns
-returns c = λ source g trace entries stop end read scoped valid areas fuel log. log_of_text source g trace entries stop end read scoped valid areas fuel log

@@ -1,3 +1,0 @@
-pub mod Silent
-pub mod Found
-pub mod Kept

@@ -1,3 +1,0 @@
-pub mod UnderWay
-pub mod Reached
-pub mod Running
