@@ -68,7 +68,6 @@ pub fn lower_function(alloc: Global, function: &Function) -> Result<FlatFunction
     if code.len() > 4_294_967_296 {
         return Err(AllocError);
     }
-    code.shrink_to_fit();
     Ok(FlatFunction {
         params: function.params,
         gives: function.gives,
