@@ -2,7 +2,7 @@
 
 use crate::built::built;
 use crate::grammar::gives;
-use crate::lines::wanted;
+use crate::lines::{first_line, wanted};
 use std::alloc::Global;
 
 // The refusal with one part more than what fits, and the parts with the most repetitions in which nothing is too deep.
@@ -55,50 +55,42 @@ fn built_gives(alloc: Global, parts: &str, more: usize, want: &str) -> bool {
     }
 }
 
-// The first row that does not hold.
-fn first_wrong<'a>(alloc: Global, rows: &'a str) -> Option<&'a str> {
-    for row in rows.split('\n') {
-        let (want, parts) = wanted(row);
-        if !built_gives(alloc, parts, 0, want) {
-            return Some(row);
-        }
-    }
-    None
-}
-
-// The first row of a limit that does not hold: with one repetition more than what fits the source is refused so.
-fn first_wrong_limit<'a>(alloc: Global, rows: &'a str) -> Option<&'a str> {
-    for row in rows.split('\n') {
-        let (want, parts) = wanted(row);
-        let fits = built_gives(alloc, parts, 0, "tree 1");
-        if !fits || !built_gives(alloc, parts, 1, want) {
-            return Some(row);
-        }
-    }
-    None
-}
-
 #[test]
 fn the_limit_of_each_construct(rt: HostRuntime) {
-    let wrong = first_wrong_limit(rt.alloc(), LIMITS);
-    assert!(rt; wrong.is_none(), "{wrong:?}");
-}
-
-// The 65th parenthesis fits nothing behind a number.
-#[test]
-fn a_parenthesis_behind_a_number(rt: HostRuntime) {
+    let mut rows = LIMITS;
+    for _ in 0..12 {
+        let (row, after) = first_line(rows);
+        let (want, parts) = wanted(row);
+        let fits = built_gives(rt.alloc(), parts, 0, "tree 1");
+        assert!(rt; fits && built_gives(rt.alloc(), parts, 1, want), "{row}");
+        rows = after;
+    }
+    assert!(rt; rows.is_empty());
+    // the 65th parenthesis fits nothing behind a number
     let both = "int f() { a = |(|63|1(|)|; }";
     assert!(rt; built_gives(rt.alloc(), both, 0, "Unexpected 78"));
 }
 
 #[test]
 fn long_sources(rt: HostRuntime) {
-    let wrong = first_wrong(rt.alloc(), LONG);
-    assert!(rt; wrong.is_none(), "{wrong:?}");
+    let mut rows = LONG;
+    for _ in 0..9 {
+        let (row, after) = first_line(rows);
+        let (want, parts) = wanted(row);
+        assert!(rt; built_gives(rt.alloc(), parts, 0, want), "{row}");
+        rows = after;
+    }
+    assert!(rt; rows.is_empty());
 }
 
 #[test]
 fn constructs_are_closed(rt: HostRuntime) {
-    let wrong = first_wrong(rt.alloc(), CLOSED);
-    assert!(rt; wrong.is_none(), "{wrong:?}");
+    let mut rows = CLOSED;
+    for _ in 0..11 {
+        let (row, after) = first_line(rows);
+        let (want, parts) = wanted(row);
+        assert!(rt; built_gives(rt.alloc(), parts, 0, want), "{row}");
+        rows = after;
+    }
+    assert!(rt; rows.is_empty());
 }

@@ -1,7 +1,7 @@
 // Each limit of a program at its value, and one past it.
 
 use crate::built::built;
-use crate::lines::wanted;
+use crate::lines::{first_line, wanted};
 use crate::programs::tells;
 use std::alloc::{AllocError, Global};
 
@@ -53,25 +53,16 @@ fn functions_tell(alloc: Global, count: u32, want: &str) -> bool {
     }
 }
 
-// The first row that does not hold.
-fn first_wrong<'a>(alloc: Global, rows: &'a str) -> Option<&'a str> {
-    for row in rows.split('\n') {
-        let (want, parts) = wanted(row);
-        if !built_tells(alloc, parts, want) {
-            return Some(row);
-        }
-    }
-    None
-}
-
 #[test]
 fn as_many_as_fit_and_one_more(rt: HostRuntime) {
-    let wrong = first_wrong(rt.alloc(), ROWS);
-    assert!(rt; wrong.is_none(), "{wrong:?}");
-}
-
-#[test]
-fn as_many_functions_as_fit_and_one_more(rt: HostRuntime) {
+    let mut rows = ROWS;
+    for _ in 0..12 {
+        let (row, after) = first_line(rows);
+        let (want, parts) = wanted(row);
+        assert!(rt; built_tells(rt.alloc(), parts, want), "{row}");
+        rows = after;
+    }
+    assert!(rt; rows.is_empty());
     assert!(rt; functions_tell(rt.alloc(), 4095, "program"));
     assert!(rt; functions_tell(rt.alloc(), 4096, "Limit functions"));
 }

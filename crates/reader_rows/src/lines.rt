@@ -1,5 +1,13 @@
 // Tables in one text.
 
+/// The first line of the text, and what follows it.
+pub(crate) fn first_line(text: &str) -> (&str, &str) {
+    match text.split_once('\n') {
+        Some(parts) => parts,
+        None => (text, ""),
+    }
+}
+
 /// What stands before the first `|`, and what follows it.
 pub(crate) fn first_part(text: &str) -> (&str, &str) {
     match text.split_once('|') {

@@ -1,6 +1,6 @@
 // Which sources are programs, and what the others are refused for.
 
-use crate::lines::wanted;
+use crate::lines::{first_line, wanted};
 use c_scope::{SourceError, read_program};
 use std::alloc::Global;
 
@@ -110,25 +110,16 @@ pub(crate) fn tells(alloc: Global, source: &[u8], want: &str) -> bool {
     }
 }
 
-// The first row that does not hold.
-fn first_wrong<'a>(alloc: Global, rows: &'a str) -> Option<&'a str> {
-    for row in rows.split('\n') {
-        let (want, source) = wanted(row);
-        if !tells(alloc, source.as_bytes(), want) {
-            return Some(row);
-        }
-    }
-    None
-}
-
 #[test]
 fn the_first_reader_refuses_and_the_rules_of_scope(rt: HostRuntime) {
-    let wrong = first_wrong(rt.alloc(), ROWS);
-    assert!(rt; wrong.is_none(), "{wrong:?}");
-}
-
-#[test]
-fn a_refusal_is_printed_with_its_place(rt: HostRuntime) {
+    let mut rows = ROWS;
+    for _ in 0..73 {
+        let (row, after) = first_line(rows);
+        let (want, source) = wanted(row);
+        assert!(rt; tells(rt.alloc(), source.as_bytes(), want), "{row}");
+        rows = after;
+    }
+    assert!(rt; rows.is_empty());
     let too_deep = SourceError::TooDeep { at: 7 };
     assert!(rt; is_printed(rt.alloc(), &too_deep, "TooDeep at 7"));
 }

@@ -1,6 +1,6 @@
 // Sources and their tokens, or the refusal of one that has none.
 
-use crate::lines::{number, wanted};
+use crate::lines::{first_line, number, wanted};
 use c_lex::{
     Keyword, LexError, Mark, Token, TokenKind, lex, reading_is_unique, tokens_stand_in_source,
 };
@@ -96,25 +96,16 @@ fn gives(alloc: Global, source: &[u8], want: &str) -> bool {
     }
 }
 
-// The first row that does not hold.
-fn first_wrong<'a>(alloc: Global, rows: &'a str) -> Option<&'a str> {
-    for row in rows.split('\n') {
-        let (want, source) = wanted(row);
-        if !gives(alloc, source.as_bytes(), want) {
-            return Some(row);
-        }
-    }
-    None
-}
-
 #[test]
 fn splits_and_refuses(rt: HostRuntime) {
-    let wrong = first_wrong(rt.alloc(), ROWS);
-    assert!(rt; wrong.is_none(), "{wrong:?}");
-}
-
-#[test]
-fn splits_lines_and_refuses_a_byte(rt: HostRuntime) {
+    let mut rows = ROWS;
+    for _ in 0..19 {
+        let (row, after) = first_line(rows);
+        let (want, source) = wanted(row);
+        assert!(rt; gives(rt.alloc(), source.as_bytes(), want), "{row}");
+        rows = after;
+    }
+    assert!(rt; rows.is_empty());
     let lines = b"a/**/b/*x*/ //y\n/";
     assert!(rt; gives(rt.alloc(), lines, "name 0 1, name 5 1, / 16 1, end"));
     assert!(rt; gives(rt.alloc(), b"\x80", "BadByte 0"));

@@ -221,30 +221,22 @@ fn a_program_tells_its_parts(rt: HostRuntime) {
 }
 
 // The numbers of the calls of the run time, by docs/LANGUAGE.md.
-const NUMBERS: [(ModelledCall, u32); 9] = [
-    (ModelledCall::Put, 3),
-    (ModelledCall::Give, 5),
-    (ModelledCall::SelfNumber, 6),
-    (ModelledCall::Accept, 16),
-    (ModelledCall::Wait, 17),
-    (ModelledCall::Sleep, 18),
-    (ModelledCall::Yield, 19),
-    (ModelledCall::Take, 20),
-    (ModelledCall::WaitFor, 21),
-];
-
-fn have_numbers(rows: &[(ModelledCall, u32)]) -> bool {
-    for (call, number) in rows {
-        if call.number() != *number {
-            return false;
-        }
-    }
-    true
-}
-
 #[test]
 fn modelled_calls_have_numbers(rt: HostRuntime) {
-    assert!(rt; have_numbers(&NUMBERS));
+    let rows = [
+        (ModelledCall::Put, 3),
+        (ModelledCall::Give, 5),
+        (ModelledCall::SelfNumber, 6),
+        (ModelledCall::Accept, 16),
+        (ModelledCall::Wait, 17),
+        (ModelledCall::Sleep, 18),
+        (ModelledCall::Yield, 19),
+        (ModelledCall::Take, 20),
+        (ModelledCall::WaitFor, 21),
+    ];
+    for (call, number) in rows {
+        assert!(rt; call.number() == number, "{number}");
+    }
 }
 
 // `spawn(f, 4)`, where f is function 2 and the site has number 9.
