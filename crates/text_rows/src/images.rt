@@ -166,30 +166,18 @@ const OTHERS: &[(&[u8], u32, u32)] = &[
     ),
 ];
 
-// Whether each beginning of the example is refused so.
-fn beginnings_are_refused(alloc: Global, rows: &[(usize, u32, u32)]) -> bool {
-    for &(length, kind, place) in rows {
-        if length > LONG.len() || refusal(alloc, &LONG[..length]) != (kind, place) {
-            return false;
-        }
-    }
-    true
-}
-
-// Whether the bytes of each row are refused so.
-fn are_refused(alloc: Global, rows: &[(&[u8], u32, u32)]) -> bool {
-    for &(bytes, kind, place) in rows {
-        if refusal(alloc, bytes) != (kind, place) {
-            return false;
-        }
-    }
-    true
-}
-
 #[test]
 fn other_bytes_are_refused(rt: HostRuntime) {
-    let alloc = rt.alloc();
-    assert!(rt; beginnings_are_refused(alloc, BEGINNINGS) && are_refused(alloc, OTHERS));
+    let mut right = true;
+    for &(length, kind, place) in BEGINNINGS {
+        right = right
+            && length <= LONG.len()
+            && refusal(rt.alloc(), &LONG[..length]) == (kind, place);
+    }
+    for &(bytes, kind, place) in OTHERS {
+        right = right && refusal(rt.alloc(), bytes) == (kind, place);
+    }
+    assert!(rt; right);
 }
 
 #[test]

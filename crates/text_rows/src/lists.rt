@@ -112,28 +112,16 @@ fn is_refused(alloc: Global, line: &str) -> bool {
     refused
 }
 
-// Whether the list of no word is refused.
-fn none_is_refused(alloc: Global) -> bool {
-    let none = Vec::new(alloc);
-    let refused = matches!(read_words(alloc, &none), Err(WordsError::NotWords));
-    drop(none);
-    refused
-}
-
-// Whether the words of each line are refused.
-fn all_are_refused(alloc: Global, lines: &str) -> bool {
-    for line in lines.split('\n') {
-        if !is_refused(alloc, line) {
-            return false;
-        }
-    }
-    true
-}
-
 #[test]
 fn other_words_are_refused(rt: HostRuntime) {
     let alloc = rt.alloc();
-    assert!(rt; none_is_refused(alloc) && all_are_refused(alloc, REFUSED));
+    let none = Vec::new(alloc);
+    let mut right = matches!(read_words(alloc, &none), Err(WordsError::NotWords));
+    drop(none);
+    for line in REFUSED.split('\n') {
+        right = right && is_refused(alloc, line);
+    }
+    assert!(rt; right);
 }
 
 // The name of a command.
@@ -346,38 +334,6 @@ const AUDIT_OF_FEW_STEPS: Command<'static> = Command::Audit {
     },
 };
 
-// Beside 1,024 chunks of 4,096 bytes 61,440 of 1,024 are as many as a pool may have; `run` learns the size of the first from
-// its certificate alone, so its words may ask for more.
-const SERVE_WITH_MOST_EXTRA: Command<'static> = Command::Serve {
-    source: "P",
-    placement: PLACEMENT,
-    policy: Policy {
-        extra: 61_440,
-        extra_bytes: 1024,
-        ..POLICY
-    },
-};
-
-const RUN_WITH_MORE_EXTRA: Command<'static> = Command::Run {
-    source: "P",
-    image: "I",
-    certificate: "C",
-    policy: Policy {
-        extra: 61_441,
-        extra_bytes: 1024,
-        ..POLICY
-    },
-};
-
-const SERVE_WITH_SMALL_EXTRA: Command<'static> = Command::Serve {
-    source: "P",
-    placement: PLACEMENT,
-    policy: Policy {
-        extra_bytes: 32,
-        ..POLICY
-    },
-};
-
 // The policy of `--rule stride --knee 500 --tickets 0=3,7=1024`.
 fn stride_policy() -> Policy {
     let mut pairs = [(0, 0); 64];
@@ -450,14 +406,46 @@ fn the_rule_of_choices_and_the_knee_are_read(rt: HostRuntime) {
         alloc,
         "serve --rule stride P",
         &serve_under(one_ticket_each(0)),
-    );
+    ) & asks(alloc, "serve P --rule graph --knee 0", &SERVE);
     assert!(rt; right);
 }
 
-// Lists of words that ask for `serve`.
-fn ask_for_serve(alloc: Global) -> bool {
-    asks(alloc, "serve P", &SERVE)
-        & asks(alloc, "serve P --rule graph --knee 0", &SERVE)
+// A policy with so many chunks of a second size.
+fn with_extra(extra: u32, extra_bytes: u32) -> Policy {
+    Policy {
+        extra,
+        extra_bytes,
+        ..POLICY
+    }
+}
+
+// Beside 1,024 chunks of 4,096 bytes 61,440 of 1,024 are as many as a pool may have; `run` learns the size of the first from
+// its certificate alone, so its words may ask for more.
+#[test]
+fn chunks_of_a_second_size_are_read(rt: HostRuntime) {
+    let alloc = rt.alloc();
+    let run = Command::Run {
+        source: "P",
+        image: "I",
+        certificate: "C",
+        policy: with_extra(61_441, 1024),
+    };
+    let right = asks(
+        alloc,
+        "serve --extra-size 1024 P --extra 61440",
+        &serve_under(with_extra(61_440, 1024)),
+    ) & asks(
+        alloc,
+        "serve P --extra-size 32",
+        &serve_under(with_extra(0, 32)),
+    ) & asks(alloc, "run P I C --extra 61441 --extra-size 1024", &run);
+    assert!(rt; right);
+}
+
+#[test]
+fn word_lists_ask_for_a_command(rt: HostRuntime) {
+    let alloc = rt.alloc();
+    let right = asks(alloc, "serve P", &SERVE)
         & asks(
             alloc,
             "serve --chunk 64 P --max-path 48 --chunks 128",
@@ -465,40 +453,18 @@ fn ask_for_serve(alloc: Global) -> bool {
         )
         & asks(
             alloc,
-            "serve --extra-size 1024 P --extra 61440",
-            &SERVE_WITH_MOST_EXTRA,
+            "run --caps 1=3,7=1000000 P --fuel 0 I --backlog 1 C --high 1 --low 0 --chunks 65536 --extra 65536 --extra-size 32",
+            &RUN,
         )
-        & asks(alloc, "serve P --extra-size 32", &SERVE_WITH_SMALL_EXTRA)
-}
-
-// Lists that name an image and a certificate.
-fn ask_for_pairs(alloc: Global) -> bool {
-    asks(
-        alloc,
-        "run --caps 1=3,7=1000000 P --fuel 0 I --backlog 1 C --high 1 --low 0 --chunks 65536 --extra 65536 --extra-size 32",
-        &RUN,
-    ) & asks(
-        alloc,
-        "run P I C --extra 61441 --extra-size 1024",
-        &RUN_WITH_MORE_EXTRA,
-    ) & asks(alloc, "build P I C --chunk 96", &BUILD)
+        & asks(alloc, "build P I C --chunk 96", &BUILD)
         & asks(alloc, "check P I C", &CHECK)
-}
-
-// Lists that ask for `graph`, `demo` and `audit`.
-fn ask_for_others(alloc: Global) -> bool {
-    asks(alloc, "graph --max-path 4080 P", &GRAPH)
+        & asks(alloc, "graph --max-path 4080 P", &GRAPH)
         & asks(alloc, "demo 1000", &DEMO)
         & asks(alloc, "audit P L", &AUDIT)
         & asks(
             alloc,
             "audit --steps 0 P --extra 65536 --knee 999 L --caps 1=1 --fuel 0",
             &AUDIT_OF_FEW_STEPS,
-        )
-}
-
-#[test]
-fn word_lists_ask_for_a_command(rt: HostRuntime) {
-    let alloc = rt.alloc();
-    assert!(rt; ask_for_serve(alloc) && ask_for_pairs(alloc) && ask_for_others(alloc));
+        );
+    assert!(rt; right);
 }

@@ -75,34 +75,22 @@ fn comes_back(alloc: Global, line: &[u8]) -> bool {
     }
 }
 
-// Whether each line is read, and its entry put as it was.
-fn all_come_back(alloc: Global, lines: &[&[u8]]) -> bool {
-    for line in lines {
-        if !comes_back(alloc, line) {
-            return false;
-        }
-    }
-    true
-}
-
 #[test]
 fn each_line_is_read_and_printed_as_it_was(rt: HostRuntime) {
-    assert!(rt; all_come_back(rt.alloc(), LINES));
-}
-
-// Whether each line is refused.
-fn are_refused(lines: &[&[u8]]) -> bool {
-    for line in lines {
-        if read_entry(line).is_ok() {
-            return false;
-        }
+    let mut right = true;
+    for line in LINES {
+        right = right && comes_back(rt.alloc(), line);
     }
-    true
+    assert!(rt; right);
 }
 
 #[test]
 fn other_lines_are_refused(rt: HostRuntime) {
-    assert!(rt; are_refused(OTHERS));
+    let mut right = true;
+    for line in OTHERS {
+        right = right && read_entry(line).is_err();
+    }
+    assert!(rt; right);
 }
 
 const DROPPED: Entry = Entry::Dropped {

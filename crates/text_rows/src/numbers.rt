@@ -94,39 +94,19 @@ const WIDE: &[(&[u8], u32, i128)] = &[
     (b"1.5", NOT_A_NUMBER, 0),
 ];
 
-// Whether each decimal is read so.
-fn are_decimals(rows: &[(&[u8], u64, u32, u64)]) -> bool {
-    for &(bytes, max, kind, number) in rows {
-        if decimal(bytes, max) != (kind, number) {
-            return false;
-        }
-    }
-    true
-}
-
-// Whether each number of 32 bits with its sign is read so.
-fn are_signed(rows: &[(&[u8], u32, i32)]) -> bool {
-    for &(bytes, kind, number) in rows {
-        if signed(bytes) != (kind, number) {
-            return false;
-        }
-    }
-    true
-}
-
-// Whether each number of 128 bits with its sign is read so.
-fn are_wide(rows: &[(&[u8], u32, i128)]) -> bool {
-    for &(bytes, kind, number) in rows {
-        if wide(bytes) != (kind, number) {
-            return false;
-        }
-    }
-    true
-}
-
 #[test]
 fn reads_canonical_numbers(rt: HostRuntime) {
-    assert!(rt; are_decimals(DECIMALS) && are_signed(SIGNED) && are_wide(WIDE));
+    let mut right = true;
+    for &(bytes, max, kind, number) in DECIMALS {
+        right = right && decimal(bytes, max) == (kind, number);
+    }
+    for &(bytes, kind, number) in SIGNED {
+        right = right && signed(bytes) == (kind, number);
+    }
+    for &(bytes, kind, number) in WIDE {
+        right = right && wide(bytes) == (kind, number);
+    }
+    assert!(rt; right);
 }
 
 // A text and a number, and the text with the number behind it.
@@ -150,19 +130,13 @@ fn is_put(alloc: Global, value: i128, want: &[u8]) -> bool {
     put
 }
 
-// Whether each number behind `x ` is its text.
-fn are_put(alloc: Global, rows: &[(i128, &[u8])]) -> bool {
-    for &(value, want) in rows {
-        if !is_put(alloc, value, want) {
-            return false;
-        }
-    }
-    true
-}
-
 #[test]
 fn puts_numbers_after_what_is_there(rt: HostRuntime) {
-    assert!(rt; are_put(rt.alloc(), PUT));
+    let mut right = true;
+    for &(value, want) in PUT {
+        right = right && is_put(rt.alloc(), value, want);
+    }
+    assert!(rt; right);
 }
 
 // Whether these are the lines of a text, and the end comes twice behind them.
@@ -207,28 +181,21 @@ fn gives_the_pieces_between_separators(rt: HostRuntime) {
     assert!(rt; right);
 }
 
-// Whether the next fields are these numbers, the second of them above the most that is asked for.
-fn have_numbers(fields: &mut Fields<'_>) -> bool {
-    (fields.number(4096) == Some(4096))
+#[test]
+fn reads_the_numbers_of_fields(rt: HostRuntime) {
+    let mut fields = Fields::new(
+        b"4096 64 4294967295 18446744073709551615 -2147483648 -256 x",
+        b' ',
+    );
+    let right = (fields.number(4096) == Some(4096))
         & fields.number(63).is_none()
         & (fields.word() == Some(4_294_967_295))
         & (fields.count() == Some(18_446_744_073_709_551_615))
         & (fields.signed() == Some(-2_147_483_648))
         & (fields.wide() == Some(-256))
-}
-
-// Whether one field is left, which is no number.
-fn have_one_left(fields: &mut Fields<'_>) -> bool {
-    fields.end().is_none()
+        & fields.end().is_none()
         & fields.word().is_none()
         & fields.end().is_some()
-        & fields.word().is_none()
-}
-
-#[test]
-fn reads_the_numbers_of_fields(rt: HostRuntime) {
-    let text = b"4096 64 4294967295 18446744073709551615 -2147483648 -256 x";
-    let mut fields = Fields::new(text, b' ');
-    let right = have_numbers(&mut fields) && have_one_left(&mut fields);
+        & fields.word().is_none();
     assert!(rt; right);
 }

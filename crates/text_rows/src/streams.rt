@@ -268,76 +268,44 @@ impl Write for Flaky {
     }
 }
 
-/// Whether a read of at most so many bytes ends so, and the block is then this.
-fn reads<S: Source>(
-    source: &mut S,
-    room: usize,
-    want: Result<usize, Failed>,
-    block: &[u8; 6],
-) -> bool
-    requires { room ≤ 6 }
-{
-    let mut read = *b"......";
-    source.read(&mut read[..room]) == want && read == *block
-}
-
-fn source_fails_and_goes_on() -> bool {
-    let mut source = StdSource::new(Flaky { calls: 0 });
-    reads(&mut source, 2, Ok(2), b"zz....")
-        && reads(&mut source, 6, Err(Failed), b"......")
-        && reads(&mut source, 6, Ok(3), b"zzz...")
-        && reads(&mut source, 6, Ok(0), b"......")
-}
-
-fn sink_fails_and_goes_on() -> bool {
-    let mut sink = StdSink::new(Flaky { calls: 0 });
-    sink.write(b"abcdef") == Ok(3)
-        && put_two(&mut sink) == (FAILED, DONE)
-        && put_two(&mut sink) == (FAILED, DONE)
-}
-
 #[test]
 fn streams_fail_and_go_on(rt: HostRuntime) {
-    assert!(rt; source_fails_and_goes_on() && sink_fails_and_goes_on());
-}
-
-/// Stores the files of `files` in a folder, and does with them as with those of a shelf. A folder is no file.
-fn folder_keeps_files<H: Shelf>(alloc: Global, shelf: &mut H) -> bool {
-    stores(alloc, shelf, "cap_io_eight", b"12345678")
-        & stores(alloc, shelf, "cap_io_nine", b"123456789")
-        & keeps_files(alloc, shelf)
-        & is_refused(alloc, shelf, ".", ShelfError::Failed)
-        & store_fails(alloc, shelf, ".", b"")
+    let mut source = StdSource::new(Flaky { calls: 0 });
+    let mut block = *b"......";
+    let mut right = source.read(&mut block[..2]) == Ok(2) && block == *b"zz....";
+    right = right && source.read(&mut block) == Err(Failed) && source.read(&mut block) == Ok(3);
+    right = right && source.read(&mut block) == Ok(0) && block == *b"zzz...";
+    let mut sink = StdSink::new(Flaky { calls: 0 });
+    right = right && sink.write(b"abcdef") == Ok(3);
+    right = right && put_two(&mut sink) == (FAILED, DONE) && put_two(&mut sink) == (FAILED, DONE);
+    assert!(rt; right);
 }
 
 #[test]
 fn the_present_folder_keeps_files(rt: HostRuntime) -> Result<(), Fail> {
+    let alloc = rt.alloc();
     let mut shelf = DirShelf::new(rt);
-    assert!(rt; folder_keeps_files(rt.alloc(), &mut shelf));
+    let right = stores(alloc, &mut shelf, "cap_io_eight", b"12345678")
+        & stores(alloc, &mut shelf, "cap_io_nine", b"123456789")
+        & keeps_files(alloc, &mut shelf)
+        & is_refused(alloc, &mut shelf, ".", ShelfError::Failed)
+        & store_fails(alloc, &mut shelf, ".", b"");
+    assert!(rt; right);
     for name in ["cap_io_eight", "cap_io_nine", "cap_io_none"] {
         std::fs::remove_file(&rt, name)?;
     }
     Ok(())
 }
 
-fn file_takes(file: File) -> bool {
-    let mut sink = StdSink::new(file);
-    let right = put_two(&mut sink) == (DONE, DONE);
-    drop(sink);
-    right
-}
-
-fn file_gives(alloc: Global, file: File) -> bool {
-    let mut source = StdSource::new(file);
-    let right = gives(alloc, &mut source, 3, b"abcdexyz", 0);
-    drop(source);
-    right
-}
-
 #[test]
 fn files_are_streams(rt: HostRuntime) -> Result<(), Fail> {
-    assert!(rt; file_takes(File::create(&rt, "cap_io_stream")?));
-    assert!(rt; file_gives(rt.alloc(), File::open(&rt, "cap_io_stream")?));
+    let mut sink = StdSink::new(File::create(&rt, "cap_io_stream")?);
+    let mut right = put_two(&mut sink) == (DONE, DONE);
+    drop(sink);
+    let mut source = StdSource::new(File::open(&rt, "cap_io_stream")?);
+    right = right && gives(rt.alloc(), &mut source, 3, b"abcdexyz", 0);
+    drop(source);
+    assert!(rt; right);
     std::fs::remove_file(&rt, "cap_io_stream")?;
     Ok(())
 }

@@ -158,20 +158,13 @@ fn is_refused(alloc: Global, line: &[u8], refusal: (u64, u64, u64)) -> bool {
     whole && right
 }
 
-// Whether each line behind one of time 7 is refused, for good.
-fn are_refused(alloc: Global, lines: &[&[u8]]) -> bool {
-    for line in lines {
-        if !is_refused(alloc, line, LINE_2) {
-            return false;
-        }
-    }
-    true
-}
-
 #[test]
 fn other_lines_are_refused_for_good(rt: HostRuntime) {
-    let alloc = rt.alloc();
-    assert!(rt; is_refused(alloc, b"arrive 6 0", FALLING) && are_refused(alloc, REFUSED));
+    let mut right = is_refused(rt.alloc(), b"arrive 6 0", FALLING);
+    for line in REFUSED {
+        right = right && is_refused(rt.alloc(), line, LINE_2);
+    }
+    assert!(rt; right);
 }
 
 #[test]
