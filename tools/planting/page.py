@@ -1,4 +1,6 @@
 """The made part of docs/MUTANTS.md."""
+import re
+
 from planting import bugs
 from repository import pages
 
@@ -24,5 +26,13 @@ def table():
         lines += ["## What no proof refuses", "", *pages.table("Crate", "Bug", "What it changes", "Why it is free, or what refuses it"), *left, ""]
     planted = [it for it in known.values() if it.came == "planted"]
     if planted:
-        lines += ["## Wrong bodies by `rt plant`", "", *pages.table("Crate", "What it came to"), *[pages.row(f"`{it.crate}`", it.line) for it in planted], ""]
+        lines += ["## Wrong bodies by `rt plant`", "", "A function counts as untested if no body that gives up could be judged: most of these are laws, which return nothing. `met` counts the bodies that the contract allows, and `others` those that weren't judged: they don't compile, take too long, or miss only a callee's `requires`.", ""]
+        lines += [*pages.table("Crate", "functions", "untested", "wrong bodies", "refused", "met", "others"), *[plants_row(it) for it in planted], ""]
     return "\n".join(lines)
+
+
+def plants_row(result):
+    """The row of a crate, of the last line of `rt plant`: words of the form KIND=COUNT."""
+    count = {kind: int(number) for kind, number in re.findall(r"([a-z-]+)=(\d+)", result.line)}
+    met, others = count["proves"] + count["same"], sum(count[it] for it in ("elsewhere", "not-judged", "not-source", "not-run"))
+    return pages.row(f"`{result.crate}`", *map(str, (count["planted-in"], count["untested"], count["refused"] + met + others, count["refused"], met, others)))
