@@ -26,8 +26,15 @@ def table():
         lines += ["## What no proof refuses", "", *pages.table("Crate", "Bug", "What it changes", "Why it is free, or what refuses it"), *left, ""]
     planted = [it for it in known.values() if it.came == "planted"]
     if planted:
-        lines += ["## Wrong bodies by `rt plant`", "", "A function counts as untested if no body that gives up could be judged: most of these are laws, which return nothing. `met` counts the bodies that the contract allows, and `others` those that weren't judged: they don't compile, take too long, or miss only a callee's `requires`.", ""]
-        lines += [*pages.table("Crate", "functions", "untested", "wrong bodies", "refused", "met", "others"), *[plants_row(it) for it in planted], ""]
+        lines += [
+            "## Wrong bodies by `rt plant`",
+            "",
+            "A function counts as untested if no body that gives up could be judged: most of these are laws, which return nothing. One without a clause promises nothing.",
+            "`met` counts the bodies that the contract allows: all of them mean the same as the real one, such as `either_holds_call` of `hoist_parts` with its arguments swapped.",
+            "`others` counts those that weren't judged: they don't compile, take too long, or miss only a callee's `requires`.",
+            "",
+        ]
+        lines += [*pages.table("Crate", "functions", "untested", "without a clause", "wrong bodies", "refused", "met", "others"), *[plants_row(it) for it in planted], ""]
     return "\n".join(lines)
 
 
@@ -35,4 +42,4 @@ def plants_row(result):
     """The row of a crate, of the last line of `rt plant`: words of the form KIND=COUNT."""
     count = {kind: int(number) for kind, number in re.findall(r"([a-z-]+)=(\d+)", result.line)}
     met, others = count["proves"] + count["same"], sum(count[it] for it in ("elsewhere", "not-judged", "not-source", "not-run"))
-    return pages.row(f"`{result.crate}`", *map(str, (count["planted-in"], count["untested"], count["refused"] + met + others, count["refused"], met, others)))
+    return pages.row(f"`{result.crate}`", *map(str, (count["planted-in"], count["untested"], count["no-ensures"], count["refused"] + met + others, count["refused"], met, others)))
