@@ -30,7 +30,9 @@ def table():
             "## Wrong bodies by `rt plant`",
             "",
             "A function counts as untested if no body that gives up could be judged: most of these are laws, which return nothing. One without a clause promises nothing.",
-            "`met` counts the bodies that the contract allows: all of them mean the same as the real one, such as `either_holds_call` of `hoist_parts` with its arguments swapped.",
+            "`met` counts the bodies that the contract allows. They mean the same as the real one (`either_holds_call` of `hoist_parts` with its arguments swapped);"
+            " report out of memory, which may happen at any time (`put_all`, `CleanSink` and `CleanShelf` of `cap_io`);"
+            " or return needs that are always met, which costs time alone (`Needs::of` and `ReadyTree::needs` of `ready_tree`).",
             "`others` counts those that weren't judged: they don't compile, take too long, or miss only a callee's `requires`.",
             "",
         ]
