@@ -32,7 +32,8 @@ def table():
             "A function counts as untested if no body that gives up could be judged: most of these are laws, which return nothing. One without a clause promises nothing.",
             "`met` counts the bodies that the contract allows. They mean the same as the real one (`either_holds_call` of `hoist_parts` with its arguments swapped);"
             " report out of memory, which may happen at any time (`put_all`, `CleanSink` and `CleanShelf` of `cap_io`);"
-            " or return needs that are always met, which costs time alone (`Needs::of` and `ReadyTree::needs` of `ready_tree`).",
+            " return needs that are always met, which costs time alone (`Needs::of` and `ReadyTree::needs` of `ready_tree`);"
+            " or are in `report_text`: a text may end early if memory runs out, and what `escaped` and `quoted` append is only tested (docs/PROOFS.md).",
             "`others` counts those that weren't judged: they don't compile, take too long, or miss only a callee's `requires`.",
             "",
         ]
