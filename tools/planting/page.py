@@ -29,20 +29,25 @@ def table():
         lines += [
             "## Wrong bodies by `rt plant`",
             "",
-            "A function counts as untested if no body that gives up could be judged: most of these are laws, which return nothing. One without a clause promises nothing.",
-            "`met` counts the bodies that the contract allows. They mean the same as the real one (`either_holds_call` of `hoist_parts` with its arguments swapped);"
+            "A function counts as untested if no body that gives up could be judged: most of these are laws, which return nothing."
+            " One without a clause promises nothing.",
+            "`met` counts the bodies that the contract allows."
+            " They mean the same as the real one (`either_holds_call` of `hoist_parts` with its arguments swapped);"
             " report out of memory, which may happen at any time (`put_all`, `CleanSink` and `CleanShelf` of `cap_io`);"
             " return needs that are always met, which costs time alone (`Needs::of` and `ReadyTree::needs` of `ready_tree`);"
             " or are in `report_text`: a text may end early if memory runs out, and what `escaped` and `quoted` append is only tested (docs/PROOFS.md).",
             "`others` counts those that weren't judged: they don't compile, take too long, or miss only a callee's `requires`.",
             "",
         ]
-        lines += [*pages.table("Crate", "functions", "untested", "without a clause", "wrong bodies", "refused", "met", "others"), *[plants_row(it) for it in planted], ""]
+        heads = "Crate", "functions", "untested", "without a clause", "wrong bodies", "refused", "met", "others"
+        lines += [*pages.table(*heads), *map(plants_row, planted), ""]
     return "\n".join(lines)
 
 
 def plants_row(result):
     """The row of a crate, of the last line of `rt plant`: words of the form KIND=COUNT."""
     count = {kind: int(number) for kind, number in re.findall(r"([a-z-]+)=(\d+)", result.line)}
-    met, others = count["proves"] + count["same"], sum(count[it] for it in ("elsewhere", "not-judged", "not-source", "not-run"))
-    return pages.row(f"`{result.crate}`", *map(str, (count["planted-in"], count["untested"], count["no-ensures"], count["refused"] + met + others, count["refused"], met, others)))
+    refused, met = count["refused"], count["proves"] + count["same"]
+    others = sum(count[it] for it in ("elsewhere", "not-judged", "not-source", "not-run"))
+    numbers = count["planted-in"], count["untested"], count["no-ensures"], refused + met + others, refused, met, others
+    return pages.row(f"`{result.crate}`", *map(str, numbers))
